@@ -1,0 +1,49 @@
+-- The card's calls: a new card, and a frame with lent room for the answer.
+use Prim.Native.Nat.{ℕ}
+use mathlib.Core.Bool.{Bool, false, cond, _||_}
+use mathlib.Core.List.{List, [], _∷_}
+use lib.ListN.{length}
+use lib.Dec.{ltb}
+use Rattle.rows.specs.Rows.{overlay}
+use Rattle.uid.specs.Calls.{newUid, sized}
+use Rattle.card.specs.Card.{takes, answers}
+use Rattle.refusal.specs.declared.Refusal.the-variants.{Room, Argument}
+use Rattle.uid.specs.declared.NewUid.{NewUid}
+use Rattle.uid.specs.declared.UidSize.the-variants.{Single}
+use Rattle.uid.specs.declared.Made.{Made}
+use Rattle.uid.specs.declared.Made.the-variants.{Good, NotMade}
+use Rattle.card.specs.declared.Card.{Card}
+use Rattle.card.specs.declared.CardState.the-variants.{Off}
+use Rattle.card.specs.declared.NewCard.{NewCard}
+use Rattle.card.specs.declared.CardAnswer.{CardAnswer}
+use Rattle.card.specs.declared.CardAnswer.the-variants.{Sends, Silent, NotTaken}
+use Rattle.card.specs.declared.Taken.{Taken}
+
+abbrev pub refusedCard : NewCard
+refusedCard = record { card = record { uid = sized Single []; blocks = false; index = 0; state = Off }; made = NotMade Argument }
+
+abbrev pub cardOf : NewUid → Made → Bool → ℕ → NewCard
+cardOf u Good blocks index = record { card = record { uid = u .uid; blocks = blocks; index = index; state = Off }; made = Good }
+cardOf u (NotMade e) blocks index = refusedCard
+
+-- 6: "invalid .. UID, .. index over 8"
+unfoldable pub newCard : List ℕ → Bool → ℕ → NewCard
+newCard l blocks index = cond (ltb 8 index) refusedCard (cardOf (newUid l) (newUid l .made) blocks index)
+
+-- the longest answer is a whole level, 45 bits
+abbrev pub answerRoom : ℕ
+answerRoom = 45
+
+abbrev pub answerOf : List ℕ → CardAnswer
+answerOf [] = Silent
+answerOf (x ∷ r) = Sends (length (x ∷ r))
+
+-- a frame f, with a lent row of so many bits: 1 changes nothing
+unfoldable pub takeCall : Card → List ℕ → ℕ → Taken
+takeCall c f room =
+    cond (ltb room answerRoom) (record { card = c; answer = NotTaken Room })
+    (record { card = takes c f; answer = answerOf (answers c f) })
+
+-- the lent row afterwards
+unfoldable pub takeRow : Card → List ℕ → List ℕ → List ℕ
+takeRow c f out = cond (ltb (length out) answerRoom) out (overlay out 0 (answers c f))

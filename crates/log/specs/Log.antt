@@ -1,0 +1,63 @@
+-- Document 01, "The log (house format, fields most significant bit first)": the bytes of its records, and of the found list.
+use Prim.Native.Nat.{ℕ, zero, suc, _+_, _*_, _/_, _%_, _^_}
+use mathlib.Core.Bool.{cond}
+use mathlib.Core.List.{List, [], _∷_, _++_, map}
+use lib.ListN.{length, take, drop}
+use lib.Dec.{ltb}
+use Rattle.rows.specs.Rows.{clean, fill}
+
+-- the number of a row of at most n bits, the first in the top bit
+unfoldable pub fromTop : ℕ → List ℕ → ℕ
+fromTop zero r = 0
+fromTop (suc n) [] = 0
+fromTop (suc n) (x ∷ r) = x * 2 ^ n + fromTop n r
+
+-- n bytes of a row, "first in the top bit, zero-filled to a byte"
+unfoldable pub packed : ℕ → List ℕ → List ℕ
+packed zero r = []
+packed (suc n) r = fromTop 8 (take 8 r) ∷ packed n (drop 8 r)
+
+-- a whole row, at a new byte
+abbrev pub pack : List ℕ → List ℕ
+pack r = packed ((length r + 7) / 8) r
+
+-- a record's first two bytes: "2 bits kind .., 1 zero bit, 13 bits giving the number of air bits"
+unfoldable pub header : ℕ → ℕ → List ℕ
+header kind n = (64 * kind + n / 256) ∷ n % 256 ∷ []
+
+-- a row with "0 at collided bits"; and "an equally long row with 1 at them"
+unfoldable pub plain : List ℕ → List ℕ
+plain r = map (λ x. cond (ltb 1 x) 0 x) r
+
+unfoldable pub marks : List ℕ → List ℕ
+marks r = map (λ x. cond (ltb 1 x) 1 0) r
+
+-- kind 0: a reader frame
+unfoldable pub sentRecord : List ℕ → List ℕ
+sentRecord f = header 0 (length f) ++ pack f
+
+-- kinds 1, 2, 3: a clean answer, an answer with a collision, silence
+unfoldable pub heardRecord : List ℕ → List ℕ
+heardRecord [] = header 3 0
+heardRecord (x ∷ h) =
+    cond (clean (x ∷ h)) (header 1 (length (x ∷ h)) ++ pack (x ∷ h))
+    (header 2 (length (x ∷ h)) ++ (pack (plain (x ∷ h)) ++ pack (marks (x ∷ h))))
+
+-- a reader frame and what was heard after it
+abbrev pub Exchange : Type 0
+Exchange = List ℕ × List ℕ
+
+unfoldable pub exchangeBytes : Exchange → List ℕ
+exchangeBytes e = sentRecord (e .0) ++ heardRecord (e .1)
+
+unfoldable pub logBytes : List Exchange → List ℕ
+logBytes [] = []
+logBytes (e ∷ l) = exchangeBytes e ++ logBytes l
+
+-- "The found list has 11 bytes a UID: length, bytes, zero fill"
+unfoldable pub entryBytes : List ℕ → List ℕ
+entryBytes u = length u ∷ fill 10 u
+
+unfoldable pub listBytes : List (List ℕ) → List ℕ
+listBytes [] = []
+listBytes (u ∷ l) = entryBytes u ++ listBytes l

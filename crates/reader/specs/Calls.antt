@@ -1,0 +1,54 @@
+-- The reader's calls with lent room for its next frame: 11 is tested first, then 1, and both leave all unchanged.
+use Prim.Native.Nat.{ℕ}
+use mathlib.Core.Bool.{Bool, true, false, cond, not}
+use mathlib.Core.List.{List, []}
+use lib.ListN.{length}
+use lib.Dec.{ltb}
+use Rattle.rows.specs.Rows.{overlay}
+use Rattle.refusal.specs.declared.Refusal.the-variants.{Room, NotDue}
+use Rattle.reader.specs.declared.Phase.{Phase}
+use Rattle.reader.specs.declared.Phase.the-variants.{New, ReqaSent, AnticollisionSent, SelectSent, HltaSent, Selected, Finished, Stopped}
+use Rattle.reader.specs.declared.Reader.{Reader}
+use Rattle.reader.specs.declared.Answer.{Answer}
+use Rattle.reader.specs.declared.Answer.the-variants.{Sends, Finds, Selects, Finishes, Declines}
+use Rattle.reader.specs.declared.Turn.{Turn}
+use Rattle.reader.specs.Reader.{frame, turn, hear, begin, isNew}
+
+-- the longest frame of a selection is SELECT, 81 bits
+abbrev pub frameRoom : ℕ
+frameRoom = 81
+
+-- a row is awaited
+abbrev pub awaits : Phase → Bool
+awaits New = false
+awaits ReqaSent = true
+awaits (AnticollisionSent l) = true
+awaits (SelectSent l) = true
+awaits HltaSent = true
+awaits Selected = false
+awaits Finished = false
+awaits Stopped = false
+
+-- the call by the rules' turn t, which is due or not
+unfoldable pub call : Bool → Reader → Turn → ℕ → Turn
+call due r t room =
+    cond (not due) (turn r (Declines NotDue))
+    (cond (ltb room frameRoom) (turn r (Declines Room)) t)
+
+unfoldable pub hearCall : Reader → List ℕ → ℕ → Turn
+hearCall r h room = call (awaits (r .phase)) r (hear r h) room
+
+unfoldable pub beginCall : Bool → Reader → ℕ → Turn
+beginCall s r room = call (isNew (r .phase)) r (begin s r) room
+
+-- what a turn sends
+abbrev pub sentBy : Answer → Reader → List ℕ
+sentBy (Sends n) r = frame r
+sentBy (Finds n) r = frame r
+sentBy Selects r = []
+sentBy Finishes r = []
+sentBy (Declines e) r = []
+
+-- the lent row afterwards
+unfoldable pub rowAfter : Turn → List ℕ → List ℕ
+rowAfter t out = overlay out 0 (sentBy (t .answer) (t .reader))

@@ -1,0 +1,158 @@
+-- Document 01, "The reader and the sweep" and "When the core declines": what a reader does with a row. What the row says is the matter of
+-- crate selection (specs/Heard.antt).
+use Prim.Native.Nat.{ℕ, _+_, _-_, _*_, _/_, _%_}
+use mathlib.Core.Bool.{Bool, true, false, cond, not, _&&_}
+use mathlib.Core.List.{List, [], _∷_, _++_}
+use lib.ListN.{length, take, drop, replicate}
+use lib.Dec.{eqb}
+use Rattle.rows.specs.Rows.{isNil, fill}
+use Rattle.uid.specs.Uid.{place}
+use Rattle.selection.specs.Selection.{reqa, hlta, anticollision, select}
+use Rattle.selection.specs.Heard.{readAtqa, readRest, readSak}
+use Rattle.selection.specs.declared.AtqaRead.{AtqaRead}
+use Rattle.selection.specs.declared.AtqaRead.the-variants.{Atqa, NotAtqa}
+use Rattle.selection.specs.declared.RestSays.{RestSays}
+use Rattle.selection.specs.declared.RestSays.the-variants.{Whole, Collided, NotRest}
+use Rattle.selection.specs.declared.Rest.{Rest}
+use Rattle.selection.specs.declared.SakRead.{SakRead}
+use Rattle.selection.specs.declared.SakRead.the-variants.{Sak, NotSak}
+use Rattle.uid.specs.declared.Level.{Level}
+use Rattle.uid.specs.declared.Level.the-variants.{One, Two, Three}
+use Rattle.uid.specs.declared.Uid.{Uid}
+use Rattle.uid.specs.declared.UidSize.{UidSize}
+use Rattle.uid.specs.declared.UidSize.the-variants.{Single, Double, Triple}
+use Rattle.refusal.specs.declared.Refusal.{Refusal}
+use Rattle.refusal.specs.declared.Refusal.the-variants.{Forbidden, NotDue}
+use Rattle.reader.specs.declared.Phase.{Phase}
+use Rattle.reader.specs.declared.Phase.the-variants.{New, ReqaSent, AnticollisionSent, SelectSent, HltaSent, Selected, Finished, Stopped}
+use Rattle.reader.specs.declared.Reader.{Reader}
+use Rattle.reader.specs.declared.Answer.{Answer}
+use Rattle.reader.specs.declared.Answer.the-variants.{Sends, Finds, Selects, Finishes, Declines}
+use Rattle.reader.specs.declared.Turn.{Turn}
+
+-- ---- readers, phase by phase: what a phase does not need is zero
+
+abbrev pub uid : UidSize → List ℕ → Uid
+uid z l = record { size = z; bytes = fill 10 l }
+
+abbrev pub reader : Phase → Bool → List ℕ → ℕ → Uid → ℕ → Reader
+reader p s five k u b = record { phase = p; sweeps = s; five = five; known = k; uid = u; sak = b }
+
+abbrev pub blank : Phase → Bool → Reader
+blank p s = reader p s (replicate 5 0) 0 (uid Single []) 0
+
+-- the frame that a reader has sent
+abbrev pub frameIn : Phase → Reader → List ℕ
+frameIn New r = []
+frameIn ReqaSent r = reqa
+frameIn (AnticollisionSent l) r = anticollision l (r .known) (r .five)
+frameIn (SelectSent l) r = select l (r .five)
+frameIn HltaSent r = hlta
+frameIn Selected r = []
+frameIn Finished r = []
+frameIn Stopped r = []
+
+unfoldable pub frame : Reader → List ℕ
+frame r = frameIn (r .phase) r
+
+-- ---- what a reader answers
+
+abbrev pub turn : Reader → Answer → Turn
+turn r a = record { reader = r; answer = a }
+
+-- its next frame goes out
+unfoldable pub sends : Reader → Turn
+sends r = turn r (Sends (length (frame r)))
+
+-- .. and its UID is complete
+unfoldable pub finds : Reader → Turn
+finds r = turn r (Finds (length (frame r)))
+
+-- declined: "reader stopped"
+abbrev pub stop : Refusal → Turn
+stop e = turn (blank Stopped false) (Declines e)
+
+-- ---- a row h is heard
+
+-- "then per level ANTICOLLISION with k = 0", the UID's bytes so far being u
+unfoldable pub opens : Level → Bool → Uid → Turn
+opens l s u = sends (reader (AnticollisionSent l) s (replicate 5 0) 0 u 0)
+
+-- after REQA: "silence there ends the sweep, and outside a sweep is 7"
+abbrev pub afterAtqa : Bool → AtqaRead → Turn
+afterAtqa s Atqa = opens One s (uid Single [])
+afterAtqa s (NotAtqa e) = stop e
+
+unfoldable pub hearAtqa : Reader → List ℕ → Turn
+hearAtqa r h = cond (isNil h && r .sweeps) (turn (blank Finished false) Finishes) (afterAtqa (r .sweeps) (readAtqa h))
+
+-- "at the first collided position p of the level .. the next frame sends the bits before p and then a 1; with none left, SELECT"
+abbrev pub afterRest : Level → Reader → Rest → RestSays → Turn
+afterRest l r x Whole = sends (reader (SelectSent l) (r .sweeps) (x .five) (x .known) (r .uid) 0)
+afterRest l r x Collided = sends (reader (AnticollisionSent l) (r .sweeps) (x .five) (x .known) (r .uid) 0)
+afterRest l r x (NotRest e) = stop e
+
+unfoldable pub hearRest : Level → Reader → List ℕ → Turn
+hearRest l r h = let x : Rest = readRest (r .known) (r .five) h in afterRest l r x (x .says)
+
+-- the UID's bytes with those of level l added, of which the first n are dropped
+unfoldable pub longer : Level → Reader → ℕ → List ℕ
+longer l r n = take (3 * place l) (r .uid .bytes) ++ drop n (take 4 (r .five))
+
+-- the UID u is complete, b its last SAK: "In a sweep the reader then sends HLTA"
+unfoldable pub completes : Bool → Uid → ℕ → Turn
+completes true u b = finds (reader HltaSent true (replicate 5 0) 0 u b)
+completes false u b = turn (reader Selected false (replicate 5 0) 0 u b) Selects
+
+-- "SAK bit b3 set: next level, the level's first byte dropped from the UID. Clear: the UID is complete"; "b3 set at level 3": 9
+abbrev pub afterSak : Level → Reader → ℕ → Bool → Turn
+afterSak One r b true = opens Two (r .sweeps) (uid Single (longer One r 1))
+afterSak Two r b true = opens Three (r .sweeps) (uid Single (longer Two r 1))
+afterSak Three r b true = stop Forbidden
+afterSak One r b false = completes (r .sweeps) (uid Single (longer One r 0)) b
+afterSak Two r b false = completes (r .sweeps) (uid Double (longer Two r 0)) b
+afterSak Three r b false = completes (r .sweeps) (uid Triple (longer Three r 0)) b
+
+-- b3 of a SAK
+abbrev pub b3 : ℕ → Bool
+b3 b = eqb (b / 4 % 2) 1
+
+abbrev pub sakHeard : Level → Reader → SakRead → Turn
+sakHeard l r (Sak b) = afterSak l r b (b3 b)
+sakHeard l r (NotSak e) = stop e
+
+unfoldable pub hearSak : Level → Reader → List ℕ → Turn
+hearSak l r h = sakHeard l r (readSak h)
+
+-- after HLTA: "takes silence (anything else is 9, ahead of other tests), and starts again with REQA"
+unfoldable pub hearSilence : List ℕ → Turn
+hearSilence h = cond (isNil h) (sends (blank ReqaSent true)) (stop Forbidden)
+
+-- what a reader does with a row, by the frame that it sent last; where none is awaited nothing changes
+abbrev pub hearIn : Phase → Reader → List ℕ → Turn
+hearIn New r h = turn r (Declines NotDue)
+hearIn ReqaSent r h = hearAtqa r h
+hearIn (AnticollisionSent l) r h = hearRest l r h
+hearIn (SelectSent l) r h = hearSak l r h
+hearIn HltaSent r h = hearSilence h
+hearIn Selected r h = turn r (Declines NotDue)
+hearIn Finished r h = turn r (Declines NotDue)
+hearIn Stopped r h = turn r (Declines NotDue)
+
+unfoldable pub hear : Reader → List ℕ → Turn
+hear r h = hearIn (r .phase) r h
+
+-- ---- the host's calls: a selection, or the reader's part of a sweep, is due on a new reader
+
+abbrev pub isNew : Phase → Bool
+isNew New = true
+isNew ReqaSent = false
+isNew (AnticollisionSent l) = false
+isNew (SelectSent l) = false
+isNew HltaSent = false
+isNew Selected = false
+isNew Finished = false
+isNew Stopped = false
+
+unfoldable pub begin : Bool → Reader → Turn
+begin s r = cond (isNew (r .phase)) (sends (blank ReqaSent s)) (turn r (Declines NotDue))

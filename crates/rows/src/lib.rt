@@ -1,0 +1,3 @@
+pub fn nothing(x: u8) -> u8 {
+    x
+}
