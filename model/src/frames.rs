@@ -209,18 +209,10 @@ pub fn pack(row: &[u8]) -> Vec<u8> {
 }
 
 #[cfg(test)]
-pub mod tests {
+mod tests {
     use super::*;
+    use crate::known::packed;
     use crate::language::hex;
-
-    /// A row written as in the fact sheet: `29:C9 A6 00 48` is 29 bits, packed as in the log.
-    pub fn packed(text: &str) -> Row {
-        let (count, bytes) = text.split_once(':').unwrap();
-        let bytes = hex(&bytes.replace(' ', ""));
-        let count: usize = count.parse().unwrap();
-        assert_eq!(bytes.len(), (count + 7) / 8, "{text}");
-        (0..count).map(|i| (bytes[i / 8] >> (7 - i % 8)) & 1).collect()
-    }
 
     #[test]
     fn short_frames() {

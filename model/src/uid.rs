@@ -103,20 +103,12 @@ pub fn sweepable(uids: &[Vec<u8>]) -> bool {
 #[cfg(test)]
 mod tests {
     use super::*;
+    use crate::known::CHECKS;
     use crate::language::hex;
 
     #[test]
     fn check_bytes() {
-        for (bytes, b) in [
-            ("80122821", 0x9B),
-            ("88801228", 0x32),
-            ("21441020", 0x55),
-            ("88563412", 0xF8),
-            ("21440010", 0x75),
-            ("01020304", 0x04),
-            ("88041122", 0xBF),
-            ("33445566", 0x44),
-        ] {
+        for &(bytes, b) in CHECKS {
             assert_eq!(check_byte(&hex(bytes)), b);
         }
     }

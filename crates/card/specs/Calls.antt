@@ -6,7 +6,7 @@ use lib.ListN.{length}
 use lib.Dec.{ltb}
 use Rattle.rows.specs.Rows.{overlay}
 use Rattle.uid.specs.Calls.{newUid, sized}
-use Rattle.card.specs.Card.{takes, answers}
+use Rattle.card.specs.Card.{Step, withState, rules, answers}
 use Rattle.refusal.specs.declared.Refusal.the-variants.{Room, Argument}
 use Rattle.uid.specs.declared.NewUid.{NewUid}
 use Rattle.uid.specs.declared.UidSize.the-variants.{Single}
@@ -38,11 +38,15 @@ abbrev pub answerOf : List ℕ → CardAnswer
 answerOf [] = Silent
 answerOf (x ∷ r) = Sends (length (x ∷ r))
 
+-- the card after a step of the rules, and its answer
+abbrev pub taken : Card → Step → Taken
+taken c s = record { card = withState c (s .0); answer = answerOf (s .1) }
+
 -- a frame f, with a lent row of so many bits: 1 changes nothing
 unfoldable pub takeCall : Card → List ℕ → ℕ → Taken
 takeCall c f room =
     cond (ltb room answerRoom) (record { card = c; answer = NotTaken Room })
-    (record { card = takes c f; answer = answerOf (answers c f) })
+    (taken c (rules c (c .state) f))
 
 -- the lent row afterwards
 unfoldable pub takeRow : Card → List ℕ → List ℕ → List ℕ

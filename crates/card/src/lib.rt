@@ -1,8 +1,15 @@
 // Document 01, "The card": one card's states, by value. Blocks come on top of it (crate card_link).
+pub mod within;
+
+ghost use mathlib.Core.Path.{_≡_};
+ghost use lib.ListN.{length};
+ghost use Rattle.card.specs.Card.{powered, powerOn, powerOff};
+ghost use Rattle.card.specs.Calls.{refusedCard, newCard, takeCall, takeRow};
 use refusal::Refusal;
 use uid::Level;
-use uid::Uid;
 use uid::Made;
+use uid::Uid;
+use uid::UidSize;
 
 // Protocol holds the reader's size index, from RATS.
 pub enum CardState {
@@ -39,4 +46,89 @@ pub enum CardAnswer {
 pub struct Taken {
     pub card: Card,
     pub answer: CardAnswer,
+}
+
+fn refused_card() -> NewCard
+    ensures { λ r. ⌜ r ≡ refusedCard ⌝ }
+{
+    let u = Uid {
+        size: UidSize::Single,
+        bytes: [0u8; 10],
+    };
+    let c = Card {
+        uid: u,
+        blocks: false,
+        index: 0,
+        state: CardState::Off,
+    };
+    NewCard {
+        card: c,
+        made: Made::NotMade(Refusal::Argument),
+    }
+}
+
+// A card without power. 6: the UID is not valid, or the size index is over 8.
+pub fn new_card(bytes: &[u8], blocks: bool, index: u8) -> NewCard
+    ensures { λ r. ⌜ r ≡ newCard (now (bytes .entry)) blocks index ⌝ }
+{
+    if index > 8 {
+        return refused_card();
+    }
+    let n = uid::new_uid(bytes);
+    let made = n.made;
+    let u = n.uid;
+    match made {
+        Made::Good => NewCard {
+            card: Card {
+                uid: u,
+                blocks: blocks,
+                index: index,
+                state: CardState::Off,
+            },
+            made: Made::Good,
+        },
+        Made::NotMade(_) => refused_card(),
+    }
+}
+
+fn powered(s: CardState) -> CardState
+    ensures { λ r. ⌜ r ≡ powered s ⌝ }
+{
+    match s {
+        CardState::Off => CardState::Idle,
+        CardState::Idle => CardState::Idle,
+        CardState::Ready(l) => CardState::Ready(l),
+        CardState::Active => CardState::Active,
+        CardState::Halt => CardState::Halt,
+        CardState::Protocol(i) => CardState::Protocol(i),
+    }
+}
+
+// Power comes: a card that was Off is Idle.
+pub fn power_on(c: Card) -> Card
+    ensures { λ r. ⌜ r ≡ powerOn c ⌝ }
+{
+    let s = c.state;
+    within::with_state(c, powered(s))
+}
+
+// Power is lost: Off from anywhere.
+pub fn power_off(c: Card) -> Card
+    ensures { λ r. ⌜ r ≡ powerOff c ⌝ }
+{
+    within::with_state(c, CardState::Off)
+}
+
+// The card takes a frame, any row of any length. Its answer stands at the front of the lent row, which has room for 45 bits.
+pub fn take(c: Card, row: &[u8], out: &mut [u8]) -> Taken
+    ensures { λ r. ⌜ r ≡ takeCall c (now (row .entry)) (length (now (out .entry))) ⌝ }
+    ensures { λ r. ⌜ now (out .exit) ≡ takeRow c (now (row .entry)) (now (out .entry)) ⌝ }
+{
+    if out.len() < 45 {
+        return Taken {
+            card: c,
+            answer: CardAnswer::NotTaken(Refusal::Room),
+        };
+    }
+    within::take_rules(c, row, out)
 }

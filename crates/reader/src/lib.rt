@@ -1,4 +1,13 @@
 // Document 01, "The reader and the sweep": one reader's selection, alone and in a sweep, by value.
+pub mod within;
+
+ghost use mathlib.Core.Path.{_≡_};
+ghost use mathlib.Core.Bool.{true, false};
+ghost use lib.ListN.{length};
+ghost use Rattle.reader.specs.declared.Phase.the-variants.{New};
+ghost use Rattle.reader.specs.declared.Answer.the-variants.{Declines};
+ghost use Rattle.reader.specs.Reader.{blank, isNew, turn};
+ghost use Rattle.reader.specs.Calls.{awaits, hearCall, beginCall, rowAfter};
 use refusal::Refusal;
 use uid::Level;
 use uid::Uid;
@@ -39,4 +48,100 @@ pub enum Answer {
 pub struct Turn {
     pub reader: Reader,
     pub answer: Answer,
+}
+
+// A reader that has sent nothing yet. Each selection and each sweep takes a new one.
+pub fn new_reader() -> Reader
+    ensures { λ r. ⌜ r ≡ blank New false ⌝ }
+{
+    within::blank(Phase::New, false)
+}
+
+fn is_new(p: Phase) -> bool
+    ensures { λ r. ⌜ r ≡ isNew p ⌝ }
+{
+    match p {
+        Phase::New => true,
+        Phase::ReqaSent => false,
+        Phase::AnticollisionSent(_) => false,
+        Phase::SelectSent(_) => false,
+        Phase::HltaSent => false,
+        Phase::Selected => false,
+        Phase::Finished => false,
+        Phase::Stopped => false,
+    }
+}
+
+fn is_awaiting(p: Phase) -> bool
+    ensures { λ r. ⌜ r ≡ awaits p ⌝ }
+{
+    match p {
+        Phase::New => false,
+        Phase::ReqaSent => true,
+        Phase::AnticollisionSent(_) => true,
+        Phase::SelectSent(_) => true,
+        Phase::HltaSent => true,
+        Phase::Selected => false,
+        Phase::Finished => false,
+        Phase::Stopped => false,
+    }
+}
+
+fn declines(r: Reader, e: Refusal) -> Turn
+    ensures { λ t. ⌜ t ≡ turn r (Declines e) ⌝ }
+{
+    Turn {
+        reader: r,
+        answer: Answer::Declines(e),
+    }
+}
+
+// The host calls for a selection, or for the reader's part of a sweep: REQA goes out.
+fn begin(sweeps: bool, r: Reader, out: &mut [u8]) -> Turn
+    ensures { λ t. ⌜ t ≡ beginCall sweeps r (length (now (out .entry))) ⌝ }
+    ensures { λ t. ⌜ now (out .exit) ≡ rowAfter t (now (out .entry)) ⌝ }
+{
+    let p = r.phase;
+    if !is_new(p) {
+        return declines(r, Refusal::NotDue);
+    }
+    if out.len() < 81 {
+        return declines(r, Refusal::Room);
+    }
+    let t = within::sends(within::blank(Phase::ReqaSent, sweeps));
+    within::put_sent(t, out);
+    t
+}
+
+// The host wants one card: its UID and last SAK. The lent row has room for 81 bits.
+pub fn select(r: Reader, out: &mut [u8]) -> Turn
+    ensures { λ t. ⌜ t ≡ beginCall false r (length (now (out .entry))) ⌝ }
+    ensures { λ t. ⌜ now (out .exit) ≡ rowAfter t (now (out .entry)) ⌝ }
+{
+    begin(false, r, out)
+}
+
+// The host wants every idle card, one after the other.
+pub fn start_sweep(r: Reader, out: &mut [u8]) -> Turn
+    ensures { λ t. ⌜ t ≡ beginCall true r (length (now (out .entry))) ⌝ }
+    ensures { λ t. ⌜ now (out .exit) ≡ rowAfter t (now (out .entry)) ⌝ }
+{
+    begin(true, r, out)
+}
+
+// The reader hears a row, an empty one for silence. Its next frame, if there is one, stands at the front of the lent row.
+pub fn hear(r: Reader, row: &[u8], out: &mut [u8]) -> Turn
+    ensures { λ t. ⌜ t ≡ hearCall r (now (row .entry)) (length (now (out .entry))) ⌝ }
+    ensures { λ t. ⌜ now (out .exit) ≡ rowAfter t (now (out .entry)) ⌝ }
+{
+    let p = r.phase;
+    if !is_awaiting(p) {
+        return declines(r, Refusal::NotDue);
+    }
+    if out.len() < 81 {
+        return declines(r, Refusal::Room);
+    }
+    let t = within::hear_rules(r, row);
+    within::put_sent(t, out);
+    t
 }

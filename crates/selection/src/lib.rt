@@ -1,5 +1,8 @@
 // Document 01, "Frames on the air", and RATS and ATS of "RATS, ATS and blocks": the frames of a selection, written, and read where the
 // reader reads them.
+pub mod heard;
+pub mod sent;
+
 use refusal::Refusal;
 
 // What an ATQA says.

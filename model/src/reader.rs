@@ -1,0 +1,403 @@
+//! Document 01, "The reader and the sweep": one reader's selection, alone and in a sweep, and RATS.
+
+use crate::coverage::note;
+use crate::frames::{self, Row, REQA};
+use crate::reader_link::{read_ats, Link};
+use crate::refusal::{self, Refusal};
+use crate::uid::check_byte;
+
+#[derive(Clone, Debug, PartialEq)]
+pub enum Phase {
+    New,
+    ReqaSent,
+    /// ANTICOLLISION is out at this level with these bits known.
+    AnticollisionSent { level: usize, known: Row },
+    /// SELECT of these five bytes is out.
+    SelectSent { level: usize, bytes: [u8; 5] },
+    /// In a sweep only.
+    HltaSent,
+    /// Outside a sweep: the UID is complete.
+    Selected { sak: u8 },
+    /// RATS is out, with the reader's own size.
+    RatsSent { own_size: usize },
+    /// After ATS: between messages, a block or DESELECT is out.
+    Linked(Link),
+    Finished,
+    Stopped,
+}
+
+#[derive(Clone, Debug, PartialEq)]
+pub struct Reader {
+    pub phase: Phase,
+    sweeping: bool,
+    /// The UID so far, of the levels that were selected.
+    uid: Vec<u8>,
+}
+
+/// What a call to the reader gives.
+#[derive(Clone, Debug, PartialEq)]
+pub enum Answer {
+    Send(Row),
+    Selected { uid: Vec<u8>, sak: u8 },
+    /// In a sweep: the UID is complete, and HLTA goes out.
+    Found { uid: Vec<u8>, sak: u8, frame: Row },
+    Finished,
+    /// A good ATS: the card's frame size.
+    Open(usize),
+    Answered(Vec<u8>),
+    Refused(Refusal),
+}
+
+/// "In ATQA and ANTICOLLISION answers parity is checked only on whole bytes with no collided data bit; there a collided
+/// parity bit is wrong." The row given holds whole bytes with parity.
+fn parity_is_wrong(whole: &[u8]) -> bool {
+    whole.chunks(9).any(|nine| !frames::has_collision(&nine[..8]) && nine[8] != frames::parity(frames::byte_of(&nine[..8])))
+}
+
+impl Reader {
+    pub fn new() -> Reader {
+        Reader { phase: Phase::New, sweeping: false, uid: Vec::new() }
+    }
+
+    pub fn phase_name(&self) -> &'static str {
+        match &self.phase {
+            Phase::New => "new",
+            Phase::ReqaSent if self.sweeping => "REQA sent (sweep)",
+            Phase::ReqaSent => "REQA sent",
+            Phase::AnticollisionSent { .. } => "ANTICOLLISION sent",
+            Phase::SelectSent { .. } => "SELECT sent",
+            Phase::HltaSent => "HLTA sent",
+            Phase::Selected { sak } if sak & 0x20 == 0 => "selected, b6 clear",
+            Phase::Selected { .. } => "selected",
+            Phase::RatsSent { .. } => "RATS sent",
+            Phase::Linked(link) => link.stage_name(),
+            Phase::Finished => "finished",
+            Phase::Stopped => "stopped",
+        }
+    }
+
+    /// A refusal with everything unchanged.
+    fn decline(&self, number: Refusal) -> Answer {
+        note("reader refusal", self.phase_name(), &number.to_string());
+        Answer::Refused(number)
+    }
+
+    /// A refusal that stops the reader. A stopped reader has one value, whatever it held.
+    fn stop(&mut self, number: Refusal) -> Answer {
+        let answer = self.decline(number);
+        *self = Reader { phase: Phase::Stopped, sweeping: false, uid: Vec::new() };
+        answer
+    }
+
+    fn finish(&mut self) -> Answer {
+        *self = Reader { phase: Phase::Finished, sweeping: false, uid: Vec::new() };
+        Answer::Finished
+    }
+
+    /// Host call: select one card.
+    pub fn select(&mut self) -> Answer {
+        self.start(false)
+    }
+
+    /// Host call: the reader's part of a sweep.
+    pub fn sweep(&mut self) -> Answer {
+        self.start(true)
+    }
+
+    fn start(&mut self, sweeping: bool) -> Answer {
+        note("reader call", self.phase_name(), if sweeping { "sweep" } else { "select" });
+        if self.phase != Phase::New {
+            return self.decline(refusal::NOT_DUE);
+        }
+        self.sweeping = sweeping;
+        self.send_reqa()
+    }
+
+    fn send_reqa(&mut self) -> Answer {
+        self.uid.clear();
+        self.phase = Phase::ReqaSent;
+        Answer::Send(frames::short(REQA))
+    }
+
+    fn send_anticollision(&mut self, level: usize, known: Row) -> Answer {
+        let frame = frames::anticollision(level, &known);
+        self.phase = Phase::AnticollisionSent { level, known };
+        Answer::Send(frame)
+    }
+
+    /// Host call: RATS with the reader's own size index. Due if b6 of the last SAK is set; 6: index over 8.
+    pub fn rats(&mut self, index: u8) -> Answer {
+        note("reader call", self.phase_name(), "RATS");
+        match self.phase {
+            Phase::Selected { sak } if sak & 0x20 != 0 => {
+                if index > 8 {
+                    return self.decline(refusal::ARGUMENT);
+                }
+                self.phase = Phase::RatsSent { own_size: frames::size_of_index(index) };
+                Answer::Send(frames::rats(index))
+            }
+            _ => self.decline(refusal::NOT_DUE),
+        }
+    }
+
+    /// Host call: send a message.
+    pub fn send(&mut self, message: &[u8]) -> Answer {
+        note("reader call", self.phase_name(), "message");
+        let outcome = match &mut self.phase {
+            Phase::Linked(link) => link.send(message),
+            _ => Err(refusal::NOT_DUE),
+        };
+        outcome.map(Answer::Send).unwrap_or_else(|number| self.decline(number))
+    }
+
+    /// Host call: DESELECT.
+    pub fn deselect(&mut self) -> Answer {
+        note("reader call", self.phase_name(), "DESELECT");
+        let outcome = match &mut self.phase {
+            Phase::Linked(link) => link.deselect(),
+            _ => Err(refusal::NOT_DUE),
+        };
+        outcome.map(Answer::Send).unwrap_or_else(|number| self.decline(number))
+    }
+
+    /// A received row. The message being sent and the buffer for the answer are lent at each call.
+    pub fn hear(&mut self, row: &[u8], message: &[u8], buffer: &mut [u8]) -> Answer {
+        note("reader call", self.phase_name(), "row");
+        match self.phase.clone() {
+            Phase::New | Phase::Selected { .. } | Phase::Finished | Phase::Stopped => self.decline(refusal::NOT_DUE),
+            Phase::ReqaSent => self.hear_atqa(row),
+            Phase::AnticollisionSent { level, known } => self.hear_level(row, level, &known),
+            Phase::SelectSent { level, bytes } => self.hear_sak(row, level, &bytes),
+            // Silence; anything else is 9, ahead of other tests.
+            Phase::HltaSent if row.is_empty() => self.send_reqa(),
+            Phase::HltaSent => self.stop(refusal::FORBIDDEN),
+            Phase::RatsSent { own_size } => match read_ats(row, own_size) {
+                Ok(card_size) => {
+                    self.phase = Phase::Linked(Link::new(own_size, card_size));
+                    Answer::Open(card_size)
+                }
+                Err(number) => self.stop(number),
+            },
+            Phase::Linked(mut link) => {
+                let outcome = link.hear(row, message, buffer);
+                match outcome {
+                    Answer::Refused(number @ (refusal::NOT_DUE | refusal::ROOM)) => self.decline(number),
+                    Answer::Refused(number) => self.stop(number),
+                    Answer::Finished => self.finish(),
+                    _ => {
+                        self.phase = Phase::Linked(link);
+                        outcome
+                    }
+                }
+            }
+        }
+    }
+
+    /// ATQA: silence ends a sweep, and is 7 outside one; 2; 3; collided bits count as 1, and at least one of b1 to b5 of the
+    /// first byte must be 1, else 9.
+    fn hear_atqa(&mut self, row: &[u8]) -> Answer {
+        if row.is_empty() {
+            return if self.sweeping { self.finish() } else { self.stop(refusal::SILENCE) };
+        }
+        if row.len() != 18 {
+            return self.stop(refusal::LENGTH);
+        }
+        if parity_is_wrong(row) {
+            return self.stop(refusal::PARITY);
+        }
+        if row[..5].iter().all(|&bit| bit == 0) {
+            return self.stop(refusal::FORBIDDEN);
+        }
+        self.send_anticollision(1, Row::new())
+    }
+
+    /// The answer to ANTICOLLISION with some bits known: 7, 2, 8, 3, 5.
+    fn hear_level(&mut self, row: &[u8], level: usize, known: &[u8]) -> Answer {
+        if row.is_empty() {
+            return self.stop(refusal::SILENCE);
+        }
+        if row.len() != frames::rest_length(known.len()) {
+            return self.stop(refusal::LENGTH);
+        }
+        // The remainder of a broken byte and its parity bit, which is ignored; then whole bytes. Parity bits are no positions.
+        let remainder = if known.len() % 8 > 0 { 8 - known.len() % 8 } else { 0 };
+        let whole = if remainder > 0 { &row[remainder + 1..] } else { row };
+        let mut data = known.to_vec();
+        data.extend_from_slice(&row[..remainder]);
+        for nine in whole.chunks(9) {
+            data.extend_from_slice(&nine[..8]);
+        }
+        assert_eq!(data.len(), 40);
+        let collided = data.iter().position(|&bit| bit > 1);
+        if collided.map_or(false, |p| p >= 32) {
+            return self.stop(refusal::COLLISION);
+        }
+        if parity_is_wrong(whole) {
+            return self.stop(refusal::PARITY);
+        }
+        if let Some(p) = collided {
+            // The bits before p, and then a 1.
+            let mut next = data[..p].to_vec();
+            next.push(1);
+            return self.send_anticollision(level, next);
+        }
+        let mut bytes = [0; 5];
+        for (i, byte) in bytes.iter_mut().enumerate() {
+            *byte = frames::byte_of(&data[8 * i..8 * i + 8]);
+        }
+        if bytes[4] != check_byte(&bytes[..4]) {
+            return self.stop(refusal::B);
+        }
+        self.phase = Phase::SelectSent { level, bytes };
+        Answer::Send(frames::select(level, &bytes))
+    }
+
+    /// SAK: 7, 2, 8, 3, 4; b3 set at level 3 is 9; b3 set: next level, the level's first byte dropped from the UID; clear:
+    /// the UID is complete.
+    fn hear_sak(&mut self, row: &[u8], level: usize, bytes: &[u8; 5]) -> Answer {
+        if row.is_empty() {
+            return self.stop(refusal::SILENCE);
+        }
+        if row.len() != 27 {
+            return self.stop(refusal::LENGTH);
+        }
+        let sak = match frames::read_standard_with_crc(row, 3) {
+            Ok(heard) => heard[0],
+            Err(number) => return self.stop(number),
+        };
+        if sak & 0x04 != 0 {
+            if level == 3 {
+                return self.stop(refusal::FORBIDDEN);
+            }
+            self.uid.extend_from_slice(&bytes[1..4]);
+            return self.send_anticollision(level + 1, Row::new());
+        }
+        self.uid.extend_from_slice(&bytes[..4]);
+        let uid = std::mem::take(&mut self.uid);
+        if self.sweeping {
+            self.phase = Phase::HltaSent;
+            return Answer::Found { uid, sak, frame: frames::hlta() };
+        }
+        self.phase = Phase::Selected { sak };
+        Answer::Selected { uid, sak }
+    }
+}
+
+#[cfg(test)]
+mod tests {
+    use super::*;
+    use crate::known::packed;
+    use crate::language::hex;
+    use crate::uid;
+
+    fn hear(reader: &mut Reader, row: &[u8]) -> Answer {
+        reader.hear(row, &[], &mut [])
+    }
+
+    fn after_atqa() -> Reader {
+        let mut reader = Reader::new();
+        assert_eq!(reader.select(), Answer::Send(packed("7:64")));
+        assert_eq!(hear(&mut reader, &packed("18:20 00 40")), Answer::Send(packed("18:C9 82 00")));
+        reader
+    }
+
+    /// Trace 1 of source document 004, the rows that our reader could send.
+    #[test]
+    fn first_trace() {
+        let mut reader = after_atqa();
+        let mut row = packed("45:01 24 45 30 9D 90");
+        row[10] = 2; // data position 9: the eighth bit of the row is a parity bit
+        assert_eq!(hear(&mut reader, &row), Answer::Send(packed("29:C9 A6 00 48")));
+        let mut row = packed("34:22 29 84 EC 80");
+        row[10] = 2; // position 19: six bits and parity end the broken byte, then positions 16 to 19
+        assert_eq!(hear(&mut reader, &row), Answer::Send(packed("40:C9 91 40 49 11")));
+        assert_eq!(
+            hear(&mut reader, &packed("23:4C 27 64")),
+            Answer::Send(packed("81:C9 87 00 49 11 4C 27 64 D5 3E 00"))
+        );
+        assert_eq!(
+            hear(&mut reader, &packed("27:00 BF A2 80")),
+            Answer::Selected { uid: hex("80122821"), sak: 0 }
+        );
+        assert_eq!(reader.rats(8), Answer::Refused(11));
+    }
+
+    /// 33 rows that part at every bit of a level need 33 ANTICOLLISION frames.
+    #[test]
+    fn thirty_three_frames() {
+        let mut reader = after_atqa();
+        let mut frames_sent = 1;
+        let bytes = [0xFF, 0xFF, 0xFF, 0xFF, 0x00];
+        for p in 0..32 {
+            let known = frames_sent - 1;
+            assert_eq!(known, p);
+            let mut row = frames::rest_of_level(&bytes, p);
+            row[0] = 2;
+            match hear(&mut reader, &row) {
+                Answer::Send(frame) => {
+                    assert_eq!(frame, frames::anticollision(1, &vec![1; p + 1]));
+                    frames_sent += 1;
+                }
+                other => panic!("{other:?}"),
+            }
+        }
+        assert_eq!(frames_sent, 33);
+        assert_eq!(hear(&mut reader, &frames::rest_of_level(&bytes, 32)), Answer::Send(frames::select(1, &bytes)));
+    }
+
+    #[test]
+    fn atqa() {
+        let ask = |row: &[u8]| {
+            let mut reader = Reader::new();
+            reader.select();
+            hear(&mut reader, row)
+        };
+        let good = Answer::Send(packed("18:C9 82 00"));
+        assert_eq!(ask(&frames::standard(&[0xC4, 0x00])), good);
+        assert_eq!(ask(&[2; 18]), good);
+        assert_eq!(ask(&[]), Answer::Refused(7));
+        assert_eq!(ask(&[0; 17]), Answer::Refused(2));
+        assert_eq!(ask(&frames::standard(&[0xE0, 0xFF])), Answer::Refused(9));
+        let mut row = frames::standard(&[0x04, 0x00]);
+        row[8] = 2;
+        assert_eq!(ask(&row), Answer::Refused(3));
+        row[0] = 2;
+        assert_eq!(ask(&row), good);
+    }
+
+    #[test]
+    fn broken_byte_and_b() {
+        let bytes = uid::levels(&hex("01020304"))[0];
+        let all = frames::rest_of_level(&bytes, 0);
+        let ask = |change: &dyn Fn(&mut Row)| {
+            let mut row = all.clone();
+            change(&mut row);
+            hear(&mut after_atqa(), &row)
+        };
+        assert_eq!(ask(&|_| ()), Answer::Send(frames::select(1, &bytes)));
+        assert_eq!(ask(&|r| r[44] = 2), Answer::Refused(3));
+        assert_eq!(ask(&|r| r[36] = 2), Answer::Refused(8));
+        assert_eq!(
+            ask(&|r| {
+                r[36] = 2;
+                r[7] = 2
+            }),
+            Answer::Send(frames::anticollision(1, &frames::bits_of(&[0x81])))
+        );
+        assert_eq!(
+            ask(&|r| {
+                r[36] ^= 1;
+                r[44] ^= 1
+            }),
+            Answer::Refused(5)
+        );
+        // The parity of the broken byte is ignored, also when it is collided.
+        let mut reader = after_atqa();
+        let mut row = all.clone();
+        row[3] = 2;
+        assert_eq!(hear(&mut reader, &row), Answer::Send(frames::anticollision(1, &[1, 0, 0, 1])));
+        let mut rest = frames::rest_of_level(&[0x09, 2, 3, 4, 0x0C], 4);
+        rest[4] = 2;
+        assert_eq!(hear(&mut reader, &rest), Answer::Send(frames::select(1, &[0x09, 2, 3, 4, 0x0C])));
+    }
+}

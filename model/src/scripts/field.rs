@@ -1,0 +1,290 @@
+//! The scripts of `vectors_sweep` and `bench_sweep`.
+
+use crate::bench_sweep::{BenchSweep, VectorsSweep};
+use crate::language::{show_hex, Script};
+use crate::random::Random;
+use crate::uid;
+
+/// Sixteen ten-byte UIDs whose rows form a comb: all ones but for a single 0 at places that differ, so that each card parts
+/// from each later one at a place of its own. In a random order.
+pub fn comb(random: &mut Random) -> Vec<Vec<u8>> {
+    let mut uids = vec![vec![0xFF; 10]];
+    let mut places: Vec<usize> = (0..80).collect();
+    while uids.len() < 16 {
+        let place = places.remove(random.below(places.len()));
+        let mut uid = vec![0xFF; 10];
+        uid[place / 8] ^= 1 << (place % 8);
+        uids.push(uid);
+    }
+    shuffle(random, &mut uids);
+    uids
+}
+
+fn shuffle<T>(random: &mut Random, list: &mut [T]) {
+    for i in (1..list.len()).rev() {
+        list.swap(i, random.below(i + 1));
+    }
+}
+
+/// Different valid UIDs of mixed sizes, up to sixteen, many with shared prefixes.
+pub fn random_uids(random: &mut Random) -> Vec<Vec<u8>> {
+    let most = random.pick(&[1, 2, 3, 4, 5, 6, 8, 16]);
+    let count = random.below(most + 1);
+    let mut uids: Vec<Vec<u8>> = Vec::new();
+    while uids.len() < count {
+        let uid = if uids.is_empty() || random.chance(35) {
+            random.uid()
+        } else {
+            relative(random, &uids)
+        };
+        if uid::valid(&uid) && !uids.contains(&uid) {
+            uids.push(uid);
+        }
+    }
+    uids
+}
+
+/// A UID that shares bits with one that is there: a bit changed, the end drawn anew, or another length with the same start.
+fn relative(random: &mut Random, uids: &[Vec<u8>]) -> Vec<u8> {
+    let mut uid = random.pick(uids);
+    match random.below(4) {
+        0 | 1 => {
+            let place = random.below(8 * uid.len());
+            uid[place / 8] ^= 1 << (place % 8);
+        }
+        2 => {
+            let from = random.below(uid.len());
+            for byte in &mut uid[from..] {
+                *byte = random.byte();
+            }
+        }
+        _ => {
+            let length = random.pick(&[4, 7, 10]);
+            uid.resize(length, 0);
+            let last = length - 1;
+            uid[last] = random.byte();
+            if length == 4 && random.chance(30) {
+                // One bit away from the tag 88 of the longer ones.
+                uid[0] = uid::TAG ^ (1 << random.below(8));
+            }
+        }
+    }
+    uid
+}
+
+/// Card lines for a random field; now and then one that is refused.
+pub fn random_field(random: &mut Random) -> Vec<String> {
+    let mut lines = Vec::new();
+    for uid in random_uids(random) {
+        let mut line = show_hex(&uid);
+        if random.chance(50) {
+            line.push_str(if random.chance(75) { " idle" } else { " halt" });
+            if random.chance(60) {
+                line.push_str(random.pick(&[" 20", " 00"]));
+                if random.chance(60) {
+                    line.push_str(&format!(" {}", random.below(9)));
+                }
+            }
+        }
+        lines.push(line);
+    }
+    if random.chance(6) && !lines.is_empty() {
+        let again = lines[0].split(' ').next().unwrap().to_string();
+        let bad = random.pick(&[
+            again.clone(),
+            format!("{again} halt"),
+            "88112233".to_string(),
+            "A1A2A388A5A6A7 halt".to_string(),
+            "0102030405".to_string(),
+            "B1B2B3B4 off".to_string(),
+            "B1B2B3B4 idle 20 9".to_string(),
+        ]);
+        let place = random.below(lines.len() + 1);
+        lines.insert(place, bad);
+    }
+    lines
+}
+
+fn field(s: &mut Script<VectorsSweep>, lines: &[String]) -> String {
+    for line in lines {
+        s.say(line);
+    }
+    s.say("sweep")
+}
+
+fn texts(lines: &[&str]) -> Vec<String> {
+    lines.iter().map(|l| l.to_string()).collect()
+}
+
+pub fn script(seed: u64) -> Script<VectorsSweep> {
+    let mut s = Script::new(VectorsSweep::default());
+    let mut random = Random::new(seed);
+    document_fields(&mut s);
+    parting_fields(&mut s);
+    combs(&mut s, &mut random);
+    refused_fields(&mut s);
+    s.remark("random fields");
+    let mut fields = 0;
+    while fields < 260 && s.output.len() < 235_000 {
+        let lines = random_field(&mut random);
+        if lines.len() > 10 && random.chance(70) {
+            continue;
+        }
+        field(&mut s, &lines);
+        fields += 1;
+    }
+    assert!(fields >= 200, "only {fields} random fields fit");
+    s
+}
+
+fn document_fields(s: &mut Script<VectorsSweep>) {
+    s.remark("no cards, and document 01's fields");
+    assert_eq!(s.say("sweep"), "frames 1\nlog 000764C000");
+    let starts = |answer: String, start: &str| assert!(answer.starts_with(start), "{answer}");
+    starts(field(s, &texts(&["80122821", "01020304 idle 00"])), "frames 10\nfound 01020304\nfound 80122821\n");
+    starts(field(s, &texts(&["01020304 idle 00", "80122821"])), "frames 10\n");
+    starts(field(s, &texts(&["80122821", "04112233445566", "01020304"])), "frames 17\n");
+    starts(field(s, &texts(&["04112233445566", "01020304"])), "frames 12\n");
+    starts(field(s, &texts(&["80122821 idle 00 0", "80122821441020 idle 20 5", "56341280122821440010"])), "frames ");
+    s.remark("one card of each size, alone");
+    for uid in ["80122821", "80122821441020", "56341280122821440010"] {
+        field(s, &texts(&[uid]));
+    }
+    s.remark("halted cards");
+    assert_eq!(
+        field(s, &texts(&["01020304 halt 00 3", "04112233445566 halt"])),
+        "frames 1\ncard 01020304 halt 00 3\ncard 04112233445566 halt 20 8\nlog 000764C000"
+    );
+    field(s, &texts(&["01020304 halt", "01020305", "01020306 halt 20 1", "01020307 idle 00 2"]));
+    s.remark("u6 = 88, and other bytes that look like the tag");
+    field(s, &texts(&["01020304050688080910", "01020304050608080910", "01020304050608080911"]));
+    field(s, &texts(&["88888888888888888888", "88888808888888", "88888888888888888880", "08888888"]));
+    field(s, &texts(&["88020304050607", "88020308050607", "88020388050607080910"]));
+    s.remark("a word line, and lines that are not understood, change nothing");
+    for line in [
+        "01020304",
+        "0102030g",
+        "-",
+        "0102030405060708090A0B",
+        "80122821 asleep",
+        "80122821 idle 08",
+        "80122821 idle 20 256",
+        "80122821 idle 20 123456",
+        "80122821 idle 20 8 9",
+        "sweep 1",
+        "swept",
+        "# a remark",
+        "",
+        "80122821  halt  00  08\r",
+        "sweep",
+    ] {
+        s.say(line);
+    }
+}
+
+/// Fields of two and four cards that part at the last bit of each byte of each level.
+fn parting_fields(s: &mut Script<VectorsSweep>) {
+    s.remark("parting at positions 7, 15, 23, 31 of each level");
+    let base4 = [0x31, 0x42, 0x53, 0x64];
+    let base7 = [0x31, 0x42, 0x53, 0x64, 0x75, 0x06, 0x17];
+    let base10 = [0x31, 0x42, 0x53, 0x64, 0x75, 0x06, 0x17, 0x28, 0x39, 0x4A];
+    let pair = |s: &mut Script<VectorsSweep>, base: &[u8], byte: usize| {
+        let mut other = base.to_vec();
+        other[byte] ^= 0x80;
+        field(s, &[show_hex(base), show_hex(&other)]);
+    };
+    for byte in 0..4 {
+        pair(s, &base4, byte);
+    }
+    for byte in 0..7 {
+        pair(s, &base7, byte);
+    }
+    for byte in 0..10 {
+        pair(s, &base10, byte);
+    }
+    s.remark("position 7 of level 1 and of level 2 against the tag 88");
+    field(s, &texts(&["08112233", "11223344556677", "99223344556677889900"]));
+    field(s, &texts(&["11223308556677", "11223344556677889900"]));
+    s.remark("every last bit at once");
+    for base in [&base4[..], &base7[..], &base10[..]] {
+        let mut lines = vec![show_hex(base)];
+        for byte in 0..base.len() {
+            let mut other = base.to_vec();
+            other[byte] ^= 0x80;
+            lines.push(show_hex(&other));
+        }
+        field(s, &lines);
+    }
+    s.remark("parting at every bit of a level, in two fields");
+    for half in 0..2 {
+        let mut lines = vec!["FFFFFFFF".to_string()];
+        for place in 15 * half..15 * half + 15 {
+            let mut other = vec![0xFF; 4];
+            other[place / 8] ^= 1 << (place % 8);
+            lines.push(show_hex(&other));
+        }
+        field(s, &lines);
+    }
+}
+
+fn combs(s: &mut Script<VectorsSweep>, random: &mut Random) {
+    s.remark("combs of sixteen ten-byte UIDs: the most frames");
+    for _ in 0..2 {
+        let lines: Vec<String> = comb(random).iter().map(|u| show_hex(u)).collect();
+        assert!(field(s, &lines).starts_with("frames 249\n"));
+    }
+}
+
+fn refused_fields(s: &mut Script<VectorsSweep>) {
+    s.remark("fields that are refused");
+    let refused: &[&[&str]] = &[
+        &["88020304"],
+        &["01020304", "01020388050607"],
+        &["01"],
+        &["01020304", "0102030405"],
+        &["01020304", "80122821", "01020304"],
+        &["01020304 halt", "01020304 idle"],
+        &["01020304050607", "01020304050607 halt 00 1"],
+        &["01020304050607080910 halt", "01020304050607080910 halt"],
+        &["01020304 idle 20 9"],
+        &["01020304 halt 00 255"],
+        &["01020304", "80122821 off"],
+        &["80122821 off 00 0"],
+        &["88020304 off 00 9"],
+    ];
+    for lines in refused {
+        assert_eq!(field(s, &texts(lines)), "refused 6");
+    }
+    let many = |count: u8| -> Vec<String> { (0..count).map(|i| format!("0102{:02X}04", i * 5)).collect() };
+    assert_eq!(field(s, &many(17)), "refused 6");
+    assert!(field(s, &many(16)).starts_with("frames "));
+    let halted: Vec<String> = many(17).iter().map(|l| format!("{l} halt")).collect();
+    assert_eq!(field(s, &halted), "refused 6");
+    let mut repeated = many(16);
+    repeated.push("0102".to_string());
+    assert_eq!(field(s, &repeated), "refused 6");
+    s.remark("a shorter UID that begins a longer one is no repetition");
+    field(s, &texts(&["01020304", "01020304050607", "01020304050607080910"]));
+    assert_eq!(s.say("sweep"), "frames 1\nlog 000764C000");
+}
+
+/// A locker field of four wristbands that part at the last bit of a byte.
+pub fn locker() -> Script<BenchSweep> {
+    let mut s = Script::new(BenchSweep::default());
+    s.remark("four wristbands at a locker; each pair parts at the last bit of a byte");
+    for line in ["04A1B2C3D45E80 idle 20 8", "04A1B2C3D4DE80 idle 20 8", "0421B2C3D45E80 idle 00 5", "0421B2C3D45E00"] {
+        s.say(line);
+    }
+    s
+}
+
+/// Random fields, each ending in `sweep`, for larger comparisons.
+pub fn random_scripts(count: usize, seed: u64) -> Script<VectorsSweep> {
+    let mut s = Script::new(VectorsSweep::default());
+    let mut random = Random::new(seed);
+    for _ in 0..count {
+        let lines = random_field(&mut random);
+        field(&mut s, &lines);
+    }
+    s
+}

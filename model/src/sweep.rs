@@ -1,0 +1,151 @@
+//! Document 01, "The reader and the sweep": the field, and the sweep over it.
+
+use crate::card::{Card, Outcome, State};
+use crate::frames::{merge, Row};
+use crate::log::{list_entry, record_bytes, Record};
+use crate::reader::{Answer, Phase, Reader};
+use crate::refusal::{self, Refusal};
+use crate::uid;
+
+/// What the sweep asks for.
+pub const LOG_ROOM: usize = 8192;
+pub const LIST_ROOM: usize = 176;
+
+#[derive(Clone, Debug, PartialEq)]
+pub struct Swept {
+    pub found: Vec<Vec<u8>>,
+    pub list: Vec<u8>,
+    pub records: Vec<Record>,
+    pub log: Vec<u8>,
+}
+
+impl Swept {
+    /// The number of reader records.
+    pub fn frames(&self) -> usize {
+        self.records.iter().filter(|r| matches!(r, Record::Reader(_))).count()
+    }
+}
+
+/// Every card of the field takes the frame; the reader hears their merged bits.
+pub fn field_takes(cards: &mut [Card], frame: &Row) -> Row {
+    let mut answers = Vec::new();
+    for card in cards.iter_mut() {
+        if let Outcome::Answer(row) = card.take(frame, &[], &mut []) {
+            answers.push(row);
+        }
+    }
+    merge(&answers)
+}
+
+/// Over 16 cards, an invalid or repeated UID, an index over 8, a card neither Idle nor Halt.
+fn field_is_taken(cards: &[Card]) -> bool {
+    let uids: Vec<Vec<u8>> = cards.iter().map(|c| c.uid.clone()).collect();
+    uid::sweepable(&uids)
+        && cards.iter().all(|c| c.index <= 8)
+        && cards.iter().all(|c| matches!(c.state, State::Idle | State::Halt))
+}
+
+/// The sweep on this reader with this much room. Tests 11, 1, 6.
+pub fn sweep(reader: &mut Reader, cards: &mut [Card], log_room: usize, list_room: usize) -> Result<Swept, Refusal> {
+    if reader.phase != Phase::New {
+        return Err(refusal::NOT_DUE);
+    }
+    if log_room < LOG_ROOM || list_room < LIST_ROOM {
+        return Err(refusal::ROOM);
+    }
+    if !field_is_taken(cards) {
+        return Err(refusal::ARGUMENT);
+    }
+    let idle: Vec<Vec<u8>> = cards.iter().filter(|c| c.state == State::Idle).map(|c| c.uid.clone()).collect();
+    let mut swept = Swept { found: Vec::new(), list: Vec::new(), records: Vec::new(), log: Vec::new() };
+    let mut next = reader.sweep();
+    loop {
+        let frame = match next {
+            Answer::Send(frame) => frame,
+            Answer::Found { uid, frame, .. } => {
+                swept.list.extend_from_slice(&list_entry(&uid));
+                swept.found.push(uid);
+                frame
+            }
+            Answer::Finished => break,
+            other => panic!("a sweep over such a field declines nothing: {other:?}"),
+        };
+        let heard = field_takes(cards, &frame);
+        for record in [Record::Reader(frame), Record::Heard(heard.clone())] {
+            swept.log.extend(record_bytes(&record));
+            swept.records.push(record);
+        }
+        next = reader.hear(&heard, &[], &mut []);
+    }
+    self_check(&swept, &idle, cards);
+    Ok(swept)
+}
+
+/// What document 01 says of a whole sweep, tested each time: the list is the idle cards in falling order, the number of frames
+/// is the sum from the UIDs alone, all cards are halted, and the room holds the log.
+fn self_check(swept: &Swept, idle: &[Vec<u8>], cards: &[Card]) {
+    assert_eq!(swept.found, uid::falling(idle));
+    assert_eq!(swept.frames(), uid::frame_sum(idle));
+    assert!(cards.iter().all(|c| c.state == State::Halt));
+    assert!(swept.log.len() <= LOG_ROOM && swept.list.len() <= LIST_ROOM);
+    assert_eq!(swept.records.len(), 2 * swept.frames());
+}
+
+#[cfg(test)]
+mod tests {
+    use super::*;
+    use crate::language::hex;
+
+    fn field(uids: &[(&str, bool)]) -> Vec<Card> {
+        uids.iter()
+            .map(|(uid, blocks)| {
+                let mut card = Card::new(&hex(uid), *blocks, 8).unwrap();
+                card.power_on();
+                card
+            })
+            .collect()
+    }
+
+    fn run(cards: &mut [Card]) -> Swept {
+        sweep(&mut Reader::new(), cards, LOG_ROOM, LIST_ROOM).unwrap()
+    }
+
+    #[test]
+    fn no_cards() {
+        let swept = run(&mut []);
+        assert_eq!(swept.log, hex("000764C000"));
+        assert_eq!(swept.frames(), 1);
+    }
+
+    #[test]
+    fn two_cards_log() {
+        let swept = run(&mut field(&[("01020304", false), ("80122821", true)]));
+        let log = "000764 4012200040 0012C98200 802D0020002000008104 75149F90 0013C9C260 402C004060480400 \
+                   0051C98720080C090080E3A400 401B00BFA280 00240A807A9660 C000 000764 4012200040 0012C98200 \
+                   402D012445309D90 0051C9870049114C2764D53E00 401B041FC380 00240A807A9660 C000 000764 C000"
+            .replace(' ', "");
+        assert_eq!(swept.log, hex(&log));
+        assert_eq!(swept.frames(), 10);
+        assert_eq!(swept.found, [hex("01020304"), hex("80122821")]);
+    }
+
+    #[test]
+    fn numbers_to_check_by() {
+        let swept = run(&mut field(&[("80122821", true), ("04112233445566", true), ("01020304", true)]));
+        assert_eq!(swept.frames(), 17);
+        assert_eq!(swept.found[1], hex("04112233445566"));
+        assert_eq!(run(&mut field(&[("04112233445566", true), ("01020304", true)])).frames(), 12);
+    }
+
+    #[test]
+    fn declined() {
+        let mut cards = field(&[("01020304", true)]);
+        let mut used = Reader::new();
+        used.select();
+        assert_eq!(sweep(&mut used, &mut cards, 0, 0), Err(11));
+        assert_eq!(sweep(&mut Reader::new(), &mut cards, LOG_ROOM - 1, LIST_ROOM), Err(1));
+        assert_eq!(sweep(&mut Reader::new(), &mut cards, LOG_ROOM, LIST_ROOM - 1), Err(1));
+        cards[0].power_off();
+        assert_eq!(sweep(&mut Reader::new(), &mut cards, LOG_ROOM, LIST_ROOM), Err(6));
+    }
+}

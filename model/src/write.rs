@@ -1,0 +1,76 @@
+//! The stored vectors: `write` puts them into a folder, `check` compares them with what would be written.
+
+use crate::language::{Program, Script};
+use crate::scripts;
+use std::fs;
+use std::path::Path;
+
+/// The seed of all stored vectors.
+const SEED: u64 = 14_443;
+
+pub struct Stored {
+    pub name: &'static str,
+    pub input: String,
+    pub output: String,
+}
+
+fn stored<P: Program>(name: &'static str, script: Script<P>) -> Stored {
+    let (input, output) = script.finish();
+    Stored { name, input, output }
+}
+
+/// All stored vectors. Without blocks the card's and the reader's scripts hold no RATS and no block; with them these come in
+/// addition, after the selection.
+pub fn all(blocks: bool) -> Vec<Stored> {
+    let mut card = scripts::card::script(SEED + 3);
+    let mut reader = scripts::reader::script(SEED + 4);
+    if blocks {
+        scripts::card_blocks::add(&mut card, SEED + 5);
+        scripts::reader_blocks::add(&mut reader, SEED + 6);
+    }
+    vec![
+        stored("vectors_frame", scripts::frame::script(SEED + 1)),
+        stored("vectors_sweep", scripts::field::script(SEED + 2)),
+        stored("bench_card", card),
+        stored("bench_reader", reader),
+        stored("bench_sweep", scripts::field::locker()),
+    ]
+}
+
+pub fn write(folder: &str, blocks: bool) -> Result<(), String> {
+    for file in all(blocks) {
+        let place = Path::new(folder).join(file.name);
+        fs::create_dir_all(&place).map_err(|e| format!("{}: {e}", place.display()))?;
+        for (name, text) in [("stdin", &file.input), ("stdout", &file.output)] {
+            let path = place.join(name);
+            fs::write(&path, text).map_err(|e| format!("{}: {e}", path.display()))?;
+            println!("{}/{name} {} bytes, {} lines", file.name, text.len(), text.lines().count());
+        }
+    }
+    Ok(())
+}
+
+pub fn check(folder: &str, blocks: bool) -> Result<(), String> {
+    let mut wrong = Vec::new();
+    for file in all(blocks) {
+        for (name, text) in [("stdin", &file.input), ("stdout", &file.output)] {
+            let path = Path::new(folder).join(file.name).join(name);
+            match fs::read(&path) {
+                Ok(stored) if stored == text.as_bytes() => {}
+                Ok(stored) => wrong.push(format!("{}: {}", path.display(), first_difference(&stored, text.as_bytes()))),
+                Err(e) => wrong.push(format!("{}: {e}", path.display())),
+            }
+        }
+    }
+    if wrong.is_empty() {
+        Ok(())
+    } else {
+        Err(wrong.join("\n"))
+    }
+}
+
+fn first_difference(stored: &[u8], wanted: &[u8]) -> String {
+    let same = stored.iter().zip(wanted).take_while(|(a, b)| a == b).count();
+    let line = 1 + wanted[..same].iter().filter(|&&b| b == b'\n').count();
+    format!("not what the model writes, from line {line} on")
+}
