@@ -1,3 +1,5 @@
 pub mod Order
 pub mod Uid
 pub mod Calls
+pub mod LevelLaws
+pub mod Table

@@ -1,0 +1,14 @@
+use lib.Bits.{xor-zero-r}
+use Rattle.uid.specs.Uid.{check}
+use Rattle.uid.proofs.check_byte.Statement.{statement}
+use Rattle.uid.proofs.check_byte.Tie as tie
+use Rattle.uid.proofs.check_byte.Reads as reads
+use Rattle.uid.proofs.check_byte.Lts as lts
+
+-- src/lib.rt:71:1
+returns : tie.Need-returns
+unfolding check
+returns c = rw xor-zero-r
+
+pub check-byte-spec : {M : Type 1} → statement M
+check-byte-spec = tie.close (tie.spec returns)
