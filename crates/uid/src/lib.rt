@@ -113,3 +113,50 @@ pub fn is_valid(u: Uid) -> bool
         UidSize::Triple => true,
     }
 }
+
+// A UID from bytes, or 6: "one of these lengths", and the rest of what valid means.
+pub fn new_uid(bytes: &[u8]) -> NewUid
+    ensures { λ r. ⌜ r ≡ newUid (now (bytes .entry)) ⌝ }
+{
+    if bytes.len() == 4 {
+        let u = within::sized(UidSize::Single, bytes);
+        return within::checked(u);
+    }
+    if bytes.len() == 7 {
+        let u = within::sized(UidSize::Double, bytes);
+        return within::checked(u);
+    }
+    if bytes.len() == 10 {
+        let u = within::sized(UidSize::Triple, bytes);
+        return within::checked(u);
+    }
+    within::refused_uid()
+}
+
+// Are two UIDs the same, in length and in each byte that counts?
+pub fn same_uid(a: Uid, b: Uid) -> bool
+    ensures { λ r. ⌜ r ≡ same (uidBytes a) (uidBytes b) ⌝ }
+{
+    let s = a.size;
+    let t = b.size;
+    let n = byte_count(s);
+    let m = byte_count(t);
+    let x = a.bytes;
+    let y = b.bytes;
+    rows::is_same(&x[..n], &y[..m])
+}
+
+// "The on-air row of a UID is its levels in air order, parity left out". It asks for room for the longest.
+pub fn air_row(u: Uid, out: &mut [u8]) -> AirRow
+    ensures { λ r. ⌜ r ≡ airRow (length (now (out .entry))) u ⌝ }
+    ensures { λ r. ⌜ now (out .exit) ≡ airRowAfter r u (now (out .entry)) ⌝ }
+{
+    if out.len() < 120 {
+        return AirRow::NoRoom(Refusal::Room);
+    }
+    let s = u.size;
+    let n = level_count(s);
+    let ls = levels(u);
+    within::put_levels(out, ls, n);
+    AirRow::Bits(40 * n)
+}
