@@ -22,12 +22,7 @@ fn stored<P: Program>(name: &'static str, script: Script<P>) -> Stored {
 /// All stored vectors. Without blocks the card's and the reader's scripts hold no RATS and no block; with them these come in
 /// addition, after the selection.
 pub fn all(blocks: bool) -> Vec<Stored> {
-    let mut card = scripts::card::script(SEED + 3);
-    let mut reader = scripts::reader::script(SEED + 4);
-    if blocks {
-        scripts::card_blocks::add(&mut card, SEED + 5);
-        scripts::reader_blocks::add(&mut reader, SEED + 6);
-    }
+    let (card, reader) = benches(blocks);
     vec![
         stored("vectors_frame", scripts::frame::script(SEED + 1)),
         stored("vectors_sweep", scripts::field::script(SEED + 2)),
@@ -35,6 +30,27 @@ pub fn all(blocks: bool) -> Vec<Stored> {
         stored("bench_reader", reader),
         stored("bench_sweep", scripts::field::locker()),
     ]
+}
+
+fn benches(blocks: bool) -> (scripts::card::S, scripts::reader::S) {
+    let mut card = scripts::card::script(SEED + 3);
+    let mut reader = scripts::reader::script(SEED + 4);
+    if blocks {
+        scripts::card_blocks::add(&mut card, SEED + 5);
+        scripts::reader_blocks::add(&mut reader, SEED + 6);
+    }
+    (card, reader)
+}
+
+/// Plays the scripts of both benches, blocks included, again, for what they reach.
+pub fn bench_scripts() {
+    let (card, reader) = benches(true);
+    let (card, reader) = (card.input, reader.input);
+    crate::coverage::forget();
+    let mut replayed = Script::new(crate::bench_card::BenchCard::new());
+    card.lines().for_each(|line| drop(replayed.say(line)));
+    let mut replayed = Script::new(crate::bench_reader::BenchReader::new());
+    reader.lines().for_each(|line| drop(replayed.say(line)));
 }
 
 pub fn write(folder: &str, blocks: bool) -> Result<(), String> {
