@@ -46,10 +46,18 @@ pub enum Outcome {
 enum Heard {
     Reqa,
     Wupa,
-    Anticollision { level: usize, bits: Row },
-    Select { level: usize, bytes: Vec<u8> },
+    Anticollision {
+        level: usize,
+        bits: Row,
+    },
+    Select {
+        level: usize,
+        bytes: Vec<u8>,
+    },
     Hlta,
-    Rats { fsdi: u8 },
+    Rats {
+        fsdi: u8,
+    },
     /// Damaged, or none of these.
     Else,
 }

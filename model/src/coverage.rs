@@ -97,11 +97,7 @@ fn expected() -> Vec<Key> {
         &["Off", "Idle", "Ready", "Active", "Halt", "receiving", "owing", "WTX asked", "answering"],
         &["frame", "answer", "WTX", "power on", "power off"],
     );
-    add(
-        "card state",
-        &["Idle", "Ready", "Active", "Halt"],
-        &["REQA", "WUPA", "ANTICOLLISION", "SELECT", "HLTA", "RATS", "else"],
-    );
+    add("card state", &["Idle", "Ready", "Active", "Halt"], &["REQA", "WUPA", "ANTICOLLISION", "SELECT", "HLTA", "RATS", "else"]);
     let protocol = ["receiving", "WTX asked", "answering"];
     add(
         "card block",
@@ -131,11 +127,7 @@ fn expected() -> Vec<Key> {
     }
     add("card block", &["WTX asked for"], &["WTX asked"]);
     add("card block", &["answer lent too short"], &["receiving", "answering"]);
-    add(
-        "card block",
-        &["any good block", "damage", "answer", "answer over 4096", "WTX", "WTX outside 1 to 59"],
-        &["owing"],
-    );
+    add("card block", &["any good block", "damage", "answer", "answer over 4096", "WTX", "WTX outside 1 to 59"], &["owing"]);
     keys
 }
 

@@ -90,3 +90,47 @@ fn first_difference(stored: &[u8], wanted: &[u8]) -> String {
     let line = 1 + wanted[..same].iter().filter(|&&b| b == b'\n').count();
     format!("not what the model writes, from line {line} on")
 }
+
+#[cfg(test)]
+mod tests {
+    use super::*;
+    use crate::bench_card::row_line;
+    use crate::blocks::{read_block, Block};
+    use crate::frames::read_standard_with_crc;
+
+    /// The stored files stay small; with blocks they begin with the selection alone.
+    #[test]
+    fn sizes_and_beginnings() {
+        for (short, long) in all(false).iter().zip(all(true)) {
+            assert!(long.input.len() < 260_000 && long.output.len() < 260_000, "{}", long.name);
+            assert!(long.input.starts_with(&short.input) && long.output.starts_with(&short.output), "{}", long.name);
+        }
+    }
+
+    /// Without blocks no line hands over RATS or a block.
+    #[test]
+    fn selection_alone() {
+        for file in all(false) {
+            if file.name.starts_with("vectors") {
+                continue;
+            }
+            for line in file.input.lines() {
+                let words: Vec<&str> = line.split(' ').filter(|w| !w.is_empty()).collect();
+                let Some(Ok(bytes)) = row_line(&words).map(|row| read_standard_with_crc(&row, 256)) else { continue };
+                assert_ne!(bytes[0], 0xE0, "{line}");
+                assert!(matches!(read_block(&bytes), Block::Unknown), "{line}");
+            }
+            for answer in file.output.lines() {
+                assert!(!answer.ends_with("; protocol") && !answer.starts_with("open") && !answer.starts_with("answered"));
+            }
+        }
+    }
+
+    #[test]
+    fn the_same_each_time() {
+        for (one, other) in all(true).iter().zip(all(true)) {
+            assert_eq!(one.input, other.input);
+            assert_eq!(one.output, other.output);
+        }
+    }
+}

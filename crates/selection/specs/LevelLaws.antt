@@ -58,7 +58,7 @@ pub data-turn : (d w : List ℕ) (i : ℕ) → length d ≡ 40 → length w ≡ 
     → set (overlay d 0 (take i (dataOf 5 w))) i (getD w (i + i / 8) 0) ≡ overlay d 0 (take (i + 1) (dataOf 5 w))
 data-turn d w i hd hw l =
     rw (← data-at 5 w i (omega arith) l)
-    (overlay-copy d 0 (dataOf 5 w) i (omega arith) (rw (length-data 5 w (omega arith)) l))
+    (rw zero-add at (overlay-copy d 0 (dataOf 5 w) i (omega arith) (rw (length-data 5 w (omega arith)) l)))
 
 -- ---- the first collided bit
 
@@ -137,4 +137,4 @@ bytes-at (suc n) d (suc i) h =
 -- a turn of the loop that makes bytes
 pub bytes-turn : (d e : List ℕ) (i : ℕ) → length d ≡ 5 → i < 5
     → set (overlay d 0 (take i (bytesOf 5 e))) i (unbits (take 8 (drop (8 * i) e))) ≡ overlay d 0 (take (i + 1) (bytesOf 5 e))
-bytes-turn d e i hd l = rw (← bytes-at 5 e i l) (overlay-copy d 0 (bytesOf 5 e) i (omega arith) (rw (length-bytes 5 e) l))
+bytes-turn d e i hd l = rw (← bytes-at 5 e i l) (rw zero-add at (overlay-copy d 0 (bytesOf 5 e) i (omega arith) (rw (length-bytes 5 e) l)))

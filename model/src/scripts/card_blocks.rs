@@ -23,7 +23,7 @@ pub fn add(s: &mut S, seed: u64) {
     long_messages(s, &mut random);
     s.remark("random scripts with blocks");
     let mut scripts = 0;
-    while scripts < 130 && s.output.len() < 252_000 {
+    while scripts < 130 && s.output.len() < 254_000 {
         random_script(s, &mut random, true);
         scripts += 1;
     }
@@ -71,12 +71,10 @@ fn rats(s: &mut S) {
     for fsdi in 0..16 {
         protocol(s, (fsdi % 9) as usize, fsdi);
     }
-    s.remark("ATS of every index is document 000's; the largest frame of a reader that says 9 to 15 is index 8's");
-    for fsdi in [9, 15] {
-        protocol(s, 8, fsdi);
-        s.say("crc 02");
-        s.say(&format!("reply {}", "C3".repeat(253)));
-    }
+    s.remark("ATS of every index is document 000's; the largest frame of a reader that says 15 is index 8's");
+    protocol(s, 8, 15);
+    s.say("crc 02");
+    s.say(&format!("reply {}", "C3".repeat(253)));
     s.remark("no RATS: CID, length, CRC_A, a card that speaks no blocks");
     fresh(s, UID10, "20", 3);
     for line in ["crc E001", "crc E08F", "crc E0", "crc E00000", "bytes E000", "bytes E000F739", "bytes E00039F7"] {
@@ -195,8 +193,26 @@ fn table(s: &mut S) {
             }),
             Box::new(|_| {
                 [
-                    "crc 00", "crc 06", "crc 07", "crc 0A00", "crc 1A05", "crc 22", "crc 42", "crc 82", "crc A0", "crc A6", "crc AA05", "crc BA05",
-                    "crc CA05", "crc C3", "crc E2", "crc F3", "crc FA0507", "crc D2", "crc E080", "crc 5000",
+                    "crc 00",
+                    "crc 06",
+                    "crc 07",
+                    "crc 0A00",
+                    "crc 1A05",
+                    "crc 22",
+                    "crc 42",
+                    "crc 82",
+                    "crc A0",
+                    "crc A6",
+                    "crc AA05",
+                    "crc BA05",
+                    "crc CA05",
+                    "crc C3",
+                    "crc E2",
+                    "crc F3",
+                    "crc FA0507",
+                    "crc D2",
+                    "crc E080",
+                    "crc 5000",
                 ]
                 .map(String::from)
                 .to_vec()
@@ -206,15 +222,25 @@ fn table(s: &mut S) {
                 vec![plain_row(&flipped(&deselect, 8)), plain_row(&flipped(&deselect, 3)), plain_row(&collided(&deselect, 8))]
             }),
             Box::new(|_| {
-                ["row -", "row 0", "short 26", "short 52", "bytes 0200", "bytes 020000", "bytes C2E0B5", "row 0100000000011011111001110x0"]
-                    .map(String::from)
-                    .to_vec()
+                [
+                    "row -",
+                    "row 0",
+                    "short 26",
+                    "short 52",
+                    "bytes 0200",
+                    "bytes 020000",
+                    "bytes C2E0B5",
+                    "row 0100000000011011111001110x0",
+                ]
+                .map(String::from)
+                .to_vec()
             }),
             Box::new(|_| vec!["reply FF".into(), "wtx 1".into(), "wtx 0".into(), "wtx 60".into(), "power on".into()]),
             Box::new(|_| vec!["power off".into()]),
         ];
         // Where the card came to its place by one block more, the rows that change nothing are left out.
-        let count = if matches!(place, AnsweredInTwo | WtxAskedThenAck | AnsweringThenAck | AnsweringOn) { 12 } else { rows.len() };
+        let count =
+            if matches!(place, AnsweredInTwo | WtxAskedThenAck | AnsweringThenAck | AnsweringOn) { 12 } else { rows.len() };
         for row in &rows[..count] {
             stand(s, place);
             let lines = row(s);
@@ -245,8 +271,9 @@ fn owing(s: &mut S) {
             s.say("crc F23B");
         }
         for line in [
-            "crc 02", "crc 13AA", "crc A2", "crc A3", "crc B2", "crc B3", "crc C2", "crc F23B", "crc F201", "crc 00", "row -", "row x", "short 26",
-            "bytes 02", "power on", "wtx 0", "wtx 60", "wtx 63", "wtx 255", "wtx 1", "crc F202", "crc F201", "wtx 30", "crc F21E",
+            "crc 02", "crc 13AA", "crc A2", "crc A3", "crc B2", "crc B3", "crc C2", "crc F23B", "crc F201", "crc 00", "row -",
+            "row x", "short 26", "bytes 02", "power on", "wtx 0", "wtx 60", "wtx 63", "wtx 255", "wtx 1", "crc F202", "crc F201",
+            "wtx 30", "crc F21E",
         ] {
             s.say(line);
         }
@@ -297,6 +324,20 @@ fn lent_answer(s: &mut S) {
             s.say(&line);
         }
         s.say("crc 02");
+    }
+    s.remark("the next I behind the end of a shorter one: empty, the last; its place is behind the end, so the next call is 1");
+    enter(s, 0);
+    s.say("crc 02");
+    s.say(&format!("reply {long}"));
+    s.say("reply 0102");
+    for _ in 0..2 {
+        let line = ack_line(s, false);
+        s.say(&line);
+    }
+    s.say(&format!("reply {long}"));
+    let lines = [nak_line(s, true), ack_line(s, false)];
+    for line in lines {
+        s.say(&line);
     }
     s.remark("the place is 0 again once an I is accepted");
     enter(s, 0);

@@ -137,10 +137,7 @@ fn uids_and_sums(s: &mut Script<VectorsFrame>, random: &mut Random) {
     s.remark("the frame sum: document 01's numbers first");
     assert_eq!(s.say("sum"), "frames 1 order");
     assert_eq!(s.say("sum 80122821 01020304"), "frames 10 order 01020304 80122821");
-    assert_eq!(
-        s.say("sum 80122821 04112233445566 01020304"),
-        "frames 17 order 01020304 04112233445566 80122821"
-    );
+    assert_eq!(s.say("sum 80122821 04112233445566 01020304"), "frames 17 order 01020304 04112233445566 80122821");
     assert_eq!(s.say("sum 04112233445566 01020304"), "frames 12 order 01020304 04112233445566");
     for line in ["sum 01020304", "sum 04112233445566", "sum 56341280122821440010", "sum 01020304 01020304", "sum 88020304"] {
         s.say(line);

@@ -14,7 +14,7 @@ pub fn add(s: &mut S, seed: u64) {
     rats(s);
     ats_forms(s);
     ats_refusals(s);
-    not_due(s, &LINKED_PHASES);
+    not_due(s, &LINKED_PHASES, true);
     table(s);
     damage(s);
     repeats(s);
@@ -97,8 +97,37 @@ fn ats_forms(s: &mut S) {
     s.remark("ATS: every index, TL 1, TA TB TC, historical bytes");
     let mut forms: Vec<String> = (0..16).map(|t0| format!("02{t0:02X}")).collect();
     for form in [
-        "01", "0210", "031080", "0220", "032071", "0240", "034002", "033080", "04308071", "036071", "04607102", "0278", "037880", "04788071", "0578807102", "0678807102AA", "0308AA", "0A08AABBCCDDEEFF0011", "0E0000112233445566778899AABB",
-        "03", "00", "0000", "02", "0208AA", "0408AA", "01AA", "0288", "0380AA", "05F8807102", "FF08", "C2",
+        "01",
+        "0210",
+        "031080",
+        "0220",
+        "032071",
+        "0240",
+        "034002",
+        "033080",
+        "04308071",
+        "036071",
+        "04607102",
+        "0278",
+        "037880",
+        "04788071",
+        "0578807102",
+        "0678807102AA",
+        "0308AA",
+        "0A08AABBCCDDEEFF0011",
+        "0E0000112233445566778899AABB",
+        "03",
+        "00",
+        "0000",
+        "02",
+        "0208AA",
+        "0408AA",
+        "01AA",
+        "0288",
+        "0380AA",
+        "05F8807102",
+        "FF08",
+        "C2",
     ] {
         forms.push(form.to_string());
     }
@@ -216,14 +245,33 @@ fn table(s: &mut S) {
             lines.push(format!("crc {:02X}D3", 0x12 | other));
             lines.push(format!("crc {:02X}", 0xB2 | own));
             lines.push(format!("crc {:02X}", 0xB2 | other));
-            for line in ["crc F201", "crc F2FB", "crc F2C0", "crc F23C", "crc C2", "crc A2FF", "crc F2", "crc 0A00", "crc E2"] {
+            for line in ["crc F201", "crc F2FB", "crc F2C0", "crc F23C", "crc C2", "crc A2FF", "crc 0A00"] {
                 lines.push(line.to_string());
             }
         }
         if place == Place::Last {
             for line in [
-                "crc 02", "crc 12", "crc F23B", "crc F200", "crc F23F", "crc F2FF", "crc A300", "crc B200", "crc C200", "crc F20101", "crc 00", "crc 06",
-                "crc 22", "crc A6", "crc AA00", "crc CA00", "crc FA0001", "crc FF", "crc E080", "row x", "bytes 02",
+                "crc 02",
+                "crc 12",
+                "crc F23B",
+                "crc F200",
+                "crc F23F",
+                "crc F2FF",
+                "crc A300",
+                "crc B200",
+                "crc C200",
+                "crc F20101",
+                "crc 00",
+                "crc 06",
+                "crc 22",
+                "crc A6",
+                "crc AA00",
+                "crc CA00",
+                "crc FA0001",
+                "crc FF",
+                "crc E080",
+                "row x",
+                "bytes 02",
             ] {
                 lines.push(line.to_string());
             }
@@ -324,6 +372,9 @@ fn sent_again(s: &mut S) {
         for _ in 0..3 {
             s.say(&other);
         }
+        if matches!(place, Place::MoreOn | Place::Last) {
+            continue;
+        }
         // Silence and WTX between them do not start that count anew.
         stand(s, place);
         for line in ["row -", &other, "row -", "crc F201", &other, "crc F202", "row -", &other] {
@@ -335,7 +386,13 @@ fn sent_again(s: &mut S) {
     say_all(s, &["crc A3", "crc A3", "crc A2", "crc A2", "crc A2", "crc A3", "crc A3", "crc A3", "crc A3"]);
     s.remark("and so has the next message");
     open(s, 0, 0);
-    say_all(s, &["send 01", "crc A3", "crc A3", "crc 02", "send 02", "crc A2", "crc A2", "crc 03", "send 03", "crc A3", "crc A3", "crc A3"]);
+    say_all(
+        s,
+        &[
+            "send 01", "crc A3", "crc A3", "crc 02", "send 02", "crc A2", "crc A2", "crc 03", "send 03", "crc A3", "crc A3",
+            "crc A3",
+        ],
+    );
 }
 
 fn wtx(s: &mut S) {
@@ -357,8 +414,17 @@ fn wtx(s: &mut S) {
 fn lent_message(s: &mut S) {
     s.remark("another message lent than the one under way");
     for (place, count) in [
-        (Place::More, 0), (Place::MoreOn, 0), (Place::MoreOn, 12), (Place::MoreOn, 13), (Place::LastOfTwo, 0), (Place::LastOfTwo, 12),
-        (Place::LastOfTwo, 13), (Place::LastOfTwo, 30), (Place::Last, 0), (Place::Joining, 0), (Place::Deselect, 0),
+        (Place::More, 0),
+        (Place::MoreOn, 0),
+        (Place::MoreOn, 12),
+        (Place::MoreOn, 13),
+        (Place::LastOfTwo, 0),
+        (Place::LastOfTwo, 12),
+        (Place::LastOfTwo, 13),
+        (Place::LastOfTwo, 30),
+        (Place::Last, 0),
+        (Place::Joining, 0),
+        (Place::Deselect, 0),
     ] {
         stand(s, place);
         let other = if count == 0 { "-".to_string() } else { "E5".repeat(count) };
@@ -370,6 +436,9 @@ fn lent_message(s: &mut S) {
         s.say("send 000102030405060708090A0B0C0D0E0F101112131415161718191A1B1C1D1E1F");
         s.say("row -");
     }
+    s.remark("the next I behind the end of a shorter one: empty, the last; its place is behind the end, so the next call is 1");
+    stand(s, Place::More);
+    say_all(s, &["send 0102", "crc A2", "row -", "send 000102030405060708090A0B0C0D0E0F", "row -", "crc A2"]);
 }
 
 fn deselect(s: &mut S) {
