@@ -83,6 +83,16 @@ first-le (x ∷ h) = go (ltb 1 x) (first-le h)
     go true ih = omega arith
     go false ih = omega arith
 
+-- the bits before it are clean
+pub first-head : (h : List ℕ) → clean (take (firstCollided h) h) ≡ true
+unfolding firstCollided clean
+first-head [] = refl
+first-head (x ∷ h) = go (ltb 1 x) refl (first-head h)
+  where
+    go : (b : Bool) → ltb 1 x ≡ b → clean (take (firstCollided h) h) ≡ true → clean (take (cond b 0 (suc (firstCollided h))) (x ∷ h)) ≡ true
+    go true e ih = refl
+    go false e ih = rw e ih
+
 -- no bit collided: all are known
 pub first-clean : (h : List ℕ) → length h ≤ firstCollided h → (clean h ≡ true) × (next h ≡ h)
 unfolding firstCollided clean next

@@ -4,16 +4,19 @@ use mathlib.Core.Bool.{Bool, true, false, cond, not, _&&_}
 use mathlib.Core.List.{List, [], _∷_, _++_, append-nil}
 use Prim.Native.Nat.{ℕ, zero, suc, _+_, _-_, _*_, _/_, _≤_, _<_}
 use native.Mathlib.Omega.{arith}
-use lib.ListN.{length, take, drop, length-append, length-take, drop-of-length-le}
+use lib.ListN.{length, take, drop, replicate, length-append, length-take, drop-of-length-le}
 use lib.Dec.{eqb, ltb}
 use borrow.Author.Tests.{eq-eqb, ne-eqb, lt-ltb, le-ltb, ltb-true, ltb-false}
-use Rattle.rows.specs.Rows.{overlay, isNil, clean, next, same, fill}
+use Rattle.rows.specs.Rows.{overlay, isNil, clean, next, same, fill, Bits}
 use Rattle.frame.specs.Frame.{standard, dataOf, bytesOf, faulty}
 use Rattle.uid.specs.Uid.{level}
 use Rattle.selection.specs.Selection.{cut}
 use Rattle.selection.specs.Heard.{notRest, restOf, readRest}
 use Rattle.selection.specs.Level.{firstCollided}
-use Rattle.selection.specs.LevelLaws.{first-clean, first-clash, length-data}
+use Rattle.selection.specs.LevelLaws.{first-clean, first-clash, first-head, length-data}
+use Rattle.selection.specs.PadLaws.{bytes-fill}
+use Rattle.rows.specs.ListLaws.{all-append}
+use Rattle.rows.specs.HeardLaws.{bits-clean, clean-bits}
 use Rattle.refusal.specs.declared.Refusal.the-variants.{Length, Parity, Check, Silence, Collision}
 use Rattle.selection.specs.declared.Rest.{Rest}
 use Rattle.selection.specs.declared.RestSays.the-variants.{Whole, Collided}
@@ -28,27 +31,28 @@ levelSays k w =
     (cond (clean d && not (same (bytesOf 5 d) (level (take 4 (bytesOf 5 d))))) (notRest Check)
     (restOf (cond (clean d) Whole Collided) (next d))))
 
+pub nil-yes : (h : List ℕ) → length h ≡ 0 → isNil h ≡ true
+unfolding isNil
+nil-yes [] e = refl
+nil-yes (x ∷ h) e = absurd (omega arith)
+
+pub nil-no : (h : List ℕ) → (length h ≡ 0 → ⊥) → isNil h ≡ false
+unfolding isNil
+nil-no [] n = absurd (n refl)
+nil-no (x ∷ h) n = refl
+
 pub rest-silent : (k : ℕ) (five h : List ℕ) → length h ≡ 0 → readRest k five h ≡ notRest Silence
-unfolding readRest isNil
-rest-silent k five [] e = refl
-rest-silent k five (x ∷ h) e = absurd (omega arith)
+unfolding readRest
+rest-silent k five h e = rw (nil-yes h e)
 
 module _ (k : ℕ) (five h : List ℕ) (some : length h ≡ 0 → ⊥) where
-  not-nil : isNil h ≡ false
-  unfolding isNil
-  not-nil = go h some
-    where
-      go : (r : List ℕ) → (length r ≡ 0 → ⊥) → isNil r ≡ false
-      go [] n = absurd (n refl)
-      go (x ∷ r) n = refl
-
   pub rest-length : (cut k + length h ≡ 45 → ⊥) → readRest k five h ≡ notRest Length
   unfolding readRest
-  rest-length n = rw (not-nil, ne-eqb (cut k + length h) 45 n)
+  rest-length n = rw (nil-no h some, ne-eqb (cut k + length h) 45 n)
 
   pub rest-level : cut k + length h ≡ 45 → readRest k five h ≡ levelSays k (take (cut k) (standard five) ++ h)
   unfolding readRest levelSays
-  rest-level e = rw (not-nil, eq-eqb (cut k + length h) 45 e)
+  rest-level e = rw (nil-no h some, eq-eqb (cut k + length h) 45 e)
 
 -- the level's row as it is put together: what was heard is written over the level's row behind what was sent
 pub level-row : (s h : List ℕ) (n : ℕ) → length s ≡ 45 → n + length h ≡ 45 → overlay s n h ≡ take n s ++ h
@@ -91,14 +95,40 @@ module _ (k : ℕ) (w d : List ℕ) (full : length w ≡ 45) (is : d ≡ dataOf 
       unfolding levelSays
       says-collided l = rw (← is, early n, f, clash l .0)
 
-      pub says-check : 40 ≤ firstCollided d → same (bytesOf 5 (next d)) (level (take 4 (bytesOf 5 (next d)))) ≡ false → levelSays k w ≡ notRest Check
+      pub says-check : 40 ≤ firstCollided d → same (bytesOf 5 d) (level (take 4 (bytesOf 5 d))) ≡ false → levelSays k w ≡ notRest Check
       unfolding levelSays
       says-check l q =
           let c : (clean d ≡ true) × (next d ≡ d) = first-clean d (omega (arith, forty)) in
-          rw (← is, early n, f, c .0, rw (c .1) at q)
+          rw (← is, early n, f, c .0, q)
 
-      pub says-whole : 40 ≤ firstCollided d → same (bytesOf 5 (next d)) (level (take 4 (bytesOf 5 (next d)))) ≡ true → levelSays k w ≡ restOf Whole (next d)
+      pub says-whole : 40 ≤ firstCollided d → same (bytesOf 5 d) (level (take 4 (bytesOf 5 d))) ≡ true → levelSays k w ≡ restOf Whole d
       unfolding levelSays
       says-whole l q =
           let c : (clean d ≡ true) × (next d ≡ d) = first-clean d (omega (arith, forty)) in
-          rw (← is, early n, f, c .0, rw (c .1) at q)
+          rw (← is, early n, f, c .0, q, c .1)
+
+-- ---- what is handed back
+
+-- after a collision: the bits before it and then a 1, as bytes with zeros behind
+pub made-collided : (d five : List ℕ) → length d ≡ 40 → firstCollided d < 40 → five ≡ bytesOf 5 (fill 40 (next d))
+    → _≡_ {A = Rest} (record { says = Collided; five = five; known = firstCollided d + 1 }) (restOf Collided (next d))
+unfolding restOf
+made-collided d five n l e =
+    let k : length (next d) ≡ firstCollided d + 1 = rw (first-clash d (omega arith) .1, length-append, length-take) (omega arith) in
+    rw (e, bytes-fill 5 40 (next d), k)
+
+-- the bits known, zeros behind, are clean
+pub known-clean : (d : List ℕ) → length d ≡ 40 → firstCollided d < 40 → clean (fill 40 (next d)) ≡ true
+unfolding fill
+known-clean d n l =
+    bits-clean _ (all-append (λ x. x < 2) (next d) _
+    (rw (first-clash d (omega arith) .1) (all-append (λ x. x < 2) (take (firstCollided d) d) (1 ∷ []) (clean-bits _ (first-head d)) (omega arith, tt)))
+    (zeros (40 - length (next d))))
+  where
+    zeros : (k : ℕ) → Bits (replicate k 0)
+    zeros zero = tt
+    zeros (suc k) = (omega arith, zeros k)
+
+pub made-whole : (d five : List ℕ) → length d ≡ 40 → five ≡ bytesOf 5 d → _≡_ {A = Rest} (record { says = Whole; five = five; known = 40 }) (restOf Whole d)
+unfolding restOf
+made-whole d five n e = rw (e, n)

@@ -1,0 +1,64 @@
+use borrow.Author.Needs.{needs}
+use Rattle.selection.proofs.heard.collided_level.Statement.{statement}
+use Rattle.selection.proofs.heard.collided_level.Tie as tie
+use Rattle.selection.proofs.heard.collided_level.Reads as reads
+use Rattle.selection.proofs.heard.collided_level.Lts as lts
+use Rattle.selection.proofs.heard.is_faulty.Reads as is-faulty-reads
+use Rattle.selection.proofs.heard.not_rest.Reads as not-rest-reads
+use Rattle.selection.proofs.level.five_bytes.Reads as five-bytes-reads
+use Rattle.selection.proofs.level.known_bits.Reads as known-bits-reads
+
+-- src/heard.rt:93:9
+not-rest-requires : tie.Need-not-rest-requires
+not-rest-requires c κs = search needs
+
+-- src/heard.rt:93:9
+returns : tie.Need-returns
+returns c = ?
+
+-- src/heard.rt:95:8
+is-faulty-requires : tie.Need-is-faulty-requires
+is-faulty-requires c κs = search needs
+
+-- src/heard.rt:96:9
+not-rest-requires-2 : tie.Need-not-rest-requires-2
+not-rest-requires-2 c κs = search needs
+
+-- src/heard.rt:96:9
+returns-2 : tie.Need-returns-2
+returns-2 c = ?
+
+-- src/heard.rt:98:41
+known-bits-requires : tie.Need-known-bits-requires
+known-bits-requires c κs = search needs
+
+-- src/heard.rt:98:9
+five-bytes-requires : tie.Need-five-bytes-requires
+five-bytes-requires c κs = ?
+
+-- src/heard.rt:102:16
+cast-t12 : tie.Need-cast-t12
+cast-t12 c = search needs
+
+-- src/heard.rt:102:16
+add-t13 : tie.Need-add-t13
+add-t13 c = search needs
+
+-- src/heard.rt:88:1
+returns-3 : tie.Need-returns-3
+returns-3 c = ?
+
+pub collided-level-spec : {M : Type 1} → statement M
+collided-level-spec =
+    tie.close
+    (tie.spec
+    not-rest-requires
+    returns
+    is-faulty-requires
+    not-rest-requires-2
+    returns-2
+    known-bits-requires
+    five-bytes-requires
+    cast-t12
+    add-t13
+    returns-3)

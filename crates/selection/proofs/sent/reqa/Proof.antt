@@ -1,0 +1,11 @@
+use Rattle.selection.proofs.sent.reqa.Statement.{statement}
+use Rattle.selection.proofs.sent.reqa.Tie as tie
+use Rattle.selection.proofs.sent.reqa.Reads as reads
+use Rattle.selection.proofs.sent.reqa.Lts as lts
+
+-- src/sent.rt:12:1
+returns : tie.Need-returns
+returns c = ?
+
+pub reqa-spec : {M : Type 1} → statement M
+reqa-spec = tie.close (tie.spec returns)

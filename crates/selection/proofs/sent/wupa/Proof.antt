@@ -1,0 +1,11 @@
+use Rattle.selection.proofs.sent.wupa.Statement.{statement}
+use Rattle.selection.proofs.sent.wupa.Tie as tie
+use Rattle.selection.proofs.sent.wupa.Reads as reads
+use Rattle.selection.proofs.sent.wupa.Lts as lts
+
+-- src/sent.rt:18:1
+returns : tie.Need-returns
+returns c = ?
+
+pub wupa-spec : {M : Type 1} → statement M
+wupa-spec = tie.close (tie.spec returns)
