@@ -1,0 +1,15 @@
+pub mod Abstract
+pub mod First
+pub mod Step
+pub mod Level
+pub mod Select
+pub mod Sort
+pub mod Sweep
+pub mod Falling
+pub mod Order
+pub mod Valid
+pub mod LevelBits
+pub mod Strip
+pub mod Merge
+pub mod Check
+pub mod Machine
