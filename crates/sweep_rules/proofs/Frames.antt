@@ -1,0 +1,108 @@
+-- The frames of a selection: their lengths, and when a reader's frame is the one that a card awaits. Assumes nothing.
+use mathlib.Core.Path.{_≡_, sym, ap, ap₂, _∙_}
+use Prim.Native.Nat.{ℕ, _+_, _-_, _*_, _≤_}
+use mathlib.Core.List.{List, [], _∷_, _++_, append-cancel-left}
+use lib.ListN.{length, take, drop, replicate, length-append, length-take, take-append-drop}
+use lib.Seq.{length-take-le}
+use native.Mathlib.Omega.{arith}
+use Rattle.rows.specs.Rows.{Bits, fill}
+use Rattle.parity.specs.BitLaws.{length-bits}
+use Rattle.crc.specs.Crc.{withCrc, crcBytes}
+use Rattle.frame.specs.Frame.{airBits, short, standard, bytesOf}
+use Rattle.frame.specs.FrameLaws.{length-standard}
+use Rattle.selection.specs.Selection.{cut, sel, nvb, reqa, wupa, hlta, anticollision, select, sakFrame}
+use Rattle.card.specs.Card.{bitsSent}
+use Rattle.sweep_rules.proofs.Bytes.{bits-bytes, length-bytes}
+use Rattle.sweep_rules.proofs.LevelBits.{length-airBits, airBits-append}
+use Rattle.sweep_rules.proofs.Seal.{seal, standard-seal, take-seal, seal-same}
+use Rattle.sweep_rules.proofs.Valid.{parts-equal}
+use Rattle.uid.specs.declared.Level.{Level}
+
+pub length-reqa : length reqa ≡ 7
+unfolding reqa short
+length-reqa = length-bits 7 0x26
+
+pub length-wupa : length wupa ≡ 7
+unfolding wupa short
+length-wupa = length-bits 7 0x52
+
+length-crc : (l : List ℕ) → length (withCrc l) ≡ 2 + length l
+unfolding withCrc crcBytes
+length-crc l = rw length-append (omega arith)
+
+pub length-hlta : length hlta ≡ 36
+unfolding hlta
+length-hlta = length-standard (withCrc (0x50 ∷ 0x00 ∷ [])) ∙ rw length-crc
+
+pub length-anti : (l : Level) (k : ℕ) (five : List ℕ) → length five ≡ 5 → k ≤ 40 → length (anticollision l k five) ≡ 18 + cut k
+unfolding anticollision
+length-anti l k five h m = rw (length-append, length-standard, length-take, length-standard, h) (omega arith)
+
+pub length-select : (l : Level) (five : List ℕ) → length five ≡ 5 → length (select l five) ≡ 81
+unfolding select
+length-select l five h = rw (length-standard, length-crc) (omega arith)
+
+pub length-sak : (b : ℕ) → length (sakFrame b) ≡ 27
+unfolding sakFrame
+length-sak b = length-standard (withCrc (b ∷ [])) ∙ rw length-crc
+
+-- its length tells how many bits an ANTICOLLISION sends
+pub bits-sent : (f : List ℕ) (k : ℕ) → length f ≡ 18 + cut k → bitsSent f ≡ k
+bits-sent f k h = rw h (omega arith)
+
+-- ---- ANTICOLLISION: the level's row, cut
+
+module _ (five K x : List ℕ) (h : length five ≡ 5) (e : airBits five ≡ K ++ x) where
+  row-is : standard five ≡ seal 5 (K ++ x)
+  row-is = standard-seal five ∙ ap₂ seal h e
+
+  sizes : length K + length x ≡ 40
+  sizes = sym (length-append K x) ∙ ap length (sym e) ∙ length-airBits five ∙ ap (λ n. 8 * n) h
+
+  pub sent-is : take (cut (length K)) (standard five) ≡ seal 5 K
+  sent-is = rw row-is (take-seal 5 K x sizes)
+
+  pub rest-is : drop (cut (length K)) (standard five) ≡ drop (cut (length K)) (seal 5 (K ++ x))
+  rest-is = rw row-is
+
+-- what the reader sends of the bits K that it knows
+pub sent-known : (K : List ℕ) → Bits K → length K ≤ 40 → take (cut (length K)) (standard (bytesOf 5 K)) ≡ seal 5 K
+unfolding fill
+sent-known K b h = sent-is (bytesOf 5 K) K (replicate (40 - length K) 0) (length-bytes 5 K) (bits-bytes 5 K b h)
+
+module _ (l : Level) (five K : List ℕ) (h : length five ≡ 5) (b : Bits K) (m : length K ≤ 40) where
+  pub anti-same : (x : List ℕ) → airBits five ≡ K ++ x → anticollision l (length K) (bytesOf 5 K) ≡ anticollision l (length K) five
+  unfolding anticollision
+  anti-same x e = ap (λ r. standard (sel l ∷ nvb (length K) ∷ []) ++ r) (sent-known K b m ∙ sym (sent-is five K x h e))
+
+  pub anti-tells : anticollision l (length K) (bytesOf 5 K) ≡ anticollision l (length K) five → airBits five ≡ K ++ drop (length K) (airBits five)
+  unfolding anticollision
+  anti-tells e =
+      let k : ℕ = length K in
+      let L : List ℕ = take k (airBits five) in
+      let n : length L ≡ k = length-take-le k (airBits five) (rw (length-airBits, h) m) in
+      let s : seal 5 K ≡ seal 5 L =
+      sym (sent-known K b m) ∙ append-cancel-left (standard (sel l ∷ nvb k ∷ [])) _ _ e
+      ∙ rw n at (sent-is five L (drop k (airBits five)) h (sym (take-append-drop k (airBits five)))) in
+      sym (take-append-drop k (airBits five)) ∙ ap (λ r. r ++ drop k (airBits five)) (sym (seal-same 5 K L (sym n) m s))
+
+-- ---- SELECT
+
+standard-tells : (l m : List ℕ) → length l ≡ length m → standard l ≡ standard m → airBits l ≡ airBits m
+standard-tells l m h e =
+    seal-same (length l) (airBits l) (airBits m) (rw (length-airBits l, length-airBits m) (omega arith)) (rw (length-airBits l) (omega arith))
+    (sym (standard-seal l) ∙ e ∙ standard-seal m ∙ ap (λ n. seal n (airBits m)) (sym h))
+
+crc-tells : (l m : List ℕ) → length l ≡ length m → standard (withCrc l) ≡ standard (withCrc m) → airBits l ≡ airBits m
+unfolding withCrc crcBytes
+crc-tells l m h e =
+    let b : airBits (l ++ crcBytes l) ≡ airBits (m ++ crcBytes m) = standard-tells (l ++ crcBytes l) (m ++ crcBytes m) (rw (length-append l, length-append m) (omega arith)) e in
+    parts-equal (8 * length l) (airBits l) (airBits m) (airBits (crcBytes l)) (airBits (crcBytes m)) (length-airBits l) (rw (length-airBits m) (omega arith))
+    (sym (airBits-append l (crcBytes l)) ∙ b ∙ airBits-append m (crcBytes m)) .0
+
+pub select-tells : (l : Level) (a c : List ℕ) → length a ≡ 5 → length c ≡ 5 → select l a ≡ select l c → airBits a ≡ airBits c
+unfolding select
+select-tells l a c ha hc e =
+    let H : List ℕ = sel l ∷ 0x70 ∷ [] in
+    append-cancel-left (airBits H) (airBits a) (airBits c)
+    (sym (airBits-append H a) ∙ crc-tells (H ++ a) (H ++ c) (omega arith) e ∙ airBits-append H c)
