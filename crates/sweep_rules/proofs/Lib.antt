@@ -17,3 +17,6 @@ pub mod Bytes
 pub mod Seal
 pub mod Levels
 pub mod Frames
+pub mod OneCard
+pub mod Idle
+pub mod Round
