@@ -20,3 +20,6 @@ pub mod Frames
 pub mod OneCard
 pub mod Idle
 pub mod Round
+pub mod HeardLaws
+pub mod SakLaws
+pub mod LogSize
