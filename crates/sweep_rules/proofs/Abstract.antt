@@ -105,7 +105,7 @@ frames (r ∷ l) = 2 + 2 * levels r + parts r l + frames l
 -- ---- what a sweep asks of the rows
 
 -- one to L levels of bits
-pub record Whole (L : ℕ) (r : List ℕ) : Type 0 where
+pub record InLevels (L : ℕ) (r : List ℕ) : Type 0 where
   pub bits : Bits r
   pub one-level : 1 ≤ length r
   pub levels-only : length r % wide ≡ 0

@@ -8,7 +8,7 @@ use lib.ListN.{length}
 use native.Mathlib.Omega.{arith}
 use Rattle.rows.specs.Rows.{All}
 use Rattle.uid.specs.Order.{Diff, on, off, diff, one, isUp, above}
-use Rattle.sweep_rules.proofs.Abstract.{rest, leave, Up, Top, insert, sort, select, Whole, Apart, Falling, tally}
+use Rattle.sweep_rules.proofs.Abstract.{rest, leave, Up, Top, insert, sort, select, InLevels, Apart, Falling, tally}
 use Rattle.sweep_rules.proofs.Select.{Selected, select-holds}
 use Rattle.sweep_rules.proofs.Sort.{sort-first, all-sort, all-rest, apart-rest, length-rest}
 
@@ -21,7 +21,7 @@ rest-above P (r ∷ S) t = go (diff P r) refl (t .0) (rest-above P S (t .1))
     go (on u) d t ih = ih
     go (off p x) d t ih = (rw (d, t), ih)
 
-falling : (n : ℕ) (S : List (List ℕ)) → length S ≤ n → All (Whole 3) S → Apart S → Falling (sort S)
+falling : (n : ℕ) (S : List (List ℕ)) → length S ≤ n → All (InLevels 3) S → Apart S → Falling (sort S)
 unfolding sort
 falling zero [] h w a = tt
 falling zero (r ∷ S) h w a = absurd (not-suc-le-zero h)
@@ -32,10 +32,10 @@ falling (suc n) (r ∷ S) h w a =
     let k : Selected T (select 3 T) = select-holds 3 T (omega arith) w a in
     rw (sort-first P T (k .top) (k .only)) (
       all-sort (λ s. above P s ≡ true) (rest P T) (rest-above P T (k .top)),
-      falling n (rest P T) (omega (arith, length-rest P T, ap length (k .only))) (all-rest (Whole 3) P T w) (apart-rest P T a),
+      falling n (rest P T) (omega (arith, length-rest P T, ap length (k .only))) (all-rest (InLevels 3) P T w) (apart-rest P T a),
     )
 
-pub sort-falling : (S : List (List ℕ)) → All (Whole 3) S → Apart S → Falling (sort S)
+pub sort-falling : (S : List (List ℕ)) → All (InLevels 3) S → Apart S → Falling (sort S)
 sort-falling S w a = falling (length S) S (omega arith) w a
 
 tally-insert : (f : List ℕ → Bool) (r : List ℕ) (l : List (List ℕ)) → tally f (insert r l) ≡ one (f r) + tally f l

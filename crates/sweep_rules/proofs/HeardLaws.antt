@@ -32,7 +32,7 @@ use Rattle.uid.specs.declared.UidSize.the-variants.{Single, Double, Triple}
 use Rattle.selection.specs.declared.AtqaRead.the-variants.{Atqa}
 use Rattle.selection.specs.declared.RestSays.the-variants.{Whole, Collided}
 
-not-nil : (h : List ℕ) → 1 ≤ length h → isNil h ≡ false
+pub not-nil : (h : List ℕ) → 1 ≤ length h → isNil h ≡ false
 unfolding isNil
 not-nil [] e = absurd (omega arith)
 not-nil (x ∷ h) e = refl

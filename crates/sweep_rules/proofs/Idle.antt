@@ -10,6 +10,7 @@ use Rattle.uid.specs.Uid.{rowOf}
 use Rattle.sweep_rules.specs.Demand.{idle}
 use Rattle.sweep_rules.specs.Terms.{isIdle, isHalt}
 use Rattle.sweep_rules.proofs.Levels.{Sound}
+use Rattle.uid.specs.declared.UidSize.{UidSize}
 use Rattle.card.specs.declared.Card.{Card}
 
 -- a card within the terms
@@ -28,6 +29,10 @@ rowIn c = rowOf (c .uid)
 -- their rows
 unfoldable pub idles : List Card → List (List ℕ)
 idles F = map rowIn (idlers F)
+
+-- their sizes
+unfoldable pub sizes : List Card → List UidSize
+sizes F = map (λ c. c .uid .size) (idlers F)
 
 -- their UIDs
 pub idle-uids : (F : List Card) → idle F ≡ map (λ c. c .uid) (idlers F)

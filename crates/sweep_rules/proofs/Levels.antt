@@ -15,7 +15,7 @@ use Rattle.rows.specs.Rows.{All, Bytes}
 use Rattle.parity.specs.Bits.{bitsOf}
 use Rattle.frame.specs.Frame.{airBits, bytesOf}
 use Rattle.uid.specs.Uid.{air, byteCount, uidBytes, check, level, levelsOf, levels, validOf, rowOf, valid}
-use Rattle.sweep_rules.proofs.Abstract.{wide, Whole, mark, OneLevel, Valid, lev}
+use Rattle.sweep_rules.proofs.Abstract.{wide, InLevels, mark, OneLevel, Valid, lev}
 use Rattle.sweep_rules.proofs.Bytes.{bytes-bits}
 use Rattle.sweep_rules.proofs.Check.{Checked}
 use Rattle.sweep_rules.proofs.LevelBits.{length-airBits, bits-airBits, not-mark, a-mark, lev-air, airBits-append, airBits-one, all-getD}
@@ -150,7 +150,7 @@ module _ (c : Uid) (s : Sound c) where
   unfolding levels valid
   card-valid = valid-bits (c .bytes) (s .ten) (s .bytes) (c .size) (s .is-valid)
 
-  pub card-whole : Whole 3 (rowOf c)
+  pub card-whole : InLevels 3 (rowOf c)
   unfolding rowOf
   card-whole = whole-valid (map airBits (levels c)) card-valid
 

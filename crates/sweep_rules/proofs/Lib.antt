@@ -23,3 +23,6 @@ pub mod Round
 pub mod HeardLaws
 pub mod SakLaws
 pub mod LogSize
+pub mod Known
+pub mod Model
+pub mod Demand3

@@ -10,7 +10,7 @@ use lib.ListN.{length, length-append}
 use lib.Dec.{ltb}
 use native.Mathlib.Omega.{arith}
 use Rattle.rows.specs.Rows.{clean, next, any, All, isNil, Bits}
-use Rattle.sweep_rules.proofs.Abstract.{strips, rest, heard, wide, level, select, sweep, sort, frames, Whole, Apart}
+use Rattle.sweep_rules.proofs.Abstract.{strips, rest, heard, wide, level, select, sweep, sort, frames, InLevels, Apart}
 use Rattle.sweep_rules.proofs.First.{strips-nil, strips-append}
 use Rattle.sweep_rules.proofs.Level.{all-strips, bits-right, Level}
 use Rattle.sweep_rules.proofs.Select.{Selected, select-holds, apart-strips, ended, whole-wide, whole-next, level-whole}
@@ -94,7 +94,7 @@ none-nil [] e = tt
 none-nil ([] ∷ T) e = absurd (true≢false e)
 none-nil ((x ∷ t) ∷ T) e = (refl, none-nil T e)
 
-whole-some : (L : ℕ) (T : List (List ℕ)) → 1 ≤ length T → All (Whole L) T → 1 ≤ L
+whole-some : (L : ℕ) (T : List (List ℕ)) → 1 ≤ length T → All (InLevels L) T → 1 ≤ L
 whole-some zero [] h w = absurd (not-suc-le-zero h)
 whole-some zero (r ∷ T) h w = absurd (omega (arith, w .0 .one-level, w .0 .at-most))
 whole-some (suc L) T h w = omega arith
@@ -159,7 +159,7 @@ module _ (M : Machine) where
             (M .law-clash (suc (q .1) + f) B j n P Q R (more (suc (q .1)) v) hB o (rw (← eT) c)
             (rw (← eT) (ih (s .fit .0) (s .fit .1) (rw (← eT) at (M .law-early B j n P Q R hB o (rw (← eT) c))) (s .left) (e ∙ sym (append-assoc (Q ++ R) R′ (q .0))))))
 
-    select-run : (L : ℕ) (P : List ℕ) (j f : ℕ) → length P ≡ wide * j → L + j ≤ 3 → (T : List (List ℕ)) → T ≡ strips P (idles B) → 1 ≤ length T → All (Whole L) T → Apart T
+    select-run : (L : ℕ) (P : List ℕ) (j f : ℕ) → length P ≡ wide * j → L + j ≤ 3 → (T : List (List ℕ)) → T ≡ strips P (idles B) → 1 ≤ length T → All (InLevels L) T → Apart T
         → (v : Vw) → go f (closing B (P ++ select L T .0)) ≡ v → go (select L T .1 + f) (opened B j P [] []) ≡ more (select L T .1) v
     unfolding select
     select-run zero P j f hP hj T eT h w a v k = absurd (omega (arith, whole-some 0 T h w))
@@ -204,7 +204,7 @@ module _ (M : Machine) where
             hB (omega arith) hP (rw e₁ (sym (l .full))) (rw (e₁, ← eT′) (l .left)) (rw (e₁, ← eT′) (none-nil T′ e)) (rw e₁ (ih e (rw append-assoc k))))))
 
   -- a round in which a card is found, and then the others
-  round-run : (f : ℕ) (B : Base) (T : List (List ℕ)) → Good B → idles B ≡ T → 1 ≤ length T → All (Whole 3) T → Apart T → (w : List (List ℕ) × ℕ)
+  round-run : (f : ℕ) (B : Base) (T : List (List ℕ)) → Good B → idles B ≡ T → 1 ≤ length T → All (InLevels 3) T → Apart T → (w : List (List ℕ) × ℕ)
       → go (w .1 + f) (asking (shut (select 3 T .0) B)) ≡ (map name (w .0), w .1, final (shut (select 3 T .0) B))
       → go (2 + select 3 T .1 + w .1 + f) (asking B) ≡ (name (select 3 T .0) ∷ map name (w .0), 2 + select 3 T .1 + w .1, final B)
   round-run f B T hB e h wh a w k =
@@ -217,7 +217,7 @@ module _ (M : Machine) where
       (M .law-hlt (w .1 + f) B (s .0) (map name (w .0), w .1, final B) hB (rw e (select-holds 3 T h wh a .only))
       (k ∙ ap (λ G. (map name (w .0), w .1, G)) (final-shut (s .0) B)))))
 
-  pub machine-sweep : (n f : ℕ) (B : Base) (S : List (List ℕ)) → Good B → idles B ≡ S → length S ≤ n → All (Whole 3) S → Apart S
+  pub machine-sweep : (n f : ℕ) (B : Base) (S : List (List ℕ)) → Good B → idles B ≡ S → length S ≤ n → All (InLevels 3) S → Apart S
       → go (sweep n S .1 + f) (asking B) ≡ (map name (sweep n S .0), sweep n S .1, final B)
   unfolding sweep
   machine-sweep zero f B [] hB e h w a = rw one-add (M .law-stop f B hB e)
@@ -229,10 +229,10 @@ module _ (M : Machine) where
       let s : Selected T (select 3 T) = select-holds 3 T (omega arith) w a in
       round-run f B T hB e (omega arith) w a (sweep n (rest P T))
       (machine-sweep n f (shut P B) (rest P T) (good-shut P B hB) (idles-shut P B hB ∙ ap (rest P) e)
-      (omega (arith, length-rest P T, ap length (s .only))) (all-rest (Whole 3) P T w) (apart-rest P T a))
+      (omega (arith, length-rest P T, ap length (s .only))) (all-rest (InLevels 3) P T w) (apart-rest P T a))
 
   -- any fuel that is enough
-  pub machine-swept : (g : ℕ) (B : Base) → Good B → All (Whole 3) (idles B) → Apart (idles B) → frames (sort (idles B)) ≤ g
+  pub machine-swept : (g : ℕ) (B : Base) → Good B → All (InLevels 3) (idles B) → Apart (idles B) → frames (sort (idles B)) ≤ g
       → go g (asking B) ≡ (map name (sort (idles B)), frames (sort (idles B)), final B)
   machine-swept g B hB w a h =
       let S : List (List ℕ) = idles B in

@@ -24,7 +24,7 @@ use Rattle.sweep_rules.proofs.Abstract.{strips, leave, rest, wide}
 use Rattle.sweep_rules.proofs.Bytes.{length-bytes}
 use Rattle.sweep_rules.proofs.First.{put}
 use Rattle.sweep_rules.proofs.Frames.{length-hlta, length-anti, length-select}
-use Rattle.sweep_rules.proofs.Idle.{Fits, idlers, rowIn, idles, all-idle}
+use Rattle.sweep_rules.proofs.Idle.{Fits, idlers, rowIn, idles, sizes, all-idle}
 use Rattle.sweep_rules.proofs.Merge.{merge-same}
 use Rattle.sweep_rules.proofs.OneCard.{idle-else, halt-else, sit₁, said, saked, card-anti, card-sel}
 use Rattle.sweep_rules.proofs.Seal.{seal}
@@ -191,42 +191,53 @@ saked-last l b (some []) h = refl
 saked-last l b (some (x ∷ t)) h = absurd (false≢true (h (x ∷ t) refl))
 saked-last l b none h = refl
 
+-- the card whose row begins with W, if one does, speaks blocks
+unfoldable pub thisOr : Option (List ℕ) → Bool → Bool → Bool
+thisOr (some t) b d = b
+thisOr none b d = d
+
+unfoldable pub speaks : List ℕ → List Card → Bool
+unfolding thisOr
+speaks W [] = false
+speaks W (c ∷ cs) = thisOr (strip W (rowIn c)) (c .blocks) (speaks W cs)
+
 -- rows of which none begins with W are silent, and where one does it alone is heard
-module _ (G : Card → Option (List ℕ) → List ℕ) (W : List ℕ) where
-  none-answers : (cs : List Card) → ((c : Card) → G c none ≡ []) → strips W (map rowIn cs) ≡ [] → merge (map (λ c. G c (strip W (rowIn c))) cs) ≡ []
+module _ (G : Bool → Option (List ℕ) → List ℕ) (W : List ℕ) where
+  none-answers : (cs : List Card) → ((b : Bool) → G b none ≡ []) → strips W (map rowIn cs) ≡ [] → merge (map (λ c. G (c .blocks) (strip W (rowIn c))) cs) ≡ []
   unfolding merge join put
   none-answers [] z e = refl
   none-answers (c ∷ cs) z e = go (strip W (rowIn c)) (rw strips-put at e) (none-answers cs z)
     where
-      go : (o : Option (List ℕ)) → put o (strips W (map rowIn cs)) ≡ [] → (strips W (map rowIn cs) ≡ [] → merge (map (λ c. G c (strip W (rowIn c))) cs) ≡ [])
-          → join (G c o) (merge (map (λ c. G c (strip W (rowIn c))) cs)) ≡ []
+      go : (o : Option (List ℕ)) → put o (strips W (map rowIn cs)) ≡ [] → (strips W (map rowIn cs) ≡ [] → merge (map (λ c. G (c .blocks) (strip W (rowIn c))) cs) ≡ [])
+          → join (G (c .blocks) o) (merge (map (λ c. G (c .blocks) (strip W (rowIn c))) cs)) ≡ []
       go (some t) e ih = absurd (cons≢nil e)
-      go none e ih = rw (z c) (ih e)
+      go none e ih = rw (z (c .blocks)) (ih e)
 
-  one-answers : (cs : List Card) → ((c : Card) → G c none ≡ []) → strips W (map rowIn cs) ≡ [] ∷ []
-      → (c : Card) × (merge (map (λ c. G c (strip W (rowIn c))) cs) ≡ G c (some []))
-  unfolding merge join put strips
+  one-answers : (cs : List Card) → ((b : Bool) → G b none ≡ []) → strips W (map rowIn cs) ≡ [] ∷ []
+      → merge (map (λ c. G (c .blocks) (strip W (rowIn c))) cs) ≡ G (speaks W cs) (some [])
+  unfolding merge join put strips speaks thisOr
   one-answers [] z e = absurd (cons≢nil (sym e))
   one-answers (c ∷ cs) z e = go (strip W (rowIn c)) (rw strips-put at e) (one-answers cs z)
     where
       go : (o : Option (List ℕ)) → put o (strips W (map rowIn cs)) ≡ [] ∷ []
-          → (strips W (map rowIn cs) ≡ [] ∷ [] → (k : Card) × (merge (map (λ c. G c (strip W (rowIn c))) cs) ≡ G k (some [])))
-          → (k : Card) × (join (G c o) (merge (map (λ c. G c (strip W (rowIn c))) cs)) ≡ G k (some []))
+          → (strips W (map rowIn cs) ≡ [] ∷ [] → merge (map (λ c. G (c .blocks) (strip W (rowIn c))) cs) ≡ G (speaks W cs) (some []))
+          → join (G (c .blocks) o) (merge (map (λ c. G (c .blocks) (strip W (rowIn c))) cs)) ≡ G (thisOr o (c .blocks) (speaks W cs)) (some [])
       go (some t) e ih =
           let e₁ : t ≡ [] = cc in
           let e₂ : strips W (map rowIn cs) ≡ [] = cc in
-          (c, rw (none-answers cs z e₂, join-nil (G c (some t)), e₁))
-      go none e ih = (ih e .0, rw (z c) (ih e .1))
+          rw (none-answers cs z e₂, join-nil (G (c .blocks) (some t)), e₁)
+      go none e ih = rw (z (c .blocks)) (ih e)
 
 module _ (F : List Card) (hF : All Fits F) where
   pub turn-req : allTake reqa F ≡ at [] (Ready One) F
   unfolding sit₁ strip shape diff
   turn-req = ap (allTake reqa) (sym (at-rest [] F)) ∙ turn-at reqa deaf-reqa [] [] Idle (Ready One) F hF (all-of (λ c. ap (λ z. z .0) (idle-reqa c)) (idlers F))
 
-  pub hear-req : heardFrom reqa F ≡ merge (map (λ c. atqa (c .uid .size)) (idlers F))
-  unfolding sit₁ strip shape diff
+  pub hear-req : heardFrom reqa F ≡ merge (map atqa (sizes F))
+  unfolding sit₁ strip shape diff sizes
   hear-req = ap (heardFrom reqa) (sym (at-rest [] F)) ∙ hear-at reqa deaf-reqa [] Idle F hF
-      ∙ ap merge (map-all (λ c. rules c Idle reqa .1) (λ c. atqa (c .uid .size)) (idlers F) (all-of (λ c. ap (λ z. z .1) (idle-reqa c)) (idlers F)))
+      ∙ ap merge (map-all (λ c. rules c Idle reqa .1) (λ c. atqa (c .uid .size)) (idlers F) (all-of (λ c. ap (λ z. z .1) (idle-reqa c)) (idlers F))
+      ∙ sym (map-map atqa (λ c. c .uid .size) (idlers F)))
 
   pub turn-hlt : (W : List ℕ) → allTake hlta (at W Active F) ≡ at W Halt F
   turn-hlt W = turn-at hlta deaf-hlta W W Active Halt F hF (all-of (λ c. ap (λ z. z .0) (sit-hlta c (strip W (rowIn c)))) (idlers F))
@@ -307,16 +318,12 @@ module _ (F : List Card) (hF : All Fits F) where
             (all-zip (idlers F) (λ c e h. ap (λ z. z .0) e ∙ saked-last l (c .blocks) (strip (P ++ K) (rowIn c)) h) all-saked ends)
 
         -- one card answers
-        pub hear-last : (c : Card) × (heardFrom (select l (bytesOf 5 (Q ++ R))) (at (P ++ Q) (Ready l) F) ≡ sakFrame (cond (c .blocks) 0x20 0x00))
+        pub hear-last : heardFrom (select l (bytesOf 5 (Q ++ R))) (at (P ++ Q) (Ready l) F) ≡ sakFrame (cond (speaks (P ++ (Q ++ R)) (idlers F)) 0x20 0x00)
         unfolding g K idles saked
         hear-last =
-            let o : (c : Card) × (merge (map (λ c. saked l (c .blocks) (strip (P ++ K) (rowIn c)) .1) (idlers F)) ≡ saked l (c .blocks) (some []) .1) =
-            one-answers (λ c o. saked l (c .blocks) o .1) (P ++ K) (idlers F) (λ c. refl) last in (
-              o .0,
-              hear-at g deaf-g (P ++ Q) (Ready l) F hF
-                  ∙ ap merge (map-all (λ c. rules c (sit₁ (Ready l) (strip (P ++ Q) (rowIn c))) g .1) (λ c. saked l (c .blocks) (strip (P ++ K) (rowIn c)) .1) (idlers F) (all-weaken (idlers F) (λ c e. ap (λ z. z .1) e) all-saked))
-                  ∙ o .1,
-            )
+            hear-at g deaf-g (P ++ Q) (Ready l) F hF
+            ∙ ap merge (map-all (λ c. rules c (sit₁ (Ready l) (strip (P ++ Q) (rowIn c))) g .1) (λ c. saked l (c .blocks) (strip (P ++ K) (rowIn c)) .1) (idlers F) (all-weaken (idlers F) (λ c e. ap (λ z. z .1) e) all-saked))
+            ∙ one-answers (λ b o. saked l b o .1) (P ++ K) (idlers F) (λ b. refl) last
 
 -- ---- the field after a round
 

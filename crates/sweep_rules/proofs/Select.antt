@@ -8,7 +8,7 @@ use lib.ListN.{length, length-append}
 use native.Mathlib.Omega.{arith}
 use Rattle.rows.specs.Rows.{any, All, isNil}
 use Rattle.uid.specs.Order.{Diff, on, off, later, diff, parts}
-use Rattle.sweep_rules.proofs.Abstract.{keep, strips, Top, level, wide, select, levels, Whole, Off, Apart}
+use Rattle.sweep_rules.proofs.Abstract.{keep, strips, Top, level, wide, select, levels, InLevels, Off, Apart}
 use Rattle.sweep_rules.proofs.First.{strips-append, parts-append}
 use Rattle.sweep_rules.proofs.Level.{diff-on, all-strips, bits-right, top-append, Level, level-holds}
 use Rattle.sweep_rules.proofs.Step.{eqb-same, all-weaken}
@@ -71,11 +71,11 @@ pub all-zip {ℓ} : {A : Type ℓ} {F G H : A → Type 0} (S : List A) → ((r :
 all-zip [] g h k = tt
 all-zip (r ∷ S) g h k = (g r (h .0) (k .0), all-zip S g (h .1) (k .1))
 
-pub whole-wide : (L : ℕ) (r : List ℕ) → Whole L r → wide ≤ length r
+pub whole-wide : (L : ℕ) (r : List ℕ) → InLevels L r → wide ≤ length r
 unfolding wide
 whole-wide L r w = omega (arith, w .one-level, w .levels-only)
 
-pub whole-right : (L : ℕ) (Q t : List ℕ) → length Q ≡ wide → Whole (suc L) (Q ++ t) → 1 ≤ length t → Whole L t
+pub whole-right : (L : ℕ) (Q t : List ℕ) → length Q ≡ wide → InLevels (suc L) (Q ++ t) → 1 ≤ length t → InLevels L t
 unfolding wide
 whole-right L Q t e w h = record {
   bits = bits-right Q t (w .bits);
@@ -93,15 +93,15 @@ unfolding levels wide
 levels-one Q e = rw e
 
 -- what is left after a whole level, where none is used up
-pub whole-next : (L : ℕ) (Q : List ℕ) (T : List (List ℕ)) → length Q ≡ wide → All (Whole (suc L)) T → any isNil (strips Q T) ≡ false → All (Whole L) (strips Q T)
+pub whole-next : (L : ℕ) (Q : List ℕ) (T : List (List ℕ)) → length Q ≡ wide → All (InLevels (suc L)) T → any isNil (strips Q T) ≡ false → All (InLevels L) (strips Q T)
 whole-next L Q T e w o =
-    all-zip (strips Q T) (λ t f h. f h) (all-strips (Whole (suc L)) (λ t. 1 ≤ length t → Whole L t) Q T (λ t. whole-right L Q t e) w)
+    all-zip (strips Q T) (λ t f h. f h) (all-strips (InLevels (suc L)) (λ t. 1 ≤ length t → InLevels L t) Q T (λ t. whole-right L Q t e) w)
     (open-ended (strips Q T) o)
 
-pub level-whole : (L : ℕ) (T : List (List ℕ)) → 1 ≤ length T → All (Whole L) T → Level wide T (level wide wide T)
+pub level-whole : (L : ℕ) (T : List (List ℕ)) → 1 ≤ length T → All (InLevels L) T → Level wide T (level wide wide T)
 level-whole L T h w = level-holds wide wide T (omega arith) h (all-weaken T (whole-wide L) w) (all-weaken T (λ r x. x .bits) w)
 
-pub select-holds : (L : ℕ) (T : List (List ℕ)) → 1 ≤ length T → All (Whole L) T → Apart T → Selected T (select L T)
+pub select-holds : (L : ℕ) (T : List (List ℕ)) → 1 ≤ length T → All (InLevels L) T → Apart T → Selected T (select L T)
 unfolding select
 select-holds zero [] h w a = absurd (not-suc-le-zero h)
 select-holds zero (r ∷ T) h w a = absurd (omega (arith, w .0 .one-level, w .0 .at-most))

@@ -11,7 +11,7 @@ use native.Mathlib.Numerals.{sub-one}
 use native.Mathlib.Nat.{not-suc-le-zero}
 use Rattle.rows.specs.Rows.{any, All}
 use Rattle.uid.specs.Order.{Diff, on, off, later, diff, one, count, partsAt, parts}
-use Rattle.sweep_rules.proofs.Abstract.{rest, wide, select, sweep, sort, levels, frames, Whole, Apart}
+use Rattle.sweep_rules.proofs.Abstract.{rest, wide, select, sweep, sort, levels, frames, InLevels, Apart}
 use Rattle.sweep_rules.proofs.First.{count-cong}
 use Rattle.sweep_rules.proofs.Select.{Selected, select-holds}
 use Rattle.sweep_rules.proofs.Sort.{sort-first, parts-sort, all-sort, length-sort, all-rest, apart-rest, length-rest}
@@ -36,7 +36,7 @@ round T s w k e =
     let same : parts (s .0) T ≡ parts (s .0) l = sym (parts-sort (s .0) T) ∙ ap (parts (s .0)) first ∙ parts-self (s .0) l in
     rw (e, first) (ap (λ m. (s .0 ∷ l, m)) (omega (arith, k .cost)))
 
-pub sweep-holds : (n : ℕ) (S : List (List ℕ)) → length S ≤ n → All (Whole 3) S → Apart S → sweep n S ≡ (sort S, frames (sort S))
+pub sweep-holds : (n : ℕ) (S : List (List ℕ)) → length S ≤ n → All (InLevels 3) S → Apart S → sweep n S ≡ (sort S, frames (sort S))
 unfolding sweep sort frames
 sweep-holds zero [] h w a = refl
 sweep-holds zero (r ∷ S) h w a = absurd (not-suc-le-zero h)
@@ -46,7 +46,7 @@ sweep-holds (suc n) (r ∷ S) h w a =
     let s : List ℕ × ℕ = select 3 T in
     let k : Selected T s = select-holds 3 T (omega arith) w a in
     round T s (sweep n (rest (s .0) T)) k
-    (sweep-holds n (rest (s .0) T) (omega (arith, length-rest (s .0) T, ap length (k .only))) (all-rest (Whole 3) (s .0) T w) (apart-rest (s .0) T a))
+    (sweep-holds n (rest (s .0) T) (omega (arith, length-rest (s .0) T, ap length (k .only))) (all-rest (InLevels 3) (s .0) T w) (apart-rest (s .0) T a))
 
 -- ---- the bound
 
@@ -88,7 +88,7 @@ parts-le P [] = rw count-none (omega arith)
 parts-le P (r ∷ S) =
     omega (arith, count-or (length P) (λ q. partsAt q (diff P r)) (λ q. any (λ r. partsAt q (diff P r)) S), count-parts (length P) (diff P r), parts-le P S)
 
-levels-le : (r : List ℕ) → Whole 3 r → levels r ≤ 3
+levels-le : (r : List ℕ) → InLevels 3 r → levels r ≤ 3
 unfolding levels wide
 levels-le r w = omega (arith, w .at-most)
 
@@ -106,13 +106,13 @@ unfolding tri
 tri-is zero = refl
 tri-is (suc n) = rw sub-one (omega (arith, twice-tri n))
 
-frames-tri : (l : List (List ℕ)) → All (Whole 3) l → frames l ≤ 1 + 8 * length l + tri (length l)
+frames-tri : (l : List (List ℕ)) → All (InLevels 3) l → frames l ≤ 1 + 8 * length l + tri (length l)
 unfolding frames tri
 frames-tri [] w = omega arith
 frames-tri (r ∷ l) w = omega (arith, levels-le r (w .0), parts-le r l, frames-tri l (w .1))
 
-pub sweep-bound : (S : List (List ℕ)) → All (Whole 3) S → frames (sort S) ≤ 1 + 8 * length S + length S * (length S - 1) / 2
-sweep-bound S w = rw (← tri-is (length S)) (rw length-sort at (frames-tri (sort S) (all-sort (Whole 3) S w)))
+pub sweep-bound : (S : List (List ℕ)) → All (InLevels 3) S → frames (sort S) ≤ 1 + 8 * length S + length S * (length S - 1) / 2
+sweep-bound S w = rw (← tri-is (length S)) (rw length-sort at (frames-tri (sort S) (all-sort (InLevels 3) S w)))
 
 tri-mono : (n m : ℕ) → n ≤ m → tri n ≤ tri m
 unfolding tri
@@ -121,6 +121,6 @@ tri-mono (suc n) zero h = absurd (not-suc-le-zero h)
 tri-mono (suc n) (suc m) h = omega (arith, tri-mono n m (omega arith))
 
 -- 16 cards take at most 249 frames
-pub frames-small : (S : List (List ℕ)) → All (Whole 3) S → length S ≤ 16 → frames (sort S) ≤ 249
+pub frames-small : (S : List (List ℕ)) → All (InLevels 3) S → length S ≤ 16 → frames (sort S) ≤ 249
 unfolding tri
-frames-small S w h = omega (arith, rw length-sort at (frames-tri (sort S) (all-sort (Whole 3) S w)), tri-mono (length S) 16 h)
+frames-small S w h = omega (arith, rw length-sort at (frames-tri (sort S) (all-sort (InLevels 3) S w)), tri-mono (length S) 16 h)

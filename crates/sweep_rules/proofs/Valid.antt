@@ -10,7 +10,7 @@ use Rattle.rows.specs.ListLaws.{all-append}
 use Rattle.rows.specs.Rows.{All, Bits}
 use Rattle.uid.specs.Order.{Diff, on, off, diff}
 use Rattle.uid.specs.Uid.{air}
-use Rattle.sweep_rules.proofs.Abstract.{wide, Whole, Off, Apart, OneLevel, Valid, Distinct}
+use Rattle.sweep_rules.proofs.Abstract.{wide, InLevels, Off, Apart, OneLevel, Valid, Distinct}
 use Rattle.sweep_rules.proofs.Level.{diff-on}
 
 -- equal rows with first parts of one length have equal first and second parts
@@ -79,7 +79,7 @@ unfolding air wide
 length-air [] v = refl
 length-air (l ∷ ls) v = rw (length-append l (air ls), length-air ls (v .1), v .0 .full) (omega arith)
 
-pub whole-valid : (a : List (List ℕ)) → Valid 3 a → Whole 3 (air a)
+pub whole-valid : (a : List (List ℕ)) → Valid 3 a → InLevels 3 (air a)
 unfolding wide
 whole-valid a v =
     let i : All OneLevel a × (1 ≤ length a) × (length a ≤ 3) = levels-all 3 a v in
