@@ -2,8 +2,8 @@
 use mathlib.Core.Path.{_≡_, refl, ap}
 use Prim.Native.Nat.{ℕ, zero, suc, _+_, _-_, _*_, _≤_, _<_, min}
 use mathlib.Core.List.{List, [], _∷_, _++_, append-assoc, append-nil}
-use lib.ListN.{length, take, drop, replicate, length-append, length-take, length-drop, length-replicate, take-append-drop, replicate-append-replicate, drop-of-length-le}
-use lib.Seq.{take-at, drop-at, take-all, take-append-seam}
+use lib.ListN.{length, take, drop, replicate, length-take, length-drop, take-append-drop, replicate-append-replicate, drop-of-length-le}
+use lib.Seq.{take-at, drop-at, take-all}
 use mathlib.Core.Bool.{Bool, true, false}
 use lib.Dec.{ltb}
 use borrow.Author.Tests.{ltb-true, ltb-false}
@@ -56,15 +56,6 @@ pub length-bytes : (n : ℕ) (d : List ℕ) → length (bytesOf n d) ≡ n
 unfolding bytesOf
 length-bytes zero d = refl
 length-bytes (suc n) d = ap suc (length-bytes n (drop 8 d))
-
-pub length-fill : (n : ℕ) (l : List ℕ) → length l ≤ n → length (fill n l) ≡ n
-unfolding fill
-length-fill n l h = rw (length-append, length-replicate) (omega arith)
-
--- the first k bits of a row's bytes
-pub bits-bytes-take : (n : ℕ) (d : List ℕ) → Bits d → length d ≤ 8 * n → take (length d) (airBits (bytesOf n d)) ≡ d
-unfolding fill
-bits-bytes-take n d b h = rw (bits-bytes n d b h) (take-append-seam d (replicate (8 * n - length d) 0))
 
 -- all of them
 pub bits-bytes-all : (n : ℕ) (d : List ℕ) → Bits d → length d ≡ 8 * n → airBits (bytesOf n d) ≡ d

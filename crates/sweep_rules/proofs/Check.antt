@@ -7,12 +7,12 @@ use mathlib.Core.List.{List, _++_, append-assoc}
 use lib.ListN.{length, take, drop, length-append}
 use lib.Seq.{drop-at, take-append-add, take-take}
 use native.Mathlib.Omega.{arith}
+use Rattle.rows.specs.EachLaws.{all-zip}
 use Rattle.rows.specs.Rows.{clean, next, All}
 use Rattle.sweep_rules.proofs.Abstract.{strips, heard, wide, lev}
 use Rattle.sweep_rules.proofs.Level.{all-strips}
 use Rattle.sweep_rules.proofs.Machine.{Open}
 use Rattle.sweep_rules.proofs.Merge.{check-early}
-use Rattle.sweep_rules.proofs.Select.{all-zip}
 
 -- in each whole level the last byte is what `check` makes of the first 32 bits
 abbrev pub Checked : (List ℕ → List ℕ) → List ℕ → Type 0

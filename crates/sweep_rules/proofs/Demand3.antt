@@ -9,6 +9,7 @@ use lib.Dec.{leb}
 use borrow.Author.Tests.{leb-true, le-ltb, not-true}
 use native.Mathlib.Omega.{arith}
 use Rattle.sweep_rules.proofs.Abstract
+use Rattle.rows.specs.EachLaws.{all-zip, all-map}
 use Rattle.rows.specs.ListLaws.{both, same-eq}
 use Rattle.rows.specs.Rows.{All, any, same}
 use Rattle.frame.specs.Frame.{airBits}
@@ -28,9 +29,7 @@ use Rattle.sweep_rules.proofs.Levels.{Sound, name, card-valid, length-r
 use Rattle.sweep_rules.proofs.LogSize.{small-all, log-length, list-length}
 use Rattle.sweep_rules.proofs.Model.{view, whole-idles, model-swept}
 use Rattle.sweep_rules.proofs.Order.{map-sort}
-use Rattle.sweep_rules.proofs.Select.{all-zip}
 use Rattle.sweep_rules.proofs.Sort.{length-sort}
-use Rattle.sweep_rules.proofs.Step.{all-map}
 use Rattle.sweep_rules.proofs.Sweep.{sweep-bound, frames-small}
 use Rattle.sweep_rules.proofs.Valid.{apart-valid}
 use Rattle.uid.specs.declared.Uid.{Uid}

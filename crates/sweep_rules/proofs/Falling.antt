@@ -1,14 +1,14 @@
 -- The sort is in falling order, and a permutation. Assumes nothing.
 use mathlib.Core.Path.{_≡_, refl, ap}
-use Prim.Native.Nat.{ℕ, zero, suc, _+_, _≤_}
+use Prim.Native.Nat.{ℕ, zero, suc, _≤_}
 use native.Mathlib.Nat.{not-suc-le-zero}
-use mathlib.Core.Bool.{Bool, true, false, cond}
+use mathlib.Core.Bool.{true}
 use mathlib.Core.List.{List, [], _∷_}
 use lib.ListN.{length}
 use native.Mathlib.Omega.{arith}
 use Rattle.rows.specs.Rows.{All}
-use Rattle.uid.specs.Order.{Diff, on, off, diff, one, isUp, above}
-use Rattle.sweep_rules.proofs.Abstract.{rest, leave, Up, Top, insert, sort, select, InLevels, Apart, Falling, tally}
+use Rattle.uid.specs.Order.{Diff, on, off, diff, isUp, above}
+use Rattle.sweep_rules.proofs.Abstract.{rest, leave, Up, Top, sort, select, InLevels, Apart, Falling}
 use Rattle.sweep_rules.proofs.Select.{Selected, select-holds}
 use Rattle.sweep_rules.proofs.Sort.{sort-first, all-sort, all-rest, apart-rest, length-rest}
 
@@ -38,16 +38,3 @@ falling (suc n) (r ∷ S) h w a =
 pub sort-falling : (S : List (List ℕ)) → All (InLevels 3) S → Apart S → Falling (sort S)
 sort-falling S w a = falling (length S) S (omega arith) w a
 
-tally-insert : (f : List ℕ → Bool) (r : List ℕ) (l : List (List ℕ)) → tally f (insert r l) ≡ one (f r) + tally f l
-unfolding tally insert
-tally-insert f r [] = refl
-tally-insert f r (s ∷ l) = go (above r s) (tally-insert f r l)
-  where
-    go : (b : Bool) → tally f (insert r l) ≡ one (f r) + tally f l → tally f (cond b (r ∷ s ∷ l) (s ∷ insert r l)) ≡ one (f r) + (one (f s) + tally f l)
-    go true ih = refl
-    go false ih = omega arith
-
-pub sort-tally : (f : List ℕ → Bool) (S : List (List ℕ)) → tally f (sort S) ≡ tally f S
-unfolding tally sort
-sort-tally f [] = refl
-sort-tally f (r ∷ S) = rw tally-insert (omega (arith, sort-tally f S))

@@ -5,6 +5,7 @@ use mathlib.Core.List.{List, [], _∷_, _++_, append-cancel-left}
 use lib.ListN.{length, take, drop, replicate, length-append, length-take, take-append-drop}
 use lib.Seq.{length-take-le}
 use native.Mathlib.Omega.{arith}
+use Rattle.rows.specs.EachLaws.{parts-equal}
 use Rattle.rows.specs.Rows.{Bits, fill}
 use Rattle.parity.specs.BitLaws.{length-bits}
 use Rattle.crc.specs.Crc.{withCrc, crcBytes}
@@ -15,7 +16,6 @@ use Rattle.card.specs.Card.{bitsSent}
 use Rattle.sweep_rules.proofs.Bytes.{bits-bytes, length-bytes}
 use Rattle.sweep_rules.proofs.LevelBits.{length-airBits, airBits-append}
 use Rattle.sweep_rules.proofs.Seal.{seal, standard-seal, take-seal, seal-same}
-use Rattle.sweep_rules.proofs.Valid.{parts-equal}
 use Rattle.uid.specs.declared.Level.{Level}
 
 pub length-reqa : length reqa ≡ 7

@@ -8,8 +8,10 @@ use lib.Seq.{drop-drop}
 use lib.Dec.{eqb, ltb}
 use borrow.Author.Tests.{le-ltb}
 use native.Mathlib.Omega.{arith}
+use Rattle.rows.specs.CleanLaws.{next-clean, not-nil, clean-append, next-append}
+use Rattle.rows.specs.EachLaws.{all-map, all-weaken}
 use Rattle.rows.specs.ListLaws.{map-all, all-of, same-refl, all-take, all-append}
-use Rattle.rows.specs.Rows.{All, clean, next, isNil, Bits, same}
+use Rattle.rows.specs.Rows.{All, clean, next, Bits, same}
 use Rattle.parity.specs.Bits.{bitsOf, odd}
 use Rattle.frame.specs.Frame.{airBits, standard, dataOf, bytesOf, faulty, airByte}
 use Rattle.frame.specs.FrameLaws.{length-standard}
@@ -22,20 +24,13 @@ use Rattle.sweep_rules.proofs.Bytes.{bytes-fit, length-bytes, bits-byte
 use Rattle.sweep_rules.proofs.Frames.{sent-known}
 use Rattle.sweep_rules.proofs.LevelBits.{length-airBits, bits-airBits}
 use Rattle.sweep_rules.proofs.Levels.{checkOf, Five, five-is, take-level, airBits-level}
-use Rattle.sweep_rules.proofs.Machine.{next-clean}
 use Rattle.sweep_rules.proofs.Merge.{merge-append, length-merge, merge-same}
 use Rattle.sweep_rules.proofs.Seal.{seal, standard-seal, take-seal, length-seal, data-seal, faulty-seal}
-use Rattle.sweep_rules.proofs.Step.{all-map, all-weaken, bit-two}
 use Rattle.refusal.specs.declared.Refusal.the-variants.{Collision, Check}
 use Rattle.uid.specs.declared.UidSize.{UidSize}
 use Rattle.uid.specs.declared.UidSize.the-variants.{Single, Double, Triple}
 use Rattle.selection.specs.declared.AtqaRead.the-variants.{Atqa}
 use Rattle.selection.specs.declared.RestSays.the-variants.{Whole, Collided}
-
-pub not-nil : (h : List ℕ) → 1 ≤ length h → isNil h ≡ false
-unfolding isNil
-not-nil [] e = absurd (omega arith)
-not-nil (x ∷ h) e = refl
 
 -- ---- ATQA
 
@@ -79,16 +74,6 @@ module _ (zs : List UidSize) (some : 1 ≤ length zs) where
   reads-atqa = rw (not-nil (merge (map atqa zs)) (omega (arith, length-atqas)), length-atqas, sound-atqas, front)
 
 -- ---- the answer to ANTICOLLISION
-
-clean-append : (K H : List ℕ) → Bits K → clean (K ++ H) ≡ clean H
-unfolding clean
-clean-append [] H b = refl
-clean-append (x ∷ K) H b = rw (bit-two x (b .0)) (clean-append K H (b .1))
-
-next-append : (K H : List ℕ) → Bits K → next (K ++ H) ≡ K ++ next H
-unfolding next
-next-append [] H b = refl
-next-append (x ∷ K) H b = rw (bit-two x (b .0)) (ap (λ l. x ∷ l) (next-append K H (b .1)))
 
 or-false : (a b : Bool) → (a || b) ≡ false → b ≡ false
 or-false true b e = absurd (mathlib.Core.Bool.true≢false e)

@@ -7,6 +7,7 @@ use mathlib.Core.List.{List, [], _++_, map}
 use lib.ListN.{length, take, drop, replicate, length-append, length-take, length-drop}
 use lib.Seq.{take-at, drop-at, take-all, take-append-le, drop-append-le}
 use native.Mathlib.Omega.{arith}
+use Rattle.rows.specs.CleanLaws.{not-nil}
 use Rattle.rows.specs.Rows.{isNil, fill}
 use Rattle.parity.specs.Bits.{unbits}
 use Rattle.frame.specs.Frame.{bytesOf}
@@ -18,7 +19,7 @@ use Rattle.reader.specs.Reader.{reader, blank, hear, longer, afterSak, hearSile
 use Rattle.field.specs.Merge.{merge}
 use Rattle.sweep_rules.proofs.Abstract.{wide, InLevels, lev}
 use Rattle.sweep_rules.proofs.Bytes.{length-bytes}
-use Rattle.sweep_rules.proofs.HeardLaws.{length-atqas, reads-atqa, not-nil}
+use Rattle.sweep_rules.proofs.HeardLaws.{length-atqas, reads-atqa}
 use Rattle.sweep_rules.proofs.Levels.{soFar, name}
 use Rattle.sweep_rules.proofs.SakLaws.{reads-more, reads-last}
 use Rattle.uid.specs.declared.Level.{Level}

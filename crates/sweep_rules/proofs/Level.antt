@@ -7,6 +7,7 @@ use mathlib.Core.Option.{Option, none, some}
 use mathlib.Core.List.{List, [], _∷_, _++_}
 use lib.ListN.{length, length-append}
 use native.Mathlib.Omega.{arith}
+use Rattle.rows.specs.EachLaws.{bits-right}
 use Rattle.rows.specs.Rows.{clean, next, All, Bits}
 use Rattle.uid.specs.Order.{Diff, on, off, later, diff, one, parts}
 use Rattle.sweep_rules.proofs.Abstract.{keep, strips, heard, Up, Top, level}
@@ -38,10 +39,6 @@ all-strips F G P (r ∷ S) g h = go (diff P r) refl (all-strips F G P S g (h .1)
     go : (D : Diff) → diff P r ≡ D → All G (strips P S) → All G (keep D (strips P S))
     go (on t) e ih = (g t (rw (diff-on P r t e) at (h .0)), ih)
     go (off p x) e ih = ih
-
-pub bits-right : (P t : List ℕ) → Bits (P ++ t) → Bits t
-bits-right [] t h = h
-bits-right (x ∷ P) t h = bits-right P t (h .1)
 
 -- ---- first P, then Q
 

@@ -58,7 +58,3 @@ lev-air (suc j) (l ∷ ls) v h =
     let e : wide * suc j ≡ length l + wide * j = rw (v .0 .full) (omega arith) in
     rw (e, drop-append-add l (air ls) (wide * j)) (lev-air j ls (v .1) (omega arith))
 
-pub all-getD : (G : List ℕ → Type 0) (j : ℕ) (ls : List (List ℕ)) → All G ls → j < length ls → G (getD ls j [])
-all-getD G j [] v h = absurd (not-suc-le-zero h)
-all-getD G zero (l ∷ ls) v h = v .0
-all-getD G (suc j) (l ∷ ls) v h = all-getD G j ls (v .1) (omega arith)

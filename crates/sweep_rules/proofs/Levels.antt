@@ -10,6 +10,7 @@ use lib.Bits.{xor-lt}
 use lib.Dec.{eqb}
 use borrow.Author.Tests.{eqb-false, not-true}
 use native.Mathlib.Omega.{arith}
+use Rattle.rows.specs.EachLaws.{all-getD, all-map}
 use Rattle.rows.specs.ListLaws.{all-drop, all-append, all-take}
 use Rattle.rows.specs.Rows.{All, Bytes}
 use Rattle.parity.specs.Bits.{bitsOf}
@@ -18,8 +19,7 @@ use Rattle.uid.specs.Uid.{air, byteCount, uidBytes, check, level, levelsOf, lev
 use Rattle.sweep_rules.proofs.Abstract.{wide, InLevels, mark, OneLevel, Valid, lev}
 use Rattle.sweep_rules.proofs.Bytes.{bytes-bits}
 use Rattle.sweep_rules.proofs.Check.{Checked}
-use Rattle.sweep_rules.proofs.LevelBits.{length-airBits, bits-airBits, not-mark, a-mark, lev-air, airBits-append, airBits-one, all-getD}
-use Rattle.sweep_rules.proofs.Step.{all-map}
+use Rattle.sweep_rules.proofs.LevelBits.{length-airBits, bits-airBits, not-mark, a-mark, lev-air, airBits-append, airBits-one}
 use Rattle.sweep_rules.proofs.Valid.{length-air, whole-valid}
 use Rattle.uid.specs.declared.Uid.{Uid}
 use Rattle.uid.specs.declared.UidSize.{UidSize}

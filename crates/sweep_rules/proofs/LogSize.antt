@@ -7,10 +7,10 @@ use lib.ListN.{length, drop, length-append, length-map}
 use lib.Dec.{leb}
 use borrow.Author.Tests.{le-leb, leb-true, leb-false}
 use native.Mathlib.Omega.{arith}
+use Rattle.rows.specs.EachLaws.{length-fill}
 use Rattle.rows.specs.ListLaws.{both}
 use Rattle.rows.specs.Rows.{All, clean, fill}
 use Rattle.log.specs.Log.{packed, pack, header, plain, marks, sentRecord, heardRecord, Exchange, exchangeBytes, logBytes, listBytes, entryBytes}
-use Rattle.sweep_rules.proofs.Bytes.{length-fill}
 
 length-packed : (n : ℕ) (r : List ℕ) → length (packed n r) ≡ n
 unfolding packed

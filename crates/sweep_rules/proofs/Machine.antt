@@ -4,18 +4,19 @@ use mathlib.Core.Path.{_≡_, refl, sym, ap, _∙_}
 use Prim.Native.Nat.{ℕ, zero, suc, _+_, _-_, _*_, _≤_, _<_}
 use native.Mathlib.Nat.{not-suc-le-zero, suc-add, add-sub-of-le}
 use native.Mathlib.Numerals.{one-add}
-use mathlib.Core.Bool.{Bool, true, false, cond, false≢true, true≢false}
+use mathlib.Core.Bool.{Bool, true, false, cond, true≢false}
 use mathlib.Core.List.{List, [], _∷_, _++_, map, append-nil, append-assoc}
 use lib.ListN.{length, length-append}
-use lib.Dec.{ltb}
 use native.Mathlib.Omega.{arith}
+use Rattle.rows.specs.CleanLaws.{next-clean}
+use Rattle.rows.specs.EachLaws.{bits-right, all-weaken}
 use Rattle.rows.specs.Rows.{clean, next, any, All, isNil, Bits}
 use Rattle.sweep_rules.proofs.Abstract.{strips, rest, heard, wide, level, select, sweep, sort, frames, InLevels, Apart}
 use Rattle.sweep_rules.proofs.First.{strips-nil, strips-append}
-use Rattle.sweep_rules.proofs.Level.{all-strips, bits-right, Level}
+use Rattle.sweep_rules.proofs.Level.{all-strips, Level}
 use Rattle.sweep_rules.proofs.Select.{Selected, select-holds, apart-strips, ended, whole-wide, whole-next, level-whole}
 use Rattle.sweep_rules.proofs.Sort.{all-rest, apart-rest, length-rest}
-use Rattle.sweep_rules.proofs.Step.{Step, step, heard-zero, all-weaken}
+use Rattle.sweep_rules.proofs.Step.{Step, step, heard-zero}
 use Rattle.sweep_rules.proofs.Sweep.{sweep-holds}
 
 -- what was found, the number of frames, the cards at the end
@@ -78,15 +79,6 @@ pub record Machine : Type 1 where
       → go f (closing B (P ++ (Q ++ R))) ≡ v → go (suc f) (chosen B j P Q (Q ++ R)) ≡ (v .0, suc (v .1), v .2)
   pub law-hlt : (f : ℕ) (B : Base) (P : List ℕ) (v : View Item End) → Good B → strips P (idles B) ≡ [] ∷ []
       → go f (asking (shut P B)) ≡ v → go (suc f) (closing B P) ≡ (name P ∷ v .0, suc (v .1), v .2)
-
-pub next-clean : (h : List ℕ) → clean h ≡ true → next h ≡ h
-unfolding next clean
-next-clean [] e = refl
-next-clean (x ∷ h) e = go (ltb 1 x) e (next-clean h)
-  where
-    go : (b : Bool) → cond b false (clean h) ≡ true → (clean h ≡ true → next h ≡ h) → cond b (1 ∷ []) (x ∷ next h) ≡ x ∷ h
-    go true e ih = absurd (false≢true e)
-    go false e ih = ap (λ l. x ∷ l) (ih e)
 
 none-nil : (T : List (List ℕ)) → any isNil T ≡ false → All (λ t. isNil t ≡ false) T
 unfolding any isNil

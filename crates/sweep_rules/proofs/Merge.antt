@@ -6,17 +6,18 @@ use native.Mathlib.Nat.{not-suc-le-zero}
 use mathlib.Core.Bool.{Bool, true, false, cond, _||_, true≢false, false≢true}
 use mathlib.Core.Option.{Option, none, some}
 use mathlib.Core.List.{List, [], _∷_, _++_, map, tail, append-assoc, append-cancel-left}
-use lib.ListN.{length, take, length-take}
+use lib.ListN.{length, take}
 use lib.Seq.{take-all}
-use lib.Dec.{T, ltb}
+use lib.Dec.{T}
 use native.Mathlib.Omega.{arith}
+use Rattle.rows.specs.CleanLaws.{eqb-same, bit-two, next-take, bits-clean}
+use Rattle.rows.specs.EachLaws.{all-zip, all-map, all-weaken}
 use Rattle.rows.specs.ListLaws.{all-of, all-take}
 use Rattle.rows.specs.Rows.{clean, next, any, All, Bits}
 use Rattle.field.specs.Merge.{meet, join, merge}
-use Rattle.sweep_rules.proofs.Abstract.{strips, heard, known}
-use Rattle.sweep_rules.proofs.First.{lead, lead-some, out, put, pull, miss, strips-nil, strips-cons}
-use Rattle.sweep_rules.proofs.Select.{all-zip}
-use Rattle.sweep_rules.proofs.Step.{eqb-same, heard-cons, heard-zero, join-nil, pull-all, miss-same, pull-one, long-tail, bits-tail, all-map, all-weaken, bit-two, Step, step}
+use Rattle.sweep_rules.proofs.Abstract.{strips, heard}
+use Rattle.sweep_rules.proofs.First.{lead, lead-some, out, put, pull, miss}
+use Rattle.sweep_rules.proofs.Step.{heard-cons, heard-zero, join-nil, miss-same, long-tail, bits-tail, Step, step}
 
 pub length-heard : (n : ℕ) (T : List (List ℕ)) → 1 ≤ length T → All (λ r. n ≤ length r) T → length (heard n T) ≡ n
 length-heard zero T h l = rw heard-zero
@@ -74,15 +75,6 @@ pub record Clash (n : ℕ) (T : List (List ℕ)) (K : List ℕ) : Type 0 where
   pub zeros : 1 ≤ length (strips (K ++ 0 ∷ []) T)
   pub ones : 1 ≤ length (strips (K ++ 1 ∷ []) T)
 
-pub next-known : (h : List ℕ) → clean h ≡ false → next h ≡ known h ++ 1 ∷ []
-unfolding next known clean
-next-known [] e = absurd (true≢false e)
-next-known (x ∷ h) e = go (ltb 1 x) e (next-known h)
-  where
-    go : (b : Bool) → cond b false (clean h) ≡ false → (clean h ≡ false → next h ≡ known h ++ 1 ∷ []) → cond b (1 ∷ []) (x ∷ next h) ≡ cond b [] (x ∷ known h) ++ 1 ∷ []
-    go true e ih = refl
-    go false e ih = ap (λ l. x ∷ l) (ih e)
-
 some-zero : (S : List (List ℕ)) → All (λ s. 1 ≤ length s) S → All Bits S → miss 1 S ≡ true → 1 ≤ length (pull 0 S)
 unfolding miss any pull lead put out
 some-zero [] h b e = absurd (false≢true e)
@@ -97,40 +89,6 @@ pull-zero zero r S hx h b e = omega arith
 pull-zero (suc zero) r S hx h b e = some-zero S h b e
 pull-zero (suc (suc x)) r S hx h b e = absurd (omega arith)
 
-pub clash-at : (n : ℕ) (T : List (List ℕ)) → 1 ≤ length T → All (λ r. n ≤ length r) T → All Bits T → clean (heard n T) ≡ false → Clash n T (known (heard n T))
-unfolding clean known
-clash-at zero T h l b e = absurd (true≢false (rw heard-zero at e))
-clash-at (suc n) [] h l b e = absurd (not-suc-le-zero h)
-clash-at (suc n) ([] ∷ S) h l b e = absurd (not-suc-le-zero (l .0))
-clash-at (suc n) ((x ∷ r) ∷ S) h l b e =
-    let U : List (List ℕ) = (x ∷ r) ∷ S in
-    rw (heard-cons n x r S (l .1)) (go (miss x S) refl (rw (heard-cons n x r S (l .1)) at e)
-    (clash-at n (map tail U) (omega arith) (all-map (λ r. n ≤ length r) tail U (long-tail n) l) (all-map Bits tail U bits-tail b)))
-  where
-    h′ : List ℕ
-    h′ = heard n (r ∷ map tail S)
-
-    go : (m : Bool) → miss x S ≡ m → clean (cond m 2 x ∷ h′) ≡ false → (clean h′ ≡ false → Clash n (r ∷ map tail S) (known h′))
-        → Clash (suc n) ((x ∷ r) ∷ S) (known (cond m 2 x ∷ h′))
-    go true m e ih =
-        let l₁ : All (λ s. 1 ≤ length s) S = all-weaken {F = λ s. suc n ≤ length s} S (λ s h. omega arith) (l .1) in
-        record {
-          before = omega arith;
-          agree = all-of (λ r. refl) ((x ∷ r) ∷ S);
-          zeros = rw (strips-cons, strips-nil) (pull-zero x r S (b .0 .0) l₁ (b .1) m);
-          ones = rw (strips-cons, strips-nil) (pull-one x r S (b .0 .0) l₁ (b .1) m);
-        }
-    go false m e ih =
-        let U : List (List ℕ) = (x ∷ r) ∷ S in
-        let i : Clash n (r ∷ map tail S) (known h′) = ih (rw (bit-two x (b .0 .0)) at e) in
-        let mU : miss x U ≡ false = miss-same x r S m in
-        rw (bit-two x (b .0 .0)) (record {
-          before = omega (arith, i .before);
-          agree = cons-all (length (known h′)) x (known h′) U mU (i .agree);
-          zeros = rw (strips-cons, pull-all x U mU) (i .zeros);
-          ones = rw (strips-cons, pull-all x U mU) (i .ones);
-        })
-
 -- ---- a check byte: where the first m bits settle all n, the first collision is among the first m
 
 join-self : (x : List ℕ) → join x x ≡ x
@@ -143,21 +101,6 @@ unfolding heard merge
 same-heard n x [] h a = absurd (not-suc-le-zero h)
 same-heard n x (r ∷ []) h a = join-nil (take n r) ∙ a .0
 same-heard n x (r ∷ s ∷ S) h a = ap₂ join (a .0) (same-heard n x (s ∷ S) (omega arith) (a .1)) ∙ join-self x
-
-pub bits-clean : (x : List ℕ) → Bits x → clean x ≡ true
-unfolding clean
-bits-clean [] b = refl
-bits-clean (x ∷ r) b = rw (bit-two x (b .0)) (bits-clean r (b .1))
-
-next-take : (m : ℕ) (h : List ℕ) → clean (take m h) ≡ false → next h ≡ next (take m h)
-unfolding clean next
-next-take zero h e = absurd (true≢false e)
-next-take (suc m) [] e = absurd (true≢false e)
-next-take (suc m) (x ∷ h) e = go (ltb 1 x) e (next-take m h)
-  where
-    go : (b : Bool) → cond b false (clean (take m h)) ≡ false → (clean (take m h) ≡ false → next h ≡ next (take m h)) → cond b (1 ∷ []) (x ∷ next h) ≡ cond b (1 ∷ []) (x ∷ next (take m h))
-    go true e ih = refl
-    go false e ih = ap (λ l. x ∷ l) (ih e)
 
 head-bits : (n : ℕ) (x : List ℕ) (T : List (List ℕ)) → 1 ≤ length T → All Bits T → All (λ r. take n r ≡ x) T → Bits x
 head-bits n x [] h b a = absurd (not-suc-le-zero h)
@@ -184,26 +127,12 @@ clash-early full m n T k h l b t e = go (clean (heard m T)) refl (step m T h lm 
 
 -- ---- lengths, of any rows
 
-pub next-le : (h : List ℕ) → length (next h) ≤ length h
-unfolding next
-next-le [] = omega arith
-next-le (x ∷ h) = go (ltb 1 x) (next-le h)
-  where
-    go : (b : Bool) → length (next h) ≤ length h → length (cond b (1 ∷ []) (x ∷ next h)) ≤ suc (length h)
-    go true i = omega arith
-    go false i = omega arith
-
 join-le : (n : ℕ) (r s : List ℕ) → length r ≤ n → length s ≤ n → length (join r s) ≤ n
 unfolding join
 join-le n [] s h k = k
 join-le n (x ∷ r) [] h k = h
 join-le zero (x ∷ r) (y ∷ s) h k = absurd (not-suc-le-zero h)
 join-le (suc n) (x ∷ r) (y ∷ s) h k = omega (arith, join-le n r s (omega arith) (omega arith))
-
-pub heard-le : (n : ℕ) (T : List (List ℕ)) → length (heard n T) ≤ n
-unfolding heard merge
-heard-le n [] = omega arith
-heard-le n (r ∷ T) = join-le n (take n r) (heard n T) (rw length-take (omega arith)) (heard-le n T)
 
 -- ---- rows in parts, as bytes with their parity: parts of one length are heard part by part
 

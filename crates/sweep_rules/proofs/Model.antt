@@ -7,6 +7,7 @@ use mathlib.Core.Bool.{Bool, true, false, cond}
 use mathlib.Core.List.{List, [], _∷_, _++_, map, append-nil, append-assoc, cons≢nil}
 use lib.ListN.{length, take, drop, length-map, length-append, length-take}
 use native.Mathlib.Omega.{arith}
+use Rattle.rows.specs.EachLaws.{bits-right, all-map, bits-left, some-all}
 use Rattle.rows.specs.ListLaws.{all-take, all-append}
 use Rattle.rows.specs.Rows.{clean, next, All, isNil, Bits}
 use Rattle.frame.specs.Frame.{bytesOf}
@@ -24,7 +25,7 @@ use Rattle.sweep_rules.proofs.Frames.{length-reqa, length-hlta, length-
 use Rattle.sweep_rules.proofs.HeardLaws.{length-atqas, length-answer, reads-clean, reads-clash}
 use Rattle.sweep_rules.proofs.Idle.{idles, Fits, idlers, rowIn, sizes, all-idle}
 use Rattle.sweep_rules.proofs.Known.{knows, lvl, place-lvl, up-lvl, closing, found-closing, asking, opened, chosen, closed, hears-atqa, hears-whole, hears-collided, hears-more, hears-last, hears-silence}
-use Rattle.sweep_rules.proofs.Level.{all-strips, bits-right}
+use Rattle.sweep_rules.proofs.Level.{all-strips}
 use Rattle.sweep_rules.proofs.Levels.{checkOf, soFar, name, card-whole, checked-row}
 use Rattle.sweep_rules.proofs.LogSize.{small, allSmall, small-any, small-clean, small-anti}
 use Rattle.sweep_rules.proofs.Machine.{View, Open, Machine, machine-swept}
@@ -32,7 +33,6 @@ use Rattle.sweep_rules.proofs.Merge.{clean-all}
 use Rattle.sweep_rules.proofs.Round.{at, none-idle, turn-req, hear-req, turn-hlt, hear-hlt, turn-anti, hear-anti, turn-more, hear-more, turn-last, hear-last, sound-halt, idles-halt, halted-at, speaks}
 use Rattle.sweep_rules.proofs.SakLaws.{clean-more, clean-last}
 use Rattle.sweep_rules.proofs.Seal.{seal}
-use Rattle.sweep_rules.proofs.Step.{all-map}
 use Rattle.uid.specs.declared.Level.{Level}
 use Rattle.uid.specs.declared.Level.the-variants.{One}
 use Rattle.card.specs.declared.Card.{Card}
@@ -76,14 +76,6 @@ module _ (F : List Card) (hF : All Fits F) where
   checked-idles : All (Checked checkOf) (idles F)
   unfolding idles
   checked-idles = all-map {F = Fits} (Checked checkOf) rowIn (idlers F) (λ c s. checked-row (c .uid) (s .sound)) (all-idle Fits F hF)
-
-some-all : {A : Type 0} (T : List A) (G : Type 0) → 1 ≤ length T → All (λ t. G) T → G
-some-all [] G h a = absurd (not-suc-le-zero h)
-some-all (t ∷ T) G h a = a .0
-
-bits-left : (P t : List ℕ) → Bits (P ++ t) → Bits P
-bits-left [] t b = tt
-bits-left (x ∷ P) t b = (b .0, bits-left P t (b .1))
 
 -- the bits that the reader knows are a card's
 known-bits : (S : List (List ℕ)) (P K : List ℕ) → All (InLevels 3) S → 1 ≤ length (strips (P ++ K) S) → Bits K

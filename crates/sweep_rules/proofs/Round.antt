@@ -8,6 +8,7 @@ use mathlib.Core.Option.{Option, none, some}
 use mathlib.Core.List.{List, [], _∷_, _++_, map, map-map, cons≢nil}
 use lib.ListN.{length, take, drop}
 use native.Mathlib.Omega.{arith}
+use Rattle.rows.specs.EachLaws.{all-zip, all-weaken}
 use Rattle.rows.specs.ListLaws.{same-refl, map-all, all-of, all-unmap}
 use Rattle.rows.specs.Rows.{All, isNil, Bits, same}
 use Rattle.parity.specs.Bits.{bitsOf}
@@ -28,8 +29,7 @@ use Rattle.sweep_rules.proofs.Idle.{Fits, idlers, rowIn, idles, sizes, 
 use Rattle.sweep_rules.proofs.Merge.{merge-same}
 use Rattle.sweep_rules.proofs.OneCard.{idle-else, halt-else, sit₁, said, saked, card-anti, card-sel}
 use Rattle.sweep_rules.proofs.Seal.{seal}
-use Rattle.sweep_rules.proofs.Select.{all-zip}
-use Rattle.sweep_rules.proofs.Step.{all-weaken, join-nil}
+use Rattle.sweep_rules.proofs.Step.{join-nil}
 use Rattle.sweep_rules.proofs.Strip.{shape, strip, strips-put, merge-strips, all-unstrips}
 use Rattle.uid.specs.declared.Level.{Level}
 use Rattle.uid.specs.declared.Level.the-variants.{One}

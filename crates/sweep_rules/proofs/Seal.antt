@@ -9,6 +9,8 @@ use lib.Seq.{take-at, drop-at, take-take, take-append-le, drop-append-le, take-a
 use lib.Dec.{ltb, eqb}
 use borrow.Author.Tests.{ltb-true, ltb-false, lt-ltb, le-ltb}
 use native.Mathlib.Omega.{arith}
+use Rattle.rows.specs.CleanLaws.{eqb-same}
+use Rattle.rows.specs.EachLaws.{all-map, all-weaken, parts-equal}
 use Rattle.rows.specs.ListLaws.{map-all, all-of, all-unmap, is-nil, all-drop, all-take}
 use Rattle.rows.specs.Rows.{All, clean, Bits}
 use Rattle.parity.specs.BitLaws.{length-bits}
@@ -17,8 +19,6 @@ use Rattle.frame.specs.Frame.{airBits, standard, dataOf, faulty, airByte}
 use Rattle.selection.specs.Selection.{cut}
 use Rattle.field.specs.Merge.{merge}
 use Rattle.sweep_rules.proofs.Merge.{merge-append, length-merge, merge-same, clean-merge}
-use Rattle.sweep_rules.proofs.Step.{eqb-same, all-map, all-weaken}
-use Rattle.sweep_rules.proofs.Valid.{parts-equal}
 
 -- at most n bytes of bits, with parity
 unfoldable pub seal : ℕ → List ℕ → List ℕ

@@ -6,12 +6,13 @@ use mathlib.Core.Bool.{Bool, true, false, cond, false≢true, true≢false}
 use mathlib.Core.List.{List, [], _∷_, _++_}
 use lib.ListN.{length, length-append}
 use native.Mathlib.Omega.{arith}
+use Rattle.rows.specs.CleanLaws.{eqb-same}
+use Rattle.rows.specs.EachLaws.{bits-right, all-weaken, all-zip}
 use Rattle.rows.specs.Rows.{any, All, isNil}
 use Rattle.uid.specs.Order.{Diff, on, off, later, diff, parts}
 use Rattle.sweep_rules.proofs.Abstract.{keep, strips, Top, level, wide, select, levels, InLevels, Off, Apart}
 use Rattle.sweep_rules.proofs.First.{strips-append, parts-append}
-use Rattle.sweep_rules.proofs.Level.{diff-on, all-strips, bits-right, top-append, Level, level-holds}
-use Rattle.sweep_rules.proofs.Step.{eqb-same, all-weaken}
+use Rattle.sweep_rules.proofs.Level.{diff-on, all-strips, top-append, Level, level-holds}
 
 -- ---- rows that are apart stay so when a common head goes
 
@@ -66,10 +67,6 @@ pub record Selected (T : List (List ℕ)) (s : List ℕ × ℕ) : Type 0 where
   pub cost : s .1 ≡ 2 * levels (s .0) + parts (s .0) T
   pub top : Top (s .0) T
   pub only : strips (s .0) T ≡ [] ∷ []
-
-pub all-zip {ℓ} : {A : Type ℓ} {F G H : A → Type 0} (S : List A) → ((r : A) → F r → G r → H r) → All F S → All G S → All H S
-all-zip [] g h k = tt
-all-zip (r ∷ S) g h k = (g r (h .0) (k .0), all-zip S g (h .1) (k .1))
 
 pub whole-wide : (L : ℕ) (r : List ℕ) → InLevels L r → wide ≤ length r
 unfolding wide

@@ -7,20 +7,15 @@ use mathlib.Core.Bool.{Bool, true, false, cond, not, _||_, true≢false, false�
 use mathlib.Core.Option.{Option, none, some}
 use mathlib.Core.List.{List, [], _∷_, map, tail}
 use lib.ListN.{length, take}
-use lib.Dec.{T, eqb, ltb, eqb→eq, eqb-refl}
+use lib.Dec.{T, eqb, eqb→eq}
 use native.Mathlib.Omega.{arith}
+use Rattle.rows.specs.CleanLaws.{bit-two, eqb-same}
+use Rattle.rows.specs.EachLaws.{all-map, all-weaken}
 use Rattle.rows.specs.Rows.{clean, next, any, All, Bits}
 use Rattle.uid.specs.Order.{Diff, on, off, later, diff, one, count, parts}
 use Rattle.field.specs.Merge.{meet, join, merge}
 use Rattle.sweep_rules.proofs.Abstract.{strips, heard, Up, Top}
 use Rattle.sweep_rules.proofs.First.{lead, lead-some, from, diff-cons, put, pull, out, miss, strips-nil, strips-cons, parts-cons}
-
-pub T→eq : (b : Bool) → T b → b ≡ true
-T→eq true t = refl
-T→eq false t = absurd t
-
-pub eqb-same : (x : ℕ) → eqb x x ≡ true
-eqb-same x = T→eq (eqb x x) (eqb-refl x)
 
 -- ---- what is heard of the first bits
 
@@ -170,14 +165,6 @@ pub miss-same : (x : ℕ) (r : List ℕ) (S : List (List ℕ)) → miss x S ≡ 
 unfolding miss any out
 miss-same x r S e = rw lead-same e
 
-pub all-map {ℓ} : {A B : Type ℓ} {F : A → Type 0} (G : B → Type 0) (f : A → B) (S : List A) → ((r : A) → F r → G (f r)) → All F S → All G (map f S)
-all-map G f [] g h = tt
-all-map G f (r ∷ S) g h = (g r (h .0), all-map G f S g (h .1))
-
-pub all-weaken {ℓ} : {A : Type ℓ} {F G : A → Type 0} (S : List A) → ((r : A) → F r → G r) → All F S → All G S
-all-weaken [] g h = tt
-all-weaken (r ∷ S) g h = (g r (h .0), all-weaken S g (h .1))
-
 pub long-tail : (n : ℕ) (r : List ℕ) → suc n ≤ length r → n ≤ length (tail r)
 long-tail n [] h = absurd (not-suc-le-zero h)
 long-tail n (x ∷ r) h = omega arith
@@ -185,11 +172,6 @@ long-tail n (x ∷ r) h = omega arith
 pub bits-tail : (r : List ℕ) → Bits r → Bits (tail r)
 bits-tail [] h = tt
 bits-tail (x ∷ r) h = h .1
-
-pub bit-two : (x : ℕ) → x < 2 → ltb 1 x ≡ false
-bit-two zero h = refl
-bit-two (suc zero) h = refl
-bit-two (suc (suc x)) h = absurd (omega arith)
 
 pub step : (n : ℕ) (T : List (List ℕ)) → 1 ≤ length T → All (λ r. n ≤ length r) T → All Bits T → Step n T (next (heard n T)) (clean (heard n T))
 unfolding next clean one

@@ -1,12 +1,10 @@
 -- What a row has left after the bits that are known, as an option; and what all rows of a field have left. Assumes nothing.
 use mathlib.Core.Path.{_≡_, refl, ap, _∙_}
-use Prim.Native.Nat.{ℕ, zero, suc, _+_, _*_}
-use mathlib.Core.Bool.{Bool, true, false, cond}
+use Prim.Native.Nat.{ℕ, _*_}
 use mathlib.Core.Option.{Option, none, some}
 use mathlib.Core.List.{List, [], _∷_, _++_, map}
 use lib.ListN.{length, take, drop}
 use lib.Seq.{drop-at}
-use lib.Dec.{eqb}
 use native.Mathlib.Omega.{arith}
 use Rattle.rows.specs.Rows.{All}
 use Rattle.uid.specs.Order.{Diff, on, off, later, diff}
@@ -60,18 +58,6 @@ strip-sound W r t e = go (diff W r) refl e
 unfoldable pub cut : ℕ → Option (List ℕ) → Option (List ℕ)
 cut n (some t) = some (take n t)
 cut n none = none
-
-pub strip-take : (Q : List ℕ) (n m : ℕ) (u : List ℕ) → m ≡ length Q + n → strip Q (take m u) ≡ cut n (strip Q u)
-unfolding cut strip shape diff
-strip-take [] n m u e = let h : m ≡ n = omega arith in rw h
-strip-take (x ∷ Q) n zero u e = absurd (omega arith)
-strip-take (x ∷ Q) n (suc m) [] e = refl
-strip-take (x ∷ Q) n (suc m) (y ∷ u) e = go (eqb x y) (strip-take Q n m u (omega arith))
-  where
-    go : (b : Bool) → shape (diff Q (take m u)) ≡ cut n (shape (diff Q u))
-        → shape (cond b (later (diff Q (take m u))) (off 0 x)) ≡ cut n (shape (cond b (later (diff Q u)) (off 0 x)))
-    go true ih = rw (shape-later (diff Q (take m u)), shape-later (diff Q u)) ih
-    go false ih = refl
 
 pub strips-put : (W r : List ℕ) (S : List (List ℕ)) → strips W (r ∷ S) ≡ put (strip W r) (strips W S)
 unfolding strips strip shape keep put

@@ -9,13 +9,13 @@ use lib.Dec.{eqb, eqb·suc-suc, eqb·zero-suc, eqb·suc-zero}
 use native.Mathlib.Omega.{arith}
 use native.Mathlib.Numerals.{sub-one}
 use native.Mathlib.Nat.{not-suc-le-zero}
+use Rattle.rows.specs.CleanLaws.{eqb-same}
 use Rattle.rows.specs.Rows.{any, All}
 use Rattle.uid.specs.Order.{Diff, on, off, later, diff, one, count, partsAt, parts}
 use Rattle.sweep_rules.proofs.Abstract.{rest, wide, select, sweep, sort, levels, frames, InLevels, Apart}
 use Rattle.sweep_rules.proofs.First.{count-cong}
 use Rattle.sweep_rules.proofs.Select.{Selected, select-holds}
 use Rattle.sweep_rules.proofs.Sort.{sort-first, parts-sort, all-sort, length-sort, all-rest, apart-rest, length-rest}
-use Rattle.sweep_rules.proofs.Step.{eqb-same}
 
 diff-self : (P : List ℕ) → diff P P ≡ on []
 unfolding diff later
@@ -49,11 +49,6 @@ sweep-holds (suc n) (r ∷ S) h w a =
     (sweep-holds n (rest (s .0) T) (omega (arith, length-rest (s .0) T, ap length (k .only))) (all-rest (InLevels 3) (s .0) T w) (apart-rest (s .0) T a))
 
 -- ---- the bound
-
-one-le : (b : Bool) → one b ≤ 1
-unfolding one
-one-le true = omega arith
-one-le false = omega arith
 
 one-or : (a b : Bool) → one (a || b) ≤ one a + one b
 unfolding one

@@ -3,22 +3,15 @@ use mathlib.Core.Path.{_≡_, refl, sym, ap, ap₂, _∙_}
 use mathlib.Core.Logic.{_≢_}
 use Prim.Native.Nat.{ℕ, zero, suc, _*_, _≤_, _<_}
 use mathlib.Core.List.{List, [], _∷_, _++_, map, append-assoc}
-use lib.ListN.{length, take, drop, length-append}
-use lib.Seq.{take-at, drop-at}
+use lib.ListN.{length, take, length-append}
 use native.Mathlib.Omega.{arith}
+use Rattle.rows.specs.EachLaws.{parts-equal}
 use Rattle.rows.specs.ListLaws.{all-append}
 use Rattle.rows.specs.Rows.{All, Bits}
 use Rattle.uid.specs.Order.{Diff, on, off, diff}
 use Rattle.uid.specs.Uid.{air}
 use Rattle.sweep_rules.proofs.Abstract.{wide, InLevels, Off, Apart, OneLevel, Valid, Distinct}
 use Rattle.sweep_rules.proofs.Level.{diff-on}
-
--- equal rows with first parts of one length have equal first and second parts
-pub parts-equal : (n : ℕ) (l m A B : List ℕ) → length l ≡ n → length m ≡ n → l ++ A ≡ m ++ B → (l ≡ m) × (A ≡ B)
-parts-equal n l m A B hl hm e = (
-  sym (take-at l A n hl) ∙ ap (take n) e ∙ take-at m B n hm,
-  sym (drop-at l A n hl) ∙ ap (drop n) e ∙ drop-at m B n hm,
-)
 
 levels-equal : (l m A B t : List ℕ) → OneLevel l → OneLevel m → m ++ B ≡ l ++ A ++ t → (m ≡ l) × (B ≡ A ++ t)
 levels-equal l m A B t hl hm e = parts-equal wide m l B (A ++ t) (hm .full) (hl .full) (e ∙ append-assoc l A t)
