@@ -1,3 +1,5 @@
 pub mod Frame
 pub mod Calls
 pub mod FrameLaws
+pub mod ByteLaws
+pub mod ParityLaws

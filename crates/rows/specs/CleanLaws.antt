@@ -4,16 +4,13 @@ use Prim.Native.Nat.{ℕ, zero, suc, _≤_, _<_}
 use mathlib.Core.Bool.{Bool, true, false, cond, true≢false, false≢true}
 use mathlib.Core.List.{List, [], _∷_, _++_}
 use lib.ListN.{length, take}
-use lib.Dec.{T, eqb, ltb, eqb-refl}
+use lib.Dec.{eqb, ltb}
 use native.Mathlib.Omega.{arith}
+use borrow.Author.Tests.{eq-eqb}
 use Rattle.rows.specs.Rows.{clean, next, Bits, isNil}
 
-pub T→eq : (b : Bool) → T b → b ≡ true
-T→eq true t = refl
-T→eq false t = absurd t
-
 pub eqb-same : (x : ℕ) → eqb x x ≡ true
-eqb-same x = T→eq (eqb x x) (eqb-refl x)
+eqb-same x = eq-eqb x x refl
 
 pub bit-two : (x : ℕ) → x < 2 → ltb 1 x ≡ false
 bit-two zero h = refl

@@ -9,12 +9,11 @@ use Rattle.rows.specs.EachLaws.{parts-equal}
 use Rattle.rows.specs.Rows.{Bits, fill}
 use Rattle.parity.specs.BitLaws.{length-bits}
 use Rattle.crc.specs.Crc.{withCrc, crcBytes}
+use Rattle.frame.specs.ByteLaws.{bits-bytes, length-bytes, length-airBits, airBits-append}
 use Rattle.frame.specs.Frame.{airBits, short, standard, bytesOf}
 use Rattle.frame.specs.FrameLaws.{length-standard}
 use Rattle.selection.specs.Selection.{cut, sel, nvb, reqa, wupa, hlta, anticollision, select, sakFrame}
 use Rattle.card.specs.Card.{bitsSent}
-use Rattle.sweep_rules.proofs.Bytes.{bits-bytes, length-bytes}
-use Rattle.sweep_rules.proofs.LevelBits.{length-airBits, airBits-append}
 use Rattle.sweep_rules.proofs.Seal.{seal, standard-seal, take-seal, seal-same}
 use Rattle.uid.specs.declared.Level.{Level}
 

@@ -1,28 +1,27 @@
 -- What the reader reads where cards answer together, the answer to REQA and to ANTICOLLISION: no test applies. Assumes nothing.
 use mathlib.Core.Path.{_≡_, refl, sym, ap, ap₂, _∙_}
-use Prim.Native.Nat.{ℕ, zero, suc, _+_, _-_, _*_, _/_, _≤_, _<_}
-use mathlib.Core.Bool.{Bool, true, false, cond, not, _&&_, _||_}
+use Prim.Native.Nat.{ℕ, _+_, _-_, _/_, _≤_, _<_}
+use mathlib.Core.Bool.{true, false, cond, not, _&&_}
 use mathlib.Core.List.{List, [], _∷_, _++_, map, map-map}
-use lib.ListN.{length, take, drop, getD, length-map, length-append, length-take, length-drop, take-append-drop}
-use lib.Seq.{drop-drop}
-use lib.Dec.{eqb, ltb}
+use lib.ListN.{length, take, drop, length-map, length-append, length-take, length-drop, take-append-drop}
+use lib.Dec.{ltb}
 use borrow.Author.Tests.{le-ltb}
 use native.Mathlib.Omega.{arith}
 use Rattle.rows.specs.CleanLaws.{next-clean, not-nil, clean-append, next-append}
 use Rattle.rows.specs.EachLaws.{all-map, all-weaken}
 use Rattle.rows.specs.ListLaws.{map-all, all-of, same-refl, all-take, all-append}
 use Rattle.rows.specs.Rows.{All, clean, next, Bits, same}
-use Rattle.parity.specs.Bits.{bitsOf, odd}
+use Rattle.parity.specs.Bits.{bitsOf}
+use Rattle.frame.specs.ByteLaws.{bytes-fit, length-bytes, bits-bytes-all, bytes-bits, length-airBits, bits-airBits}
 use Rattle.frame.specs.Frame.{airBits, standard, dataOf, bytesOf, faulty, airByte}
 use Rattle.frame.specs.FrameLaws.{length-standard}
+use Rattle.frame.specs.ParityLaws.{faulty-drop}
 use Rattle.uid.specs.Uid.{check, level}
 use Rattle.selection.specs.Heard.{readAtqa, readRest, restOf, notRest}
 use Rattle.selection.specs.Selection.{cut, atqa, atqaByte}
 use Rattle.field.specs.Merge.{merge}
 use Rattle.sweep_rules.proofs.Abstract.{heard}
-use Rattle.sweep_rules.proofs.Bytes.{bytes-fit, length-bytes, bits-bytes-all, bytes-bits}
 use Rattle.sweep_rules.proofs.Frames.{sent-known}
-use Rattle.sweep_rules.proofs.LevelBits.{length-airBits, bits-airBits}
 use Rattle.sweep_rules.proofs.Levels.{checkOf, Five, five-is, take-level, airBits-level}
 use Rattle.sweep_rules.proofs.Merge.{merge-append, length-merge, merge-same}
 use Rattle.sweep_rules.proofs.Seal.{seal, standard-seal, take-seal, length-seal, data-seal, faulty-seal}
@@ -74,20 +73,6 @@ module _ (zs : List UidSize) (some : 1 ≤ length zs) where
   reads-atqa = rw (not-nil (merge (map atqa zs)) (omega (arith, length-atqas)), length-atqas, sound-atqas, front)
 
 -- ---- the answer to ANTICOLLISION
-
-or-false : (a b : Bool) → (a || b) ≡ false → b ≡ false
-or-false true b e = absurd (mathlib.Core.Bool.true≢false e)
-or-false false b e = e
-
--- bytes that are passed over
-faulty-drop : (n i : ℕ) (w : List ℕ) → faulty n w ≡ false → faulty (n - i) (drop (9 * i) w) ≡ false
-unfolding faulty
-faulty-drop n zero w e = let a : n - 0 ≡ n = omega arith in rw a e
-faulty-drop zero (suc i) w e = let a : 0 - suc i ≡ 0 = omega arith in rw a
-faulty-drop (suc n) (suc i) w e =
-    let a : suc n - suc i ≡ n - i = omega arith in
-    let b : 9 * suc i ≡ 9 + 9 * i = omega arith in
-    rw (a, b, ← drop-drop (9 * i) 9 w) (faulty-drop n i (drop 9 w) (or-false (clean (take 8 w) && not (eqb (getD w 8 0) (odd (take 8 w)))) (faulty n (drop 9 w)) e))
 
 -- a level that its last byte checks
 checked-bytes : (y : List ℕ) → Bits y → length y ≡ 32 → bytesOf 5 (y ++ checkOf y) ≡ level (bytesOf 4 y)

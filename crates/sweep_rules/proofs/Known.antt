@@ -10,6 +10,7 @@ use native.Mathlib.Omega.{arith}
 use Rattle.rows.specs.CleanLaws.{not-nil}
 use Rattle.rows.specs.Rows.{isNil, fill}
 use Rattle.parity.specs.Bits.{unbits}
+use Rattle.frame.specs.ByteLaws.{length-bytes}
 use Rattle.frame.specs.Frame.{bytesOf}
 use Rattle.uid.specs.Uid.{byteCount, place, uidBytes}
 use Rattle.selection.specs.Heard.{readRest, restOf}
@@ -18,7 +19,6 @@ use Rattle.card.specs.Card.{up}
 use Rattle.reader.specs.Reader.{reader, blank, hear, longer, afterSak, hearSilence, hearAtqa, uid, opens, completes, sends, finds, hearRest, hearSak}
 use Rattle.field.specs.Merge.{merge}
 use Rattle.sweep_rules.proofs.Abstract.{wide, InLevels, lev}
-use Rattle.sweep_rules.proofs.Bytes.{length-bytes}
 use Rattle.sweep_rules.proofs.HeardLaws.{length-atqas, reads-atqa}
 use Rattle.sweep_rules.proofs.Levels.{soFar, name}
 use Rattle.sweep_rules.proofs.SakLaws.{reads-more, reads-last}

@@ -14,12 +14,12 @@ use Rattle.rows.specs.EachLaws.{all-getD, all-map}
 use Rattle.rows.specs.ListLaws.{all-drop, all-append, all-take}
 use Rattle.rows.specs.Rows.{All, Bytes}
 use Rattle.parity.specs.Bits.{bitsOf}
+use Rattle.frame.specs.ByteLaws.{bytes-bits, length-airBits, bits-airBits, airBits-append, airBits-one}
 use Rattle.frame.specs.Frame.{airBits, bytesOf}
 use Rattle.uid.specs.Uid.{air, byteCount, uidBytes, check, level, levelsOf, levels, validOf, rowOf, valid}
 use Rattle.sweep_rules.proofs.Abstract.{wide, InLevels, mark, OneLevel, Valid, lev}
-use Rattle.sweep_rules.proofs.Bytes.{bytes-bits}
 use Rattle.sweep_rules.proofs.Check.{Checked}
-use Rattle.sweep_rules.proofs.LevelBits.{length-airBits, bits-airBits, not-mark, a-mark, lev-air, airBits-append, airBits-one}
+use Rattle.sweep_rules.proofs.LevelBits.{not-mark, a-mark, lev-air}
 use Rattle.sweep_rules.proofs.Valid.{length-air, whole-valid}
 use Rattle.uid.specs.declared.Uid.{Uid}
 use Rattle.uid.specs.declared.UidSize.{UidSize}

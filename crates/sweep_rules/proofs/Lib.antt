@@ -13,7 +13,6 @@ pub mod Strip
 pub mod Merge
 pub mod Check
 pub mod Machine
-pub mod Bytes
 pub mod Seal
 pub mod Levels
 pub mod Frames

@@ -10,6 +10,7 @@ use native.Mathlib.Omega.{arith}
 use Rattle.rows.specs.EachLaws.{bits-right, all-map, bits-left, some-all}
 use Rattle.rows.specs.ListLaws.{all-take, all-append}
 use Rattle.rows.specs.Rows.{clean, next, All, isNil, Bits}
+use Rattle.frame.specs.ByteLaws.{length-bytes}
 use Rattle.frame.specs.Frame.{bytesOf}
 use Rattle.uid.specs.Uid.{place, uidBytes}
 use Rattle.selection.specs.Selection.{cut, reqa, hlta, anticollision, select, sakFrame, atqa}
@@ -19,7 +20,6 @@ use Rattle.field.specs.Merge.{merge}
 use Rattle.sweep_rules.specs.Demand.{halted}
 use Rattle.sweep_rules.specs.Run.{Out, before, ended, follow, run, finding}
 use Rattle.sweep_rules.proofs.Abstract.{strips, heard, wide, sort, frames, InLevels, Apart}
-use Rattle.sweep_rules.proofs.Bytes.{length-bytes}
 use Rattle.sweep_rules.proofs.Check.{Checked, all-tied, law-early-32}
 use Rattle.sweep_rules.proofs.Frames.{length-reqa, length-hlta, length-anti, length-select, length-sak}
 use Rattle.sweep_rules.proofs.HeardLaws.{length-atqas, length-answer, reads-clean, reads-clash}

@@ -13,13 +13,13 @@ use borrow.Author.Tests.{ltb-true, lt-ltb, le-ltb}
 use native.Mathlib.Omega.{arith}
 use Rattle.rows.specs.ListLaws.{same-eq, same-ne, same-length}
 use Rattle.rows.specs.Rows.{Bits}
+use Rattle.frame.specs.ByteLaws.{bytes-bits, bits-bytes-all, length-bytes}
 use Rattle.frame.specs.Frame.{airBits, bytesOf}
 use Rattle.uid.specs.Order.{diff}
 use Rattle.uid.specs.Uid.{levels, rowOf, place}
 use Rattle.selection.specs.Selection.{cut, reqa, wupa, anticollision, others, select, sakFrame}
 use Rattle.card.specs.Card.{Step, up, bitsSent, remain, sak, chosen, ready, rules}
 use Rattle.sweep_rules.proofs.Abstract.{wide}
-use Rattle.sweep_rules.proofs.Bytes.{bytes-bits, bits-bytes-all, length-bytes}
 use Rattle.sweep_rules.proofs.Frames.{length-reqa, length-wupa, length-anti, length-select, bits-sent, anti-same, anti-tells, rest-is, select-tells}
 use Rattle.sweep_rules.proofs.Levels.{Sound, length-row, lev-row, five-row}
 use Rattle.sweep_rules.proofs.Seal.{seal}
