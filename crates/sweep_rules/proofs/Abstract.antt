@@ -8,7 +8,8 @@ use mathlib.Core.List.{List, [], _∷_, _++_, map}
 use lib.ListN.{length, take, drop}
 use lib.Dec.{ltb}
 use Rattle.rows.specs.Rows.{clean, next, isNil, any, All, Bits}
-use Rattle.uid.specs.Order.{Diff, on, off, diff, above, one, parts}
+use Rattle.uid.specs.Order.{insertOn, sortOn, Diff, on, off, diff, above, one, parts}
+use Rattle.uid.specs.OrderLaws.{Off}
 use Rattle.field.specs.Merge.{merge}
 
 -- ---- rows that begin with what is known
@@ -86,13 +87,11 @@ sweep (suc n) (r ∷ S) =
 
 -- ---- falling order of rows
 
-unfoldable pub insert : List ℕ → List (List ℕ) → List (List ℕ)
-insert r [] = r ∷ []
-insert r (s ∷ l) = cond (above r s) (r ∷ s ∷ l) (s ∷ insert r l)
+abbrev pub insert : List ℕ → List (List ℕ) → List (List ℕ)
+insert r l = insertOn (λ s. s) r l
 
-unfoldable pub sort : List (List ℕ) → List (List ℕ)
-sort [] = []
-sort (r ∷ S) = insert r (sort S)
+abbrev pub sort : List (List ℕ) → List (List ℕ)
+sort S = sortOn (λ s. s) S
 
 unfoldable pub levels : List ℕ → ℕ
 levels r = length r / wide
@@ -110,10 +109,6 @@ pub record InLevels (L : ℕ) (r : List ℕ) : Type 0 where
   pub one-level : 1 ≤ length r
   pub levels-only : length r % wide ≡ 0
   pub at-most : length r ≤ wide * L
-
-abbrev pub Off : Diff → Type 0
-Off (on t) = ⊥
-Off (off p x) = Unit {0}
 
 -- no row is another's head: so they are distinct too
 abbrev pub Apart : List (List ℕ) → Type 0

@@ -13,7 +13,7 @@ use Rattle.rows.specs.EachLaws.{all-zip, all-map}
 use Rattle.rows.specs.ListLaws.{both, same-eq}
 use Rattle.rows.specs.Rows.{All, any, same}
 use Rattle.frame.specs.Frame.{airBits}
-use Rattle.uid.specs.Order.{above, insertOn, sortOn}
+use Rattle.uid.specs.SortLaws.{map-sort, length-sort, all-sort}
 use Rattle.uid.specs.Uid.{air, levels, rowOf, falling, frameSum, valid, uidBytes}
 use Rattle.reader.specs.Reader.{blank, turn, isNew}
 use Rattle.log.specs.Log.{exchangeBytes}
@@ -28,8 +28,6 @@ use Rattle.sweep_rules.proofs.Idle.{Fits, idlers, idles, idle-uids, all
 use Rattle.sweep_rules.proofs.Levels.{Sound, name, card-valid, length-row, name-row}
 use Rattle.sweep_rules.proofs.LogSize.{small-all, log-length, list-length}
 use Rattle.sweep_rules.proofs.Model.{view, whole-idles, model-swept}
-use Rattle.sweep_rules.proofs.Order.{map-sort}
-use Rattle.sweep_rules.proofs.Sort.{length-sort}
 use Rattle.sweep_rules.proofs.Sweep.{sweep-bound, frames-small}
 use Rattle.sweep_rules.proofs.Valid.{apart-valid}
 use Rattle.uid.specs.declared.Uid.{Uid}
@@ -106,26 +104,17 @@ apart-rows us s d = rw (map-map air bitLevels us) at (apart-valid (map bitLevels
 
 -- ---- falling order over UIDs
 
-all-insert : (G : Uid → Type 0) (c : Uid) (l : List Uid) → G c → All G l → All G (insertOn rowOf c l)
-unfolding insertOn
-all-insert G c [] h k = (h, tt)
-all-insert G c (d ∷ l) h k = go (above (rowOf c) (rowOf d)) (all-insert G c l h (k .1))
-  where
-    go : (b : Bool) → All G (insertOn rowOf c l) → All G (cond b (c ∷ d ∷ l) (d ∷ insertOn rowOf c l))
-    go true i = (h, k)
-    go false i = (k .0, i)
-
-all-falling : (G : Uid → Type 0) (cs : List Uid) → All G cs → All G (falling cs)
-unfolding falling sortOn
-all-falling G [] h = tt
-all-falling G (c ∷ cs) h = all-insert G c (falling cs) (h .0) (all-falling G cs (h .1))
-
 rows-falling : (us : List Uid) → sort (map rowOf us) ≡ map rowOf (falling us)
 unfolding falling
 rows-falling us = sym (map-sort rowOf us)
 
+all-falling : (G : Uid → Type 0) (us : List Uid) → All G us → All G (falling us)
+unfolding falling
+all-falling G us h = all-sort rowOf G us h
+
 length-falling : (us : List Uid) → length (falling us) ≡ length us
-length-falling us = sym (length-map (falling us) rowOf) ∙ ap length (sym (rows-falling us)) ∙ length-sort (map rowOf us) ∙ length-map us rowOf
+unfolding falling
+length-falling us = length-sort rowOf us
 
 names : (us : List Uid) → All Sound us → map name (map rowOf us) ≡ map uidBytes us
 names [] s = refl

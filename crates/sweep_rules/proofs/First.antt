@@ -2,43 +2,18 @@
 -- `lead x r` is what r has left after a first bit x; after `diff-cons` no proof looks at a test of two bits again.
 -- Assumes nothing.
 use mathlib.Core.Path.{_≡_, refl, ap, ap₂, _∙_}
-use Prim.Native.Nat.{ℕ, zero, suc, _+_, _<_}
-use mathlib.Core.Bool.{Bool, true, false, cond, _||_}
+use Prim.Native.Nat.{ℕ, suc, _+_}
+use mathlib.Core.Bool.{Bool, true, false, _||_}
 use mathlib.Core.Option.{Option, none, some}
 use mathlib.Core.List.{List, [], _∷_, _++_}
 use lib.ListN.{length}
-use lib.Dec.{eqb, eqb→eq, eqb·suc-zero, eqb·zero-suc, eqb·suc-suc}
+use lib.Dec.{eqb·suc-zero, eqb·zero-suc, eqb·suc-suc}
 use native.Mathlib.Omega.{arith}
 use Rattle.rows.specs.Rows.{any}
 use Rattle.uid.specs.Order.{Diff, on, off, later, diff, one, count, partsAt, parts}
+use Rattle.uid.specs.OrderLaws.{lead, from, diff-cons}
+use Rattle.uid.specs.PartsLaws.{count-cong}
 use Rattle.sweep_rules.proofs.Abstract.{keep, strips}
-
-unfoldable pub lead : ℕ → List ℕ → Option (List ℕ)
-lead x [] = none
-lead x (y ∷ r) = cond (eqb x y) (some r) none
-
-unfoldable pub from : ℕ → List ℕ → Option (List ℕ) → Diff
-unfolding later diff
-from x P (some t) = later (diff P t)
-from x P none = off 0 x
-
-pub diff-cons : (x : ℕ) (P r : List ℕ) → diff (x ∷ P) r ≡ from x P (lead x r)
-unfolding diff later from lead
-diff-cons x P [] = refl
-diff-cons x P (y ∷ r) = go (eqb x y)
-  where
-    go : (b : Bool) → cond b (later (diff P r)) (off 0 x) ≡ from x P (cond b (some r) none)
-    go true = refl
-    go false = refl
-
-pub lead-some : (x : ℕ) (r t : List ℕ) → lead x r ≡ some t → r ≡ x ∷ t
-unfolding lead
-lead-some x [] t e = cc
-lead-some x (y ∷ r) t e = go (eqb x y) refl e
-  where
-    go : (b : Bool) → eqb x y ≡ b → cond b (some r) none ≡ some t → y ∷ r ≡ x ∷ t
-    go true p q = let h : x ≡ y = eqb→eq x y (rw p tt) in cc
-    go false p q = cc
 
 -- the rows with a first bit x, without it
 unfoldable pub put : Option (List ℕ) → List (List ℕ) → List (List ℕ)
@@ -83,11 +58,6 @@ strips-append [] Q S = rw strips-nil
 strips-append (x ∷ P) Q S = rw (strips-cons x (P ++ Q) S, strips-cons x P S, strips-append P Q (pull x S))
 
 -- ---- counting
-
-pub count-cong : (n : ℕ) {f g : ℕ → Bool} → ((p : ℕ) → p < n → f p ≡ g p) → count n f ≡ count n g
-unfolding count
-count-cong zero h = refl
-count-cong (suc n) h = ap₂ (λ b k. one b + k) (h 0 (omega arith)) (count-cong n (λ p l. h (suc p) (omega arith)))
 
 parts-here : (x : ℕ) (P : List ℕ) (S : List (List ℕ)) → any (λ r. partsAt 0 (diff (x ∷ P) r)) S ≡ miss x S
 unfolding any miss partsAt later from out

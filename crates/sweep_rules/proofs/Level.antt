@@ -1,6 +1,6 @@
 -- A level: the loop of answers comes to bits that some row has and no row is before, and takes one collision for each position of
 -- first difference. Assumes nothing.
-use mathlib.Core.Path.{_≡_, refl, ap, _∙_}
+use mathlib.Core.Path.{_≡_, refl}
 use Prim.Native.Nat.{ℕ, zero, suc, _-_, _≤_}
 use mathlib.Core.Bool.{Bool, true, false, cond}
 use mathlib.Core.Option.{Option, none, some}
@@ -10,25 +10,13 @@ use native.Mathlib.Omega.{arith}
 use Rattle.rows.specs.EachLaws.{bits-right}
 use Rattle.rows.specs.Rows.{clean, next, All, Bits}
 use Rattle.uid.specs.Order.{Diff, on, off, later, diff, one, parts}
+use Rattle.uid.specs.OrderLaws.{lead, from, diff-on, diff-cons}
+use Rattle.uid.specs.PartsLaws.{parts-nil}
 use Rattle.sweep_rules.proofs.Abstract.{keep, strips, heard, Up, Top, level}
-use Rattle.sweep_rules.proofs.First.{lead, lead-some, from, diff-cons, strips-nil, strips-append, parts-append}
-use Rattle.sweep_rules.proofs.Step.{Step, step, up-later, top-nil, parts-nil}
+use Rattle.sweep_rules.proofs.First.{strips-nil, strips-append, parts-append}
+use Rattle.sweep_rules.proofs.Step.{Step, step, up-later, top-nil}
 
 -- ---- a row that begins with P is P and what it has left
-
-later-on : (D : Diff) (t : List ℕ) → later D ≡ on t → D ≡ on t
-unfolding later
-later-on (on u) t e = e
-later-on (off p x) t e = cc
-
-pub diff-on : (P r t : List ℕ) → diff P r ≡ on t → r ≡ P ++ t
-unfolding diff from
-diff-on [] r t e = cc
-diff-on (x ∷ P) r t e = go (lead x r) refl (rw diff-cons at e) (λ u. diff-on P u t)
-  where
-    go : (o : Option (List ℕ)) → lead x r ≡ o → from x P o ≡ on t → ((u : List ℕ) → diff P u ≡ on t → u ≡ P ++ t) → r ≡ x ∷ P ++ t
-    go (some u) p q ih = lead-some x r u p ∙ ap (λ l. x ∷ l) (ih u (later-on (diff P u) t q))
-    go none p q ih = cc
 
 -- what holds of a row holds, in another form, of what it has left
 pub all-strips : (F G : List ℕ → Type 0) (P : List ℕ) (S : List (List ℕ)) → ((t : List ℕ) → F (P ++ t) → G t) → All F S → All G (strips P S)

@@ -6,7 +6,6 @@ pub mod Select
 pub mod Sort
 pub mod Sweep
 pub mod Falling
-pub mod Order
 pub mod Valid
 pub mod LevelBits
 pub mod Strip

@@ -14,9 +14,10 @@ use Rattle.rows.specs.CleanLaws.{eqb-same, bit-two, next-take, bits-clean}
 use Rattle.rows.specs.EachLaws.{all-zip, all-map, all-weaken}
 use Rattle.rows.specs.ListLaws.{all-of, all-take}
 use Rattle.rows.specs.Rows.{clean, next, any, All, Bits}
+use Rattle.uid.specs.OrderLaws.{lead, lead-some}
 use Rattle.field.specs.Merge.{meet, join, merge}
 use Rattle.sweep_rules.proofs.Abstract.{strips, heard}
-use Rattle.sweep_rules.proofs.First.{lead, lead-some, out, put, pull, miss}
+use Rattle.sweep_rules.proofs.First.{out, put, pull, miss}
 use Rattle.sweep_rules.proofs.Step.{heard-cons, heard-zero, join-nil, miss-same, long-tail, bits-tail, Step, step}
 
 pub length-heard : (n : ℕ) (T : List (List ℕ)) → 1 ≤ length T → All (λ r. n ≤ length r) T → length (heard n T) ≡ n

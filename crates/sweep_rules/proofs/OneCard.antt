@@ -15,7 +15,7 @@ use Rattle.rows.specs.ListLaws.{same-eq, same-ne, same-length}
 use Rattle.rows.specs.Rows.{Bits}
 use Rattle.frame.specs.ByteLaws.{bytes-bits, bits-bytes-all, length-bytes}
 use Rattle.frame.specs.Frame.{airBits, bytesOf}
-use Rattle.uid.specs.Order.{diff}
+use Rattle.uid.specs.StripLaws.{strip, and-then, not-none, strip-append, strip-sound}
 use Rattle.uid.specs.Uid.{levels, rowOf, place}
 use Rattle.selection.specs.Selection.{cut, reqa, wupa, anticollision, others, select, sakFrame}
 use Rattle.card.specs.Card.{Step, up, bitsSent, remain, sak, chosen, ready, rules}
@@ -23,21 +23,11 @@ use Rattle.sweep_rules.proofs.Abstract.{wide}
 use Rattle.sweep_rules.proofs.Frames.{length-reqa, length-wupa, length-anti, length-select, bits-sent, anti-same, anti-tells, rest-is, select-tells}
 use Rattle.sweep_rules.proofs.Levels.{Sound, length-row, lev-row, five-row}
 use Rattle.sweep_rules.proofs.Seal.{seal}
-use Rattle.sweep_rules.proofs.Step.{lead-same}
-use Rattle.sweep_rules.proofs.Strip.{strip, shape, and-then, strip-cons, strip-append, strip-sound, lev-under}
+use Rattle.sweep_rules.proofs.Strip.{lev-under}
 use Rattle.uid.specs.declared.Level.{Level}
 use Rattle.card.specs.declared.Card.{Card}
 use Rattle.card.specs.declared.CardState.{CardState}
 use Rattle.card.specs.declared.CardState.the-variants.{Idle, Ready, Active, Halt}
-
--- a row that begins with W
-pub strip-on : (W t : List ℕ) → strip W (W ++ t) ≡ some t
-unfolding and-then
-strip-on [] t = unfold strip shape diff in refl
-strip-on (x ∷ W) t = rw (strip-cons x W (x ∷ (W ++ t)), lead-same x (W ++ t)) (strip-on W t)
-
-not-none : (W t r : List ℕ) → strip W r ≡ none → r ≢ W ++ t
-not-none W t r e h = let z : some t ≡ none = sym (strip-on W t) ∙ ap (strip W) (sym h) ∙ e in let o : _≡_ {A = ℕ} 0 1 = cc in omega arith
 
 begins : (u K x : List ℕ) → take 40 u ≡ K ++ x → u ≡ K ++ (x ++ drop 40 u)
 begins u K x e = sym (take-append-drop 40 u) ∙ ap (λ r. r ++ drop 40 u) e ∙ append-assoc K x (drop 40 u)

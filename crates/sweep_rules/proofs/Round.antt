@@ -15,6 +15,7 @@ use Rattle.parity.specs.Bits.{bitsOf}
 use Rattle.frame.specs.ByteLaws.{length-bytes}
 use Rattle.frame.specs.Frame.{short, bytesOf}
 use Rattle.uid.specs.Order.{Diff, on, off, diff}
+use Rattle.uid.specs.StripLaws.{shape, strip}
 use Rattle.uid.specs.Uid.{levels, rowOf, place}
 use Rattle.selection.specs.Selection.{cut, reqa, wupa, hlta, anticollision, select, sakFrame, atqa}
 use Rattle.card.specs.Card.{Step, up, remain, sak, chosen, ready, rules, withState, takes, answers}
@@ -30,7 +31,7 @@ use Rattle.sweep_rules.proofs.Merge.{merge-same}
 use Rattle.sweep_rules.proofs.OneCard.{idle-else, halt-else, sit₁, said, saked, card-anti, card-sel}
 use Rattle.sweep_rules.proofs.Seal.{seal}
 use Rattle.sweep_rules.proofs.Step.{join-nil}
-use Rattle.sweep_rules.proofs.Strip.{shape, strip, strips-put, merge-strips, all-unstrips}
+use Rattle.sweep_rules.proofs.Strip.{strips-put, merge-strips, all-unstrips}
 use Rattle.uid.specs.declared.Level.{Level}
 use Rattle.uid.specs.declared.Level.the-variants.{One}
 use Rattle.card.specs.declared.Card.{Card}

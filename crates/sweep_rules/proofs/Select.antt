@@ -6,25 +6,15 @@ use mathlib.Core.Bool.{Bool, true, false, cond, false≢true, true≢false}
 use mathlib.Core.List.{List, [], _∷_, _++_}
 use lib.ListN.{length, length-append}
 use native.Mathlib.Omega.{arith}
-use Rattle.rows.specs.CleanLaws.{eqb-same}
 use Rattle.rows.specs.EachLaws.{bits-right, all-weaken, all-zip}
 use Rattle.rows.specs.Rows.{any, All, isNil}
-use Rattle.uid.specs.Order.{Diff, on, off, later, diff, parts}
-use Rattle.sweep_rules.proofs.Abstract.{keep, strips, Top, level, wide, select, levels, InLevels, Off, Apart}
+use Rattle.uid.specs.Order.{Diff, on, off, diff, parts}
+use Rattle.uid.specs.OrderLaws.{Off, diff-on, off-under}
+use Rattle.sweep_rules.proofs.Abstract.{keep, strips, Top, level, wide, select, levels, InLevels, Apart}
 use Rattle.sweep_rules.proofs.First.{strips-append, parts-append}
-use Rattle.sweep_rules.proofs.Level.{diff-on, all-strips, top-append, Level, level-holds}
+use Rattle.sweep_rules.proofs.Level.{all-strips, top-append, Level, level-holds}
 
 -- ---- rows that are apart stay so when a common head goes
-
-off-later : (D : Diff) → Off (later D) → Off D
-unfolding later
-off-later (on t) h = h
-off-later (off p x) h = tt
-
-off-under : (P t u : List ℕ) → Off (diff (P ++ t) (P ++ u)) → Off (diff t u)
-unfolding diff
-off-under [] t u h = h
-off-under (x ∷ P) t u h = off-under P t u (off-later (diff (P ++ t) (P ++ u)) (rw eqb-same at h))
 
 pub apart-strips : (P : List ℕ) (S : List (List ℕ)) → Apart S → Apart (strips P S)
 unfolding strips keep

@@ -12,10 +12,12 @@ use native.Mathlib.Omega.{arith}
 use Rattle.rows.specs.CleanLaws.{bit-two, eqb-same}
 use Rattle.rows.specs.EachLaws.{all-map, all-weaken}
 use Rattle.rows.specs.Rows.{clean, next, any, All, Bits}
-use Rattle.uid.specs.Order.{Diff, on, off, later, diff, one, count, parts}
+use Rattle.uid.specs.Order.{Diff, on, off, later, diff, one, parts}
+use Rattle.uid.specs.OrderLaws.{lead, from, lead-some, diff-cons, lead-same}
+use Rattle.uid.specs.PartsLaws.{parts-nil}
 use Rattle.field.specs.Merge.{meet, join, merge}
 use Rattle.sweep_rules.proofs.Abstract.{strips, heard, Up, Top}
-use Rattle.sweep_rules.proofs.First.{lead, lead-some, from, diff-cons, put, pull, out, miss, strips-nil, strips-cons, parts-cons}
+use Rattle.sweep_rules.proofs.First.{put, pull, out, miss, strips-nil, strips-cons, parts-cons}
 
 -- ---- what is heard of the first bits
 
@@ -117,10 +119,6 @@ top-cons x P (r ∷ S) h t = rw diff-cons (go (lead x r) (top-cons x P S) h t)
     go (some u) ih h t = (up-later (diff P u) (t .0), ih h (t .1))
     go none ih h t = (h refl, ih (λ e. h refl) t)
 
-pub parts-nil : (S : List (List ℕ)) → parts [] S ≡ 0
-unfolding parts count
-parts-nil S = refl
-
 -- the first bits differ: the reader goes on with a 1
 pub miss-one : (x : ℕ) (r : List ℕ) (S : List (List ℕ)) → x < 2 → miss x S ≡ true → miss 1 ((x ∷ r) ∷ S) ≡ true
 unfolding miss any lead out
@@ -156,10 +154,6 @@ agree n x T R c e s = record {
   top = top-cons x R T (λ e′. absurd (true≢false (sym e′ ∙ e))) (rw (pull-all x T e) (s .top));
   left = rw (strips-cons, pull-all x T e) (s .left);
 }
-
-pub lead-same : (x : ℕ) (r : List ℕ) → lead x (x ∷ r) ≡ some r
-unfolding lead
-lead-same x r = rw eqb-same
 
 pub miss-same : (x : ℕ) (r : List ℕ) (S : List (List ℕ)) → miss x S ≡ false → miss x ((x ∷ r) ∷ S) ≡ false
 unfolding miss any out

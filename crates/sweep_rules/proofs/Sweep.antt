@@ -2,29 +2,18 @@
 -- Assumes nothing.
 use mathlib.Core.Path.{_≡_, refl, sym, ap, _∙_}
 use Prim.Native.Nat.{ℕ, zero, suc, _+_, _-_, _*_, _/_, _≤_}
-use mathlib.Core.Bool.{Bool, true, false, _||_}
 use mathlib.Core.List.{List, [], _∷_}
 use lib.ListN.{length}
-use lib.Dec.{eqb, eqb·suc-suc, eqb·zero-suc, eqb·suc-zero}
 use native.Mathlib.Omega.{arith}
 use native.Mathlib.Numerals.{sub-one}
 use native.Mathlib.Nat.{not-suc-le-zero}
-use Rattle.rows.specs.CleanLaws.{eqb-same}
-use Rattle.rows.specs.Rows.{any, All}
-use Rattle.uid.specs.Order.{Diff, on, off, later, diff, one, count, partsAt, parts}
+use Rattle.rows.specs.Rows.{All}
+use Rattle.uid.specs.Order.{sortOn, parts}
+use Rattle.uid.specs.PartsLaws.{parts-le, parts-self}
+use Rattle.uid.specs.SortLaws.{all-sort, length-sort}
 use Rattle.sweep_rules.proofs.Abstract.{rest, wide, select, sweep, sort, levels, frames, InLevels, Apart}
-use Rattle.sweep_rules.proofs.First.{count-cong}
 use Rattle.sweep_rules.proofs.Select.{Selected, select-holds}
-use Rattle.sweep_rules.proofs.Sort.{sort-first, parts-sort, all-sort, length-sort, all-rest, apart-rest, length-rest}
-
-diff-self : (P : List ℕ) → diff P P ≡ on []
-unfolding diff later
-diff-self [] = refl
-diff-self (x ∷ P) = rw (eqb-same, diff-self P)
-
-parts-self : (P : List ℕ) (l : List (List ℕ)) → parts P (P ∷ l) ≡ parts P l
-unfolding parts any partsAt
-parts-self P l = count-cong (length P) (λ q h. rw diff-self)
+use Rattle.sweep_rules.proofs.Sort.{sort-first, parts-sort, all-rest, apart-rest, length-rest}
 
 -- one round, and the rounds after it
 round : (T : List (List ℕ)) (s : List ℕ × ℕ) (w : List (List ℕ) × ℕ) → Selected T s → w ≡ (sort (rest (s .0) T), frames (sort (rest (s .0) T)))
@@ -37,7 +26,7 @@ round T s w k e =
     rw (e, first) (ap (λ m. (s .0 ∷ l, m)) (omega (arith, k .cost)))
 
 pub sweep-holds : (n : ℕ) (S : List (List ℕ)) → length S ≤ n → All (InLevels 3) S → Apart S → sweep n S ≡ (sort S, frames (sort S))
-unfolding sweep sort frames
+unfolding sweep sortOn frames
 sweep-holds zero [] h w a = refl
 sweep-holds zero (r ∷ S) h w a = absurd (not-suc-le-zero h)
 sweep-holds (suc n) [] h w a = refl
@@ -49,39 +38,6 @@ sweep-holds (suc n) (r ∷ S) h w a =
     (sweep-holds n (rest (s .0) T) (omega (arith, length-rest (s .0) T, ap length (k .only))) (all-rest (InLevels 3) (s .0) T w) (apart-rest (s .0) T a))
 
 -- ---- the bound
-
-one-or : (a b : Bool) → one (a || b) ≤ one a + one b
-unfolding one
-one-or true b = omega arith
-one-or false b = omega arith
-
-count-or : (n : ℕ) (f g : ℕ → Bool) → count n (λ q. f q || g q) ≤ count n f + count n g
-unfolding count
-count-or zero f g = omega arith
-count-or (suc n) f g = omega (arith, one-or (f 0) (g 0), count-or n (λ p. f (suc p)) (λ p. g (suc p)))
-
-count-none : (n : ℕ) → count n (λ q. false) ≡ 0
-unfolding count one
-count-none zero = refl
-count-none (suc n) = rw (count-none n)
-
--- one position
-count-at : (n p : ℕ) → count n (λ q. eqb p q) ≤ 1
-unfolding count one
-count-at zero p = omega arith
-count-at (suc n) zero = rw (count-cong n (λ q h. eqb·zero-suc q), count-none) (omega arith)
-count-at (suc n) (suc p) = rw (eqb·suc-zero, count-cong n (λ q h. eqb·suc-suc p q)) (omega (arith, count-at n p))
-
-count-parts : (n : ℕ) (D : Diff) → count n (λ q. partsAt q D) ≤ 1
-unfolding partsAt
-count-parts n (on t) = rw count-none (omega arith)
-count-parts n (off p x) = count-at n p
-
-parts-le : (P : List ℕ) (S : List (List ℕ)) → parts P S ≤ length S
-unfolding parts any
-parts-le P [] = rw count-none (omega arith)
-parts-le P (r ∷ S) =
-    omega (arith, count-or (length P) (λ q. partsAt q (diff P r)) (λ q. any (λ r. partsAt q (diff P r)) S), count-parts (length P) (diff P r), parts-le P S)
 
 levels-le : (r : List ℕ) → InLevels 3 r → levels r ≤ 3
 unfolding levels wide
@@ -107,7 +63,7 @@ frames-tri [] w = omega arith
 frames-tri (r ∷ l) w = omega (arith, levels-le r (w .0), parts-le r l, frames-tri l (w .1))
 
 pub sweep-bound : (S : List (List ℕ)) → All (InLevels 3) S → frames (sort S) ≤ 1 + 8 * length S + length S * (length S - 1) / 2
-sweep-bound S w = rw (← tri-is (length S)) (rw length-sort at (frames-tri (sort S) (all-sort (InLevels 3) S w)))
+sweep-bound S w = rw (← tri-is (length S)) (rw (length-sort (λ s. s) S) at (frames-tri (sort S) (all-sort (λ s. s) (InLevels 3) S w)))
 
 tri-mono : (n m : ℕ) → n ≤ m → tri n ≤ tri m
 unfolding tri
@@ -118,4 +74,4 @@ tri-mono (suc n) (suc m) h = omega (arith, tri-mono n m (omega arith))
 -- 16 cards take at most 249 frames
 pub frames-small : (S : List (List ℕ)) → All (InLevels 3) S → length S ≤ 16 → frames (sort S) ≤ 249
 unfolding tri
-frames-small S w h = omega (arith, rw length-sort at (frames-tri (sort S) (all-sort (InLevels 3) S w)), tri-mono (length S) 16 h)
+frames-small S w h = omega (arith, rw (length-sort (λ s. s) S) at (frames-tri (sort S) (all-sort (λ s. s) (InLevels 3) S w)), tri-mono (length S) 16 h)

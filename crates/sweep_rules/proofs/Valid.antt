@@ -9,9 +9,9 @@ use Rattle.rows.specs.EachLaws.{parts-equal}
 use Rattle.rows.specs.ListLaws.{all-append}
 use Rattle.rows.specs.Rows.{All, Bits}
 use Rattle.uid.specs.Order.{Diff, on, off, diff}
+use Rattle.uid.specs.OrderLaws.{Off, diff-on}
 use Rattle.uid.specs.Uid.{air}
-use Rattle.sweep_rules.proofs.Abstract.{wide, InLevels, Off, Apart, OneLevel, Valid, Distinct}
-use Rattle.sweep_rules.proofs.Level.{diff-on}
+use Rattle.sweep_rules.proofs.Abstract.{wide, InLevels, Apart, OneLevel, Valid, Distinct}
 
 levels-equal : (l m A B t : List ℕ) → OneLevel l → OneLevel m → m ++ B ≡ l ++ A ++ t → (m ≡ l) × (B ≡ A ++ t)
 levels-equal l m A B t hl hm e = parts-equal wide m l B (A ++ t) (hm .full) (hl .full) (e ∙ append-assoc l A t)

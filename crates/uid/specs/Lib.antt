@@ -1,3 +1,7 @@
 pub mod Order
 pub mod Uid
 pub mod Calls
+pub mod OrderLaws
+pub mod PartsLaws
+pub mod SortLaws
+pub mod StripLaws
