@@ -1,13 +1,13 @@
 -- The sweep over rows of bits alone: a level, a selection and a sweep as functions, and what they ask of the rows. No definition of the
 -- core cites this file. Assumes nothing.
 use mathlib.Core.Path.{_≡_}
-use mathlib.Core.Logic.{_≢_}
-use Prim.Native.Nat.{ℕ, zero, suc, _+_, _-_, _*_, _/_, _%_, _≤_}
+use Prim.Native.Nat.{ℕ, zero, suc, _+_, _-_, _*_, _/_}
 use mathlib.Core.Bool.{Bool, true, cond}
 use mathlib.Core.List.{List, [], _∷_, _++_, map}
-use lib.ListN.{length, take, drop}
+use lib.ListN.{length, take}
 use lib.Dec.{ltb}
-use Rattle.rows.specs.Rows.{clean, next, isNil, any, All, Bits}
+use Rattle.rows.specs.Rows.{clean, next, isNil, any, All}
+use Rattle.uid.specs.LevelLaws.{wide}
 use Rattle.uid.specs.Order.{insertOn, sortOn, Diff, on, off, diff, above, one, parts}
 use Rattle.uid.specs.OrderLaws.{Off}
 use Rattle.field.specs.Merge.{merge}
@@ -62,10 +62,6 @@ level (suc f) n T =
     let more : List ℕ × ℕ = (R ++ q .0, suc (q .1)) in
     cond (clean (heard n T)) (R, 0) more
 
--- the bits in a level
-unfoldable pub wide : ℕ
-wide = 40
-
 -- a selection: the row of the card, and the number of ANTICOLLISION and SELECT frames. L bounds the levels.
 unfoldable pub select : ℕ → List (List ℕ) → List ℕ × ℕ
 select zero T = ([], 0)
@@ -103,13 +99,6 @@ frames (r ∷ l) = 2 + 2 * levels r + parts r l + frames l
 
 -- ---- what a sweep asks of the rows
 
--- one to L levels of bits
-pub record InLevels (L : ℕ) (r : List ℕ) : Type 0 where
-  pub bits : Bits r
-  pub one-level : 1 ≤ length r
-  pub levels-only : length r % wide ≡ 0
-  pub at-most : length r ≤ wide * L
-
 -- no row is another's head: so they are distinct too
 abbrev pub Apart : List (List ℕ) → Type 0
 Apart [] = Unit {0}
@@ -126,27 +115,3 @@ tally f (r ∷ l) = one (f r) + tally f l
 
 -- ---- levels
 
--- 88, least significant bit first
-unfoldable pub mark : List ℕ
-mark = 0 ∷ 0 ∷ 0 ∷ 1 ∷ 0 ∷ 0 ∷ 0 ∷ 1 ∷ []
-
-pub record OneLevel (l : List ℕ) : Type 0 where
-  pub bits : Bits l
-  pub full : length l ≡ wide
-
--- of at most n levels. The n-th has no room for a level after it, so its first byte is free
--- (a third level begins with 88 where u6 of a 10-byte UID is 88).
-abbrev pub Valid : ℕ → List (List ℕ) → Type 0
-Valid zero ls = ⊥
-Valid (suc n) [] = ⊥
-Valid (suc zero) (l ∷ []) = OneLevel l
-Valid (suc (suc n)) (l ∷ []) = OneLevel l × (take 8 l ≢ mark)
-Valid (suc n) (l ∷ m ∷ ls) = OneLevel l × (take 8 l ≡ mark) × Valid n (m ∷ ls)
-
-abbrev pub Distinct : List (List (List ℕ)) → Type 0
-Distinct [] = Unit {0}
-Distinct (a ∷ cs) = All (λ b. a ≢ b) cs × Distinct cs
-
--- the bits of level j
-unfoldable pub lev : ℕ → List ℕ → List ℕ
-lev j r = take wide (drop (wide * j) r)

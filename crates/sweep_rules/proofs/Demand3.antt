@@ -12,9 +12,12 @@ use Rattle.sweep_rules.proofs.Abstract
 use Rattle.rows.specs.EachLaws.{all-zip, all-map}
 use Rattle.rows.specs.ListLaws.{both, same-eq}
 use Rattle.rows.specs.Rows.{All, any, same}
-use Rattle.frame.specs.Frame.{airBits}
+use Rattle.uid.specs.LevelLaws.{wide, InLevels}
+use Rattle.uid.specs.Order.{diff}
+use Rattle.uid.specs.OrderLaws.{Off}
 use Rattle.uid.specs.SortLaws.{map-sort, length-sort, all-sort}
-use Rattle.uid.specs.Uid.{air, levels, rowOf, falling, frameSum, valid, uidBytes}
+use Rattle.uid.specs.Uid.{levels, rowOf, falling, frameSum, valid, uidBytes}
+use Rattle.uid.specs.UidLaws.{rows-off, Sound, name, length-row, name-row}
 use Rattle.reader.specs.Reader.{blank, turn, isNew}
 use Rattle.log.specs.Log.{exchangeBytes}
 use Rattle.sweep_rules.specs.Call.{done, sweepCall}
@@ -22,14 +25,12 @@ use Rattle.sweep_rules.specs.Demand.{Typed, idle, halted, Swept, Demand3
 use Rattle.sweep_rules.specs.Limits.{mostCards, logRoom, listRoom, mostFrames}
 use Rattle.sweep_rules.specs.Run.{sweep}
 use Rattle.sweep_rules.specs.Terms.{isIdle, isHalt, cardFits, allFit, apart, within}
-use Rattle.sweep_rules.proofs.Abstract.{Falling, wide, sort, frames, InLevels, Apart, Valid, Distinct}
+use Rattle.sweep_rules.proofs.Abstract.{Falling, sort, frames, Apart}
 use Rattle.sweep_rules.proofs.Falling.{sort-falling}
 use Rattle.sweep_rules.proofs.Idle.{Fits, idlers, idles, idle-uids, all-idle, few-idle}
-use Rattle.sweep_rules.proofs.Levels.{Sound, name, card-valid, length-row, name-row}
 use Rattle.sweep_rules.proofs.LogSize.{small-all, log-length, list-length}
 use Rattle.sweep_rules.proofs.Model.{view, whole-idles, model-swept}
 use Rattle.sweep_rules.proofs.Sweep.{sweep-bound, frames-small}
-use Rattle.sweep_rules.proofs.Valid.{apart-valid}
 use Rattle.uid.specs.declared.Uid.{Uid}
 use Rattle.card.specs.declared.Card.{Card}
 use Rattle.reader.specs.declared.Answer.the-variants.{Finishes}
@@ -86,21 +87,13 @@ differ-idle (c ∷ cs) e =
 
 -- ---- rows that are apart
 
-bitLevels : Uid → List (List ℕ)
-bitLevels u = map airBits (levels u)
-
-ne-levels : (u v : Uid) → Sound u → Sound v → uidBytes u ≢ uidBytes v → bitLevels u ≢ bitLevels v
-unfolding bitLevels rowOf
-ne-levels u v s t n e = n (sym (name-row u s) ∙ ap (λ l. name (air l)) e ∙ name-row v t)
-
-distinct : (us : List Uid) → All Sound us → Differ us → Distinct (map bitLevels us)
-distinct [] s d = tt
-distinct (u ∷ us) s d =
-    (all-map {F = λ v. Sound v × (uidBytes u ≢ uidBytes v)} (λ b. bitLevels u ≢ b) bitLevels us (λ v h. ne-levels u v (s .0) (h .0) (h .1)) (all-zip us (λ v a b. (a, b)) (s .1) (d .0)), distinct us (s .1) (d .1))
-
 apart-rows : (us : List Uid) → All Sound us → Differ us → Apart (map rowOf us)
-unfolding bitLevels rowOf
-apart-rows us s d = rw (map-map air bitLevels us) at (apart-valid (map bitLevels us) (all-map {F = Sound} (Valid 3) bitLevels us card-valid s) (distinct us s d))
+apart-rows [] s d = tt
+apart-rows (u ∷ us) s d = (
+  all-map {F = λ v. Sound v × (uidBytes u ≢ uidBytes v)} (λ r. Off (diff (rowOf u) r) × Off (diff r (rowOf u))) rowOf us
+      (λ v h. (rows-off u v (s .0) (h .0) (h .1), rows-off v u (h .0) (s .0) (λ e. h .1 (sym e)))) (all-zip us (λ v a b. (a, b)) (s .1) (d .0)),
+  apart-rows us (s .1) (d .1),
+)
 
 -- ---- falling order over UIDs
 

@@ -7,9 +7,10 @@ use mathlib.Core.List.{List, [], _∷_}
 use lib.ListN.{length}
 use native.Mathlib.Omega.{arith}
 use Rattle.rows.specs.Rows.{All}
+use Rattle.uid.specs.LevelLaws.{InLevels}
 use Rattle.uid.specs.Order.{sortOn, Diff, on, off, diff, isUp, above}
 use Rattle.uid.specs.SortLaws.{all-sort}
-use Rattle.sweep_rules.proofs.Abstract.{rest, leave, Up, Top, sort, select, InLevels, Apart, Falling}
+use Rattle.sweep_rules.proofs.Abstract.{rest, leave, Up, Top, sort, select, Apart, Falling}
 use Rattle.sweep_rules.proofs.Select.{Selected, select-holds}
 use Rattle.sweep_rules.proofs.Sort.{sort-first, all-rest, apart-rest, length-rest}
 

@@ -9,20 +9,20 @@ use borrow.Author.Tests.{le-ltb}
 use native.Mathlib.Omega.{arith}
 use Rattle.rows.specs.CleanLaws.{next-clean, not-nil, clean-append, next-append}
 use Rattle.rows.specs.EachLaws.{all-map, all-weaken}
-use Rattle.rows.specs.ListLaws.{map-all, all-of, same-refl, all-take, all-append}
+use Rattle.rows.specs.ListLaws.{map-all, all-of, all-take, all-append}
 use Rattle.rows.specs.Rows.{All, clean, next, Bits, same}
 use Rattle.parity.specs.Bits.{bitsOf}
-use Rattle.frame.specs.ByteLaws.{bytes-fit, length-bytes, bits-bytes-all, bytes-bits, length-airBits, bits-airBits}
+use Rattle.frame.specs.ByteLaws.{length-airBits, bits-airBits}
 use Rattle.frame.specs.Frame.{airBits, standard, dataOf, bytesOf, faulty, airByte}
 use Rattle.frame.specs.FrameLaws.{length-standard}
 use Rattle.frame.specs.ParityLaws.{faulty-drop}
-use Rattle.uid.specs.Uid.{check, level}
+use Rattle.uid.specs.CheckLaws.{check-holds, checkOf}
+use Rattle.uid.specs.Uid.{level}
 use Rattle.selection.specs.Heard.{readAtqa, readRest, restOf, notRest}
 use Rattle.selection.specs.Selection.{cut, atqa, atqaByte}
 use Rattle.field.specs.Merge.{merge}
 use Rattle.sweep_rules.proofs.Abstract.{heard}
 use Rattle.sweep_rules.proofs.Frames.{sent-known}
-use Rattle.sweep_rules.proofs.Levels.{checkOf, Five, five-is, take-level, airBits-level}
 use Rattle.sweep_rules.proofs.Merge.{merge-append, length-merge, merge-same}
 use Rattle.sweep_rules.proofs.Seal.{seal, standard-seal, take-seal, length-seal, data-seal, faulty-seal}
 use Rattle.refusal.specs.declared.Refusal.the-variants.{Collision, Check}
@@ -73,20 +73,6 @@ module _ (zs : List UidSize) (some : 1 ≤ length zs) where
   reads-atqa = rw (not-nil (merge (map atqa zs)) (omega (arith, length-atqas)), length-atqas, sound-atqas, front)
 
 -- ---- the answer to ANTICOLLISION
-
--- a level that its last byte checks
-checked-bytes : (y : List ℕ) → Bits y → length y ≡ 32 → bytesOf 5 (y ++ checkOf y) ≡ level (bytesOf 4 y)
-unfolding checkOf
-checked-bytes y b h =
-    let l : List ℕ = bytesOf 4 y in
-    let f : Five (level l) = five-is l (bytes-fit 4 y b) (length-bytes 4 y) in
-    let e : airBits (level l) ≡ y ++ bitsOf 8 (check l) = airBits-level l ∙ ap (λ r. r ++ bitsOf 8 (check l)) (bits-bytes-all 4 y b h) in
-    ap (bytesOf 5) (sym e) ∙ ap (λ k. bytesOf k (airBits (level l))) (sym (f .full)) ∙ bytes-bits (level l) (f .fits)
-
-check-holds : (d y : List ℕ) → d ≡ y ++ checkOf y → Bits y → length y ≡ 32 → same (bytesOf 5 d) (level (take 4 (bytesOf 5 d))) ≡ true
-check-holds d y e b h =
-    let l : bytesOf 5 d ≡ level (bytesOf 4 y) = ap (bytesOf 5) e ∙ checked-bytes y b h in
-    rw (l, take-level (bytesOf 4 y) (length-bytes 4 y)) (same-refl (level (bytesOf 4 y)))
 
 -- T has what each card that is in has left; K was sent, n bits are open
 module _ (K : List ℕ) (n : ℕ) (T : List (List ℕ)) (bK : Bits K) (hn : 40 ≡ length K + n) (h1 : 1 ≤ n)

@@ -7,9 +7,9 @@ use lib.ListN.{length}
 use native.Mathlib.Omega.{arith}
 use Rattle.rows.specs.Rows.{All}
 use Rattle.uid.specs.Uid.{rowOf}
+use Rattle.uid.specs.UidLaws.{Sound}
 use Rattle.sweep_rules.specs.Demand.{idle}
 use Rattle.sweep_rules.specs.Terms.{isIdle, isHalt}
-use Rattle.sweep_rules.proofs.Levels.{Sound}
 use Rattle.uid.specs.declared.UidSize.{UidSize}
 use Rattle.card.specs.declared.Card.{Card}
 

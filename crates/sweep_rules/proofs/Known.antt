@@ -5,22 +5,22 @@ use Prim.Native.Nat.{ℕ, zero, suc, _+_, _-_, _*_, _/_, _≤_, _<_}
 use mathlib.Core.Bool.{Bool, true, false, cond}
 use mathlib.Core.List.{List, [], _++_, map}
 use lib.ListN.{length, take, drop, replicate, length-append, length-take, length-drop}
-use lib.Seq.{take-at, drop-at, take-all, take-append-le, drop-append-le}
+use lib.Seq.{take-at}
 use native.Mathlib.Omega.{arith}
 use Rattle.rows.specs.CleanLaws.{not-nil}
 use Rattle.rows.specs.Rows.{isNil, fill}
 use Rattle.parity.specs.Bits.{unbits}
 use Rattle.frame.specs.ByteLaws.{length-bytes}
 use Rattle.frame.specs.Frame.{bytesOf}
+use Rattle.uid.specs.LevelLaws.{wide, InLevels, lev-next, lev-head}
 use Rattle.uid.specs.Uid.{byteCount, place, uidBytes}
+use Rattle.uid.specs.UidLaws.{soFar, name}
 use Rattle.selection.specs.Heard.{readRest, restOf}
 use Rattle.selection.specs.Selection.{sakFrame, atqa}
 use Rattle.card.specs.Card.{up}
 use Rattle.reader.specs.Reader.{reader, blank, hear, longer, afterSak, hearSilence, hearAtqa, uid, opens, completes, sends, finds, hearRest, hearSak}
 use Rattle.field.specs.Merge.{merge}
-use Rattle.sweep_rules.proofs.Abstract.{wide, InLevels, lev}
 use Rattle.sweep_rules.proofs.HeardLaws.{length-atqas, reads-atqa}
-use Rattle.sweep_rules.proofs.Levels.{soFar, name}
 use Rattle.sweep_rules.proofs.SakLaws.{reads-more, reads-last}
 use Rattle.uid.specs.declared.Level.{Level}
 use Rattle.uid.specs.declared.Level.the-variants.{One, Two, Three}
@@ -71,18 +71,10 @@ unfolding soFar
 length-soFar zero r = refl
 length-soFar (suc j) r = rw (length-append, length-soFar j r, length-drop, length-take, length-bytes) (omega arith)
 
-lev-head : (j : ℕ) (P X : List ℕ) → 40 * suc j ≤ length P → lev j (P ++ X) ≡ lev j P
-unfolding lev wide
-lev-head j P X h = rw (drop-append-le (40 * j) P X (omega arith), take-append-le 40 (drop (40 * j) P) X (rw length-drop (omega arith)))
-
 soFar-head : (j : ℕ) (P X : List ℕ) → 40 * j ≤ length P → soFar j (P ++ X) ≡ soFar j P
 unfolding soFar
 soFar-head zero P X h = refl
 soFar-head (suc j) P X h = rw (soFar-head j P X (omega arith), lev-head j P X h)
-
-lev-next : (j : ℕ) (P X : List ℕ) → length P ≡ 40 * j → length X ≡ 40 → lev j (P ++ X) ≡ X
-unfolding lev wide
-lev-next j P X h k = rw (drop-at P X (40 * j) h) (take-all 40 X (omega arith))
 
 module _ (j : ℕ) (P X : List ℕ) (hP : length P ≡ 40 * j) (hX : length X ≡ 40) where
   soFar-next : soFar (suc j) (P ++ X) ≡ soFar j P ++ drop 1 (take 4 (bytesOf 5 X))

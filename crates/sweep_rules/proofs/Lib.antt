@@ -6,14 +6,11 @@ pub mod Select
 pub mod Sort
 pub mod Sweep
 pub mod Falling
-pub mod Valid
-pub mod LevelBits
 pub mod Strip
 pub mod Merge
 pub mod Check
 pub mod Machine
 pub mod Seal
-pub mod Levels
 pub mod Frames
 pub mod OneCard
 pub mod Idle

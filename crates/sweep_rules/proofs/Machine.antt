@@ -11,7 +11,8 @@ use native.Mathlib.Omega.{arith}
 use Rattle.rows.specs.CleanLaws.{next-clean}
 use Rattle.rows.specs.EachLaws.{bits-right, all-weaken}
 use Rattle.rows.specs.Rows.{clean, next, any, All, isNil, Bits}
-use Rattle.sweep_rules.proofs.Abstract.{strips, rest, heard, wide, level, select, sweep, sort, frames, InLevels, Apart}
+use Rattle.uid.specs.LevelLaws.{wide, InLevels}
+use Rattle.sweep_rules.proofs.Abstract.{strips, rest, heard, level, select, sweep, sort, frames, Apart}
 use Rattle.sweep_rules.proofs.First.{strips-nil, strips-append}
 use Rattle.sweep_rules.proofs.Level.{all-strips, Level}
 use Rattle.sweep_rules.proofs.Select.{Selected, select-holds, apart-strips, ended, whole-wide, whole-next, level-whole}

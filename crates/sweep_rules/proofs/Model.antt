@@ -12,21 +12,23 @@ use Rattle.rows.specs.ListLaws.{all-take, all-append}
 use Rattle.rows.specs.Rows.{clean, next, All, isNil, Bits}
 use Rattle.frame.specs.ByteLaws.{length-bytes}
 use Rattle.frame.specs.Frame.{bytesOf}
+use Rattle.uid.specs.CheckLaws.{Checked, checkOf}
+use Rattle.uid.specs.LevelLaws.{wide, InLevels}
 use Rattle.uid.specs.Uid.{place, uidBytes}
+use Rattle.uid.specs.UidLaws.{soFar, name, uid-in-levels, checked-row}
 use Rattle.selection.specs.Selection.{cut, reqa, hlta, anticollision, select, sakFrame, atqa}
 use Rattle.reader.specs.Reader.{blank, turn, frame, hear, hearAtqa, sends, finds}
 use Rattle.field.specs.Field.{allTake, heardFrom}
 use Rattle.field.specs.Merge.{merge}
 use Rattle.sweep_rules.specs.Demand.{halted}
 use Rattle.sweep_rules.specs.Run.{Out, before, ended, follow, run, finding}
-use Rattle.sweep_rules.proofs.Abstract.{strips, heard, wide, sort, frames, InLevels, Apart}
-use Rattle.sweep_rules.proofs.Check.{Checked, all-tied, law-early-32}
+use Rattle.sweep_rules.proofs.Abstract.{strips, heard, sort, frames, Apart}
+use Rattle.sweep_rules.proofs.Check.{all-tied, law-early-32}
 use Rattle.sweep_rules.proofs.Frames.{length-reqa, length-hlta, length-anti, length-select, length-sak}
 use Rattle.sweep_rules.proofs.HeardLaws.{length-atqas, length-answer, reads-clean, reads-clash}
 use Rattle.sweep_rules.proofs.Idle.{idles, Fits, idlers, rowIn, sizes, all-idle}
 use Rattle.sweep_rules.proofs.Known.{knows, lvl, place-lvl, up-lvl, closing, found-closing, asking, opened, chosen, closed, hears-atqa, hears-whole, hears-collided, hears-more, hears-last, hears-silence}
 use Rattle.sweep_rules.proofs.Level.{all-strips}
-use Rattle.sweep_rules.proofs.Levels.{checkOf, soFar, name, card-whole, checked-row}
 use Rattle.sweep_rules.proofs.LogSize.{small, allSmall, small-any, small-clean, small-anti}
 use Rattle.sweep_rules.proofs.Machine.{View, Open, Machine, machine-swept}
 use Rattle.sweep_rules.proofs.Merge.{clean-all}
@@ -71,11 +73,11 @@ tick-found f r t F F′ h v e₁ e₂ e₃ e₄ e₅ = rw (e₁, e₂, e₃, e�
 module _ (F : List Card) (hF : All Fits F) where
   pub whole-idles : All (InLevels 3) (idles F)
   unfolding idles
-  whole-idles = all-map {F = Fits} (InLevels 3) rowIn (idlers F) (λ c s. card-whole (c .uid) (s .sound)) (all-idle Fits F hF)
+  whole-idles = all-map {F = Fits} (InLevels 3) rowIn (idlers F) (λ c s. uid-in-levels (c .uid) (s .sound)) (all-idle Fits F hF)
 
-  checked-idles : All (Checked checkOf) (idles F)
+  checked-idles : All Checked (idles F)
   unfolding idles
-  checked-idles = all-map {F = Fits} (Checked checkOf) rowIn (idlers F) (λ c s. checked-row (c .uid) (s .sound)) (all-idle Fits F hF)
+  checked-idles = all-map {F = Fits} Checked rowIn (idlers F) (λ c s. checked-row (c .uid) (s .sound)) (all-idle Fits F hF)
 
 -- the bits that the reader knows are a card's
 known-bits : (S : List (List ℕ)) (P K : List ℕ) → All (InLevels 3) S → 1 ≤ length (strips (P ++ K) S) → Bits K
@@ -90,9 +92,9 @@ pub record Checks (d : List ℕ) : Type 0 where
   pub full : length y ≡ 32
   pub is : d ≡ y ++ checkOf y
 
-heard-checks : (S : List (List ℕ)) (j n : ℕ) (P K : List ℕ) → All (Checked checkOf) S → Open 32 S j n P K → Bits K → clean (heard n (strips (P ++ K) S)) ≡ true → Checks (K ++ heard n (strips (P ++ K) S))
+heard-checks : (S : List (List ℕ)) (j n : ℕ) (P K : List ℕ) → All Checked S → Open 32 S j n P K → Bits K → clean (heard n (strips (P ++ K) S)) ≡ true → Checks (K ++ heard n (strips (P ++ K) S))
 heard-checks S j n P K cs o b c =
-    go (strips (P ++ K) S) (o .some-in) (o .long) (o .bits) (clean-all n (strips (P ++ K) S) (o .some-in) (o .long) (o .bits) c) (all-tied checkOf S j n m P K cs o (omega (arith, o .early)))
+    go (strips (P ++ K) S) (o .some-in) (o .long) (o .bits) (clean-all n (strips (P ++ K) S) (o .some-in) (o .long) (o .bits) c) (all-tied S j n m P K cs o (omega (arith, o .early)))
   where
     m : ℕ
     m = 32 - length K
@@ -178,7 +180,7 @@ module _ (f : ℕ) (F : List Card) (hF : All Fits F) (v : Vw) where
     clash-law c k =
         anti (opened j P (K ++ next (heard n T)))
         (hears-collided j P K (K ++ next (heard n T)) h
-        (reads-clash K n T bK hn h1 (o .some-in) (o .long) (o .bits) c (law-early-32 checkOf (idles F) j n P K (checked-idles F hF) o c))) k
+        (reads-clash K n T bK hn h1 (o .some-in) (o .long) (o .bits) c (law-early-32 (idles F) j n P K (checked-idles F hF) o c))) k
 
   module _ (j : ℕ) (P Q R : List ℕ) (hj : j < 3) (before : length P ≡ wide * j) (hw : wide ≡ length (Q ++ R)) (bX : Bits (Q ++ R)) where
     X : List ℕ
@@ -250,7 +252,7 @@ model = record {
   chosen = λ F j P Q X. (chosen j P X, at (P ++ Q) (Ready (lvl j)) F);
   closing = λ F P. (closed P (lastSak P F), at P Active F);
   cap = 32;
-  law-early = λ F j n P Q R hF o c. law-early-32 checkOf (idles F) j n P (Q ++ R) (checked-idles F hF) o c;
+  law-early = λ F j n P Q R hF o c. law-early-32 (idles F) j n P (Q ++ R) (checked-idles F hF) o c;
   law-stop = stop-law;
   law-req = λ f F v hF h k. req f F hF v h k;
   law-clean = λ f F j n P Q R v hF o c k. clean-law f F hF v j n P Q R o c k;

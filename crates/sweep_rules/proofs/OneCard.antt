@@ -15,15 +15,14 @@ use Rattle.rows.specs.ListLaws.{same-eq, same-ne, same-length}
 use Rattle.rows.specs.Rows.{Bits}
 use Rattle.frame.specs.ByteLaws.{bytes-bits, bits-bytes-all, length-bytes}
 use Rattle.frame.specs.Frame.{airBits, bytesOf}
+use Rattle.uid.specs.LevelLaws.{wide, lev-under}
 use Rattle.uid.specs.StripLaws.{strip, and-then, not-none, strip-append, strip-sound}
 use Rattle.uid.specs.Uid.{levels, rowOf, place}
+use Rattle.uid.specs.UidLaws.{Sound, length-row, lev-row, five-row}
 use Rattle.selection.specs.Selection.{cut, reqa, wupa, anticollision, others, select, sakFrame}
 use Rattle.card.specs.Card.{Step, up, bitsSent, remain, sak, chosen, ready, rules}
-use Rattle.sweep_rules.proofs.Abstract.{wide}
 use Rattle.sweep_rules.proofs.Frames.{length-reqa, length-wupa, length-anti, length-select, bits-sent, anti-same, anti-tells, rest-is, select-tells}
-use Rattle.sweep_rules.proofs.Levels.{Sound, length-row, lev-row, five-row}
 use Rattle.sweep_rules.proofs.Seal.{seal}
-use Rattle.sweep_rules.proofs.Strip.{lev-under}
 use Rattle.uid.specs.declared.Level.{Level}
 use Rattle.card.specs.declared.Card.{Card}
 use Rattle.card.specs.declared.CardState.{CardState}

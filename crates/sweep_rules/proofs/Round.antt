@@ -14,6 +14,7 @@ use Rattle.rows.specs.Rows.{All, isNil, Bits, same}
 use Rattle.parity.specs.Bits.{bitsOf}
 use Rattle.frame.specs.ByteLaws.{length-bytes}
 use Rattle.frame.specs.Frame.{short, bytesOf}
+use Rattle.uid.specs.LevelLaws.{wide}
 use Rattle.uid.specs.Order.{Diff, on, off, diff}
 use Rattle.uid.specs.StripLaws.{shape, strip}
 use Rattle.uid.specs.Uid.{levels, rowOf, place}
@@ -23,7 +24,7 @@ use Rattle.field.specs.Field.{allTake, heardFrom}
 use Rattle.field.specs.Merge.{join, merge}
 use Rattle.sweep_rules.specs.Demand.{halted}
 use Rattle.sweep_rules.specs.Terms.{isIdle, isHalt}
-use Rattle.sweep_rules.proofs.Abstract.{strips, leave, rest, wide}
+use Rattle.sweep_rules.proofs.Abstract.{strips, leave, rest}
 use Rattle.sweep_rules.proofs.First.{put}
 use Rattle.sweep_rules.proofs.Frames.{length-hlta, length-anti, length-select}
 use Rattle.sweep_rules.proofs.Idle.{Fits, idlers, rowIn, idles, sizes, all-idle}

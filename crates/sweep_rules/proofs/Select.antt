@@ -8,9 +8,10 @@ use lib.ListN.{length, length-append}
 use native.Mathlib.Omega.{arith}
 use Rattle.rows.specs.EachLaws.{bits-right, all-weaken, all-zip}
 use Rattle.rows.specs.Rows.{any, All, isNil}
+use Rattle.uid.specs.LevelLaws.{wide, InLevels}
 use Rattle.uid.specs.Order.{Diff, on, off, diff, parts}
 use Rattle.uid.specs.OrderLaws.{Off, diff-on, off-under}
-use Rattle.sweep_rules.proofs.Abstract.{keep, strips, Top, level, wide, select, levels, InLevels, Apart}
+use Rattle.sweep_rules.proofs.Abstract.{keep, strips, Top, level, select, levels, Apart}
 use Rattle.sweep_rules.proofs.First.{strips-append, parts-append}
 use Rattle.sweep_rules.proofs.Level.{all-strips, top-append, Level, level-holds}
 

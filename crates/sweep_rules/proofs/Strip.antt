@@ -1,16 +1,15 @@
 -- What a row has left after the bits that are known, as an option; and what all rows of a field have left. Assumes nothing.
-use mathlib.Core.Path.{_≡_, refl, ap, _∙_}
-use Prim.Native.Nat.{ℕ, _*_}
+use mathlib.Core.Path.{_≡_, refl, ap}
+use Prim.Native.Nat.{ℕ}
 use mathlib.Core.Option.{Option, none, some}
 use mathlib.Core.List.{List, [], _∷_, map}
-use lib.ListN.{length, take, drop}
-use lib.Seq.{drop-at}
+use lib.ListN.{take}
 use native.Mathlib.Omega.{arith}
 use Rattle.rows.specs.Rows.{All}
 use Rattle.uid.specs.Order.{Diff, on, off, diff}
-use Rattle.uid.specs.StripLaws.{shape, strip, strip-sound}
+use Rattle.uid.specs.StripLaws.{shape, strip}
 use Rattle.field.specs.Merge.{join, merge}
-use Rattle.sweep_rules.proofs.Abstract.{keep, strips, wide, lev}
+use Rattle.sweep_rules.proofs.Abstract.{keep, strips}
 use Rattle.sweep_rules.proofs.First.{put}
 
 unfoldable pub cut : ℕ → Option (List ℕ) → Option (List ℕ)
@@ -24,10 +23,6 @@ strips-put W r S = go (diff W r)
     go : (D : Diff) → keep D (strips W S) ≡ put (shape D) (strips W S)
     go (on t) = refl
     go (off p x) = refl
-
-pub lev-under : (j : ℕ) (P r u : List ℕ) → length P ≡ wide * j → strip P r ≡ some u → lev j r ≡ take wide u
-unfolding lev
-lev-under j P r u h e = ap (take wide) (ap (drop (wide * j)) (strip-sound P r u e) ∙ drop-at P u (wide * j) h)
 
 -- rows that do not begin with W are silent
 pub merge-strips : (O : Option (List ℕ) → List ℕ) (W : List ℕ) (S : List (List ℕ)) → O none ≡ [] → merge (map (λ r. O (strip W r)) S) ≡ merge (map (λ v. O (some v)) (strips W S))

@@ -8,10 +8,11 @@ use native.Mathlib.Omega.{arith}
 use native.Mathlib.Numerals.{sub-one}
 use native.Mathlib.Nat.{not-suc-le-zero}
 use Rattle.rows.specs.Rows.{All}
+use Rattle.uid.specs.LevelLaws.{wide, InLevels}
 use Rattle.uid.specs.Order.{sortOn, parts}
 use Rattle.uid.specs.PartsLaws.{parts-le, parts-self}
 use Rattle.uid.specs.SortLaws.{all-sort, length-sort}
-use Rattle.sweep_rules.proofs.Abstract.{rest, wide, select, sweep, sort, levels, frames, InLevels, Apart}
+use Rattle.sweep_rules.proofs.Abstract.{rest, select, sweep, sort, levels, frames, Apart}
 use Rattle.sweep_rules.proofs.Select.{Selected, select-holds}
 use Rattle.sweep_rules.proofs.Sort.{sort-first, parts-sort, all-rest, apart-rest, length-rest}
 

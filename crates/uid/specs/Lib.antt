@@ -5,3 +5,6 @@ pub mod OrderLaws
 pub mod PartsLaws
 pub mod SortLaws
 pub mod StripLaws
+pub mod LevelLaws
+pub mod CheckLaws
+pub mod UidLaws
