@@ -1,2 +1,5 @@
 pub mod Selection
 pub mod Heard
+pub mod SealLaws
+pub mod SelectionLaws
+pub mod SakLaws

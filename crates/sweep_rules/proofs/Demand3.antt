@@ -17,7 +17,7 @@ use Rattle.uid.specs.Order.{diff}
 use Rattle.uid.specs.OrderLaws.{Off}
 use Rattle.uid.specs.SortLaws.{map-sort, length-sort, all-sort}
 use Rattle.uid.specs.Uid.{levels, rowOf, falling, frameSum, valid, uidBytes}
-use Rattle.uid.specs.UidLaws.{rows-off, Sound, name, length-row, name-row}
+use Rattle.uid.specs.UidLaws.{name, Sound, rows-off, length-row, name-row}
 use Rattle.reader.specs.Reader.{blank, turn, isNew}
 use Rattle.log.specs.Log.{exchangeBytes}
 use Rattle.sweep_rules.specs.Call.{done, sweepCall}

@@ -1,12 +1,13 @@
 -- The field of cards and the reader, with their frames, are a machine (proofs/Machine.antt): its laws, one for each kind of frame.
 -- Assumes nothing.
 use mathlib.Core.Path.{_≡_, refl, sym, ap, _∙_}
-use Prim.Native.Nat.{ℕ, suc, _+_, _-_, _*_, _≤_, _<_}
+use Prim.Native.Nat.{ℕ, suc, _+_, _-_, _*_, _≤_, _<_, zero}
 use native.Mathlib.Nat.{not-suc-le-zero}
 use mathlib.Core.Bool.{Bool, true, false, cond}
 use mathlib.Core.List.{List, [], _∷_, _++_, map, append-nil, append-assoc, cons≢nil}
 use lib.ListN.{length, take, drop, length-map, length-append, length-take}
 use native.Mathlib.Omega.{arith}
+use Rattle.rows.specs.CleanLaws.{not-nil}
 use Rattle.rows.specs.EachLaws.{bits-right, all-map, bits-left, some-all}
 use Rattle.rows.specs.ListLaws.{all-take, all-append}
 use Rattle.rows.specs.Rows.{clean, next, All, isNil, Bits}
@@ -15,26 +16,26 @@ use Rattle.frame.specs.Frame.{bytesOf}
 use Rattle.uid.specs.CheckLaws.{Checked, checkOf}
 use Rattle.uid.specs.LevelLaws.{wide, InLevels}
 use Rattle.uid.specs.Uid.{place, uidBytes}
-use Rattle.uid.specs.UidLaws.{soFar, name, uid-in-levels, checked-row}
+use Rattle.uid.specs.UidLaws.{name, soFar, uid-in-levels, checked-row}
+use Rattle.selection.specs.SakLaws.{clean-more, clean-last}
+use Rattle.selection.specs.SealLaws.{seal}
 use Rattle.selection.specs.Selection.{cut, reqa, hlta, anticollision, select, sakFrame, atqa}
+use Rattle.selection.specs.SelectionLaws.{length-reqa, length-hlta, length-anti, length-select, length-sak}
+use Rattle.card.specs.Card.{up}
 use Rattle.reader.specs.Reader.{blank, turn, frame, hear, hearAtqa, sends, finds}
+use Rattle.reader.specs.ReaderLaws.{selecting, place-lvl, lvl, knows, closing, found-closing, asking, opened, closed, hears-atqa, hears-whole, hears-collided, hears-more, hears-last, hears-silence}
 use Rattle.field.specs.Field.{allTake, heardFrom}
+use Rattle.field.specs.HeardLaws.{reads-atqa, length-atqas, length-answer, reads-clean, reads-clash}
 use Rattle.field.specs.Merge.{merge}
 use Rattle.sweep_rules.specs.Demand.{halted}
 use Rattle.sweep_rules.specs.Run.{Out, before, ended, follow, run, finding}
 use Rattle.sweep_rules.proofs.Abstract.{strips, heard, sort, frames, Apart}
-use Rattle.sweep_rules.proofs.Check.{all-tied, law-early-32}
-use Rattle.sweep_rules.proofs.Frames.{length-reqa, length-hlta, length-anti, length-select, length-sak}
-use Rattle.sweep_rules.proofs.HeardLaws.{length-atqas, length-answer, reads-clean, reads-clash}
+use Rattle.sweep_rules.proofs.Early.{all-tied, law-early-32, clean-all}
 use Rattle.sweep_rules.proofs.Idle.{idles, Fits, idlers, rowIn, sizes, all-idle}
-use Rattle.sweep_rules.proofs.Known.{knows, lvl, place-lvl, up-lvl, closing, found-closing, asking, opened, chosen, closed, hears-atqa, hears-whole, hears-collided, hears-more, hears-last, hears-silence}
 use Rattle.sweep_rules.proofs.Level.{all-strips}
 use Rattle.sweep_rules.proofs.LogSize.{small, allSmall, small-any, small-clean, small-anti}
 use Rattle.sweep_rules.proofs.Machine.{View, Open, Machine, machine-swept}
-use Rattle.sweep_rules.proofs.Merge.{clean-all}
 use Rattle.sweep_rules.proofs.Round.{at, none-idle, turn-req, hear-req, turn-hlt, hear-hlt, turn-anti, hear-anti, turn-more, hear-more, turn-last, hear-last, sound-halt, idles-halt, halted-at, speaks}
-use Rattle.sweep_rules.proofs.SakLaws.{clean-more, clean-last}
-use Rattle.sweep_rules.proofs.Seal.{seal}
 use Rattle.uid.specs.declared.Level.{Level}
 use Rattle.uid.specs.declared.Level.the-variants.{One}
 use Rattle.card.specs.declared.Card.{Card}
@@ -43,6 +44,12 @@ use Rattle.reader.specs.declared.Answer.the-variants.{Finishes}
 use Rattle.reader.specs.declared.Phase.the-variants.{Finished, ReqaSent, AnticollisionSent, SelectSent}
 use Rattle.reader.specs.declared.Reader.{Reader}
 use Rattle.reader.specs.declared.Turn.{Turn}
+
+pub up-lvl : (j : ℕ) → suc j < 3 → up (lvl j) ≡ lvl (suc j)
+unfolding lvl
+up-lvl zero h = refl
+up-lvl (suc zero) h = refl
+up-lvl (suc (suc j)) h = absurd (omega arith)
 
 -- ---- one frame
 
@@ -94,7 +101,7 @@ pub record Checks (d : List ℕ) : Type 0 where
 
 heard-checks : (S : List (List ℕ)) (j n : ℕ) (P K : List ℕ) → All Checked S → Open 32 S j n P K → Bits K → clean (heard n (strips (P ++ K) S)) ≡ true → Checks (K ++ heard n (strips (P ++ K) S))
 heard-checks S j n P K cs o b c =
-    go (strips (P ++ K) S) (o .some-in) (o .long) (o .bits) (clean-all n (strips (P ++ K) S) (o .some-in) (o .long) (o .bits) c) (all-tied S j n m P K cs o (omega (arith, o .early)))
+    go (strips (P ++ K) S) (o .some-in) (o .long) (o .bits) (clean-all n (strips (P ++ K) S) (o .some-in) (o .long) c) (all-tied S j n m P K cs o (omega (arith, o .early)))
   where
     m : ℕ
     m = 32 - length K
@@ -129,7 +136,7 @@ module _ (f : ℕ) (F : List Card) (hF : All Fits F) (v : Vw) where
   req h k =
       let n : 1 ≤ length (sizes F) = rw length-map (rw length-map at h) in
       tick f (blank ReqaSent true) (opened 0 [] []) F (at [] (Ready One) F) (merge (map atqa (sizes F))) v
-      (hear-req F hF) (turn-req F hF) (hears-atqa (sizes F) n)
+      (hear-req F hF) (turn-req F hF) (hears-atqa (merge (map atqa (sizes F))) (not-nil (merge (map atqa (sizes F))) (omega (arith, length-atqas (sizes F) n))) (reads-atqa (sizes F) n))
       (small-any reqa (merge (map atqa (sizes F))) (rw (length-reqa, length-atqas (sizes F) n) (omega arith))) k
 
   module _ (j n : ℕ) (P Q R : List ℕ) (o : Open 32 (idles F) j n P (Q ++ R)) where
@@ -162,25 +169,25 @@ module _ (f : ℕ) (F : List Card) (hF : All Fits F) (v : Vw) where
         tick f (knows (AnticollisionSent (lvl j)) (soFar j P) K) t (at (P ++ Q) (Ready (lvl j)) F) (at (P ++ K) (Ready (lvl j)) F) h v
         (hear-anti F hF (lvl j) P Q R hP bK n hn h1 (o .long)) (turn-anti F hF (lvl j) P Q R hP bK n hn h1 (o .long)) e
         (small-anti (anticollision (lvl j) (length K) (bytesOf 5 K)) h (cut (length K)) (omega arith)
-        (length-anti (lvl j) (length K) (bytesOf 5 K) (length-bytes 5 K) (omega arith)) (length-answer K n T bK hn h1 (o .some-in) (o .long) (o .bits))) k
+        (length-anti (lvl j) (length K) (bytesOf 5 K) (length-bytes 5 K) (omega arith)) (length-answer K n T bK hn h1 (o .some-in) (o .long))) k
 
     clean-law : clean (heard n (strips (P ++ (Q ++ R)) (idles F))) ≡ true
-        → goes f (chosen j P (Q ++ R ++ heard n (strips (P ++ (Q ++ R)) (idles F)))) (at (P ++ (Q ++ R)) (Ready (lvl j)) F) ≡ v
+        → goes f (selecting j P (Q ++ R ++ heard n (strips (P ++ (Q ++ R)) (idles F)))) (at (P ++ (Q ++ R)) (Ready (lvl j)) F) ≡ v
         → goes (suc f) (opened j P (Q ++ R)) (at (P ++ Q) (Ready (lvl j)) F) ≡ (v .0, suc (v .1), v .2)
-    unfolding h K T
+    unfolding h K T heard
     clean-law c k =
         let x : Checks (K ++ heard n T) = heard-checks (idles F) j n P K (checked-idles F hF) o bK c in
-        anti (chosen j P (K ++ heard n T))
-        (hears-whole j P K (K ++ heard n T) h (reads-clean K n T bK hn h1 (o .some-in) (o .long) (o .bits) c (x .y) (x .is) (x .bits) (x .full))) k
+        anti (selecting j P (K ++ heard n T))
+        (hears-whole j P K (K ++ heard n T) h (reads-clean K n T bK hn h1 (o .some-in) (o .long) c (x .y) (x .is) (x .bits) (x .full))) k
 
     clash-law : clean (heard n (strips (P ++ (Q ++ R)) (idles F))) ≡ false
         → goes f (opened j P (Q ++ R ++ next (heard n (strips (P ++ (Q ++ R)) (idles F))))) (at (P ++ (Q ++ R)) (Ready (lvl j)) F) ≡ v
         → goes (suc f) (opened j P (Q ++ R)) (at (P ++ Q) (Ready (lvl j)) F) ≡ (v .0, suc (v .1), v .2)
-    unfolding h K T
+    unfolding h K T heard
     clash-law c k =
         anti (opened j P (K ++ next (heard n T)))
         (hears-collided j P K (K ++ next (heard n T)) h
-        (reads-clash K n T bK hn h1 (o .some-in) (o .long) (o .bits) c (law-early-32 (idles F) j n P K (checked-idles F hF) o c))) k
+        (reads-clash K n T bK hn h1 (o .some-in) (o .long) c (law-early-32 (idles F) j n P K (checked-idles F hF) o c))) k
 
   module _ (j : ℕ) (P Q R : List ℕ) (hj : j < 3) (before : length P ≡ wide * j) (hw : wide ≡ length (Q ++ R)) (bX : Bits (Q ++ R)) where
     X : List ℕ
@@ -191,8 +198,8 @@ module _ (f : ℕ) (F : List Card) (hF : All Fits F) (v : Vw) where
 
     more-law : suc j < 3 → 1 ≤ length (strips (P ++ (Q ++ R)) (idles F)) → All (λ t. isNil t ≡ false) (strips (P ++ (Q ++ R)) (idles F))
         → goes f (opened (suc j) (P ++ (Q ++ R)) []) (at (P ++ (Q ++ R)) (Ready (lvl (suc j))) F) ≡ v
-        → goes (suc f) (chosen j P (Q ++ R)) (at (P ++ Q) (Ready (lvl j)) F) ≡ (v .0, suc (v .1), v .2)
-    unfolding frame chosen knows wide X
+        → goes (suc f) (selecting j P (Q ++ R)) (at (P ++ Q) (Ready (lvl j)) F) ≡ (v .0, suc (v .1), v .2)
+    unfolding frame selecting knows wide X
     more-law h some more k =
         tick f (knows (SelectSent (lvl j)) (soFar j P) X) (opened (suc j) (P ++ X) []) (at (P ++ Q) (Ready (lvl j)) F) (at (P ++ X) (Ready (lvl (suc j))) F) (sakFrame 0x04) v
         (hear-more F hF (lvl j) P Q R hP′ bX hw more some)
@@ -201,8 +208,8 @@ module _ (f : ℕ) (F : List Card) (hF : All Fits F) (v : Vw) where
         (small-sak (lvl j) (bytesOf 5 X) 0x04 (length-bytes 5 X) clean-more) k
 
     last-law : strips (P ++ (Q ++ R)) (idles F) ≡ [] ∷ [] → goes f (closed (P ++ (Q ++ R)) (lastSak (P ++ (Q ++ R)) F)) (at (P ++ (Q ++ R)) Active F) ≡ v
-        → goes (suc f) (chosen j P (Q ++ R)) (at (P ++ Q) (Ready (lvl j)) F) ≡ (v .0, suc (v .1), v .2)
-    unfolding frame chosen knows wide X
+        → goes (suc f) (selecting j P (Q ++ R)) (at (P ++ Q) (Ready (lvl j)) F) ≡ (v .0, suc (v .1), v .2)
+    unfolding frame selecting knows wide X
     last-law last k =
         let b : Bool = speaks (P ++ X) (idlers F) in
         tick f (knows (SelectSent (lvl j)) (soFar j P) X) (closed (P ++ X) (lastSak (P ++ X) F)) (at (P ++ Q) (Ready (lvl j)) F) (at (P ++ X) Active F) (sakFrame (lastSak (P ++ X) F)) v
@@ -249,7 +256,7 @@ model = record {
   go = λ f s. goes f (s .0) (s .1);
   asking = λ F. (asking, F);
   opened = λ F j P Q R. (opened j P (Q ++ R), at (P ++ Q) (Ready (lvl j)) F);
-  chosen = λ F j P Q X. (chosen j P X, at (P ++ Q) (Ready (lvl j)) F);
+  chosen = λ F j P Q X. (selecting j P X, at (P ++ Q) (Ready (lvl j)) F);
   closing = λ F P. (closed P (lastSak P F), at P Active F);
   cap = 32;
   law-early = λ F j n P Q R hF o c. law-early-32 (idles F) j n P (Q ++ R) (checked-idles F hF) o c;

@@ -16,38 +16,27 @@ use Rattle.frame.specs.ByteLaws.{length-bytes}
 use Rattle.frame.specs.Frame.{short, bytesOf}
 use Rattle.uid.specs.LevelLaws.{wide}
 use Rattle.uid.specs.Order.{Diff, on, off, diff}
-use Rattle.uid.specs.StripLaws.{shape, strip}
+use Rattle.uid.specs.StripLaws.{strip, shape}
 use Rattle.uid.specs.Uid.{levels, rowOf, place}
+use Rattle.selection.specs.SealLaws.{seal}
 use Rattle.selection.specs.Selection.{cut, reqa, wupa, hlta, anticollision, select, sakFrame, atqa}
-use Rattle.card.specs.Card.{Step, up, remain, sak, chosen, ready, rules, withState, takes, answers}
+use Rattle.selection.specs.SelectionLaws.{length-hlta, length-anti, length-select}
+use Rattle.card.specs.Card.{Step, up, rules, withState, takes, answers}
+use Rattle.card.specs.CardLaws.{sit₁, said, saked, rules-state, idle-else, halt-else, card-anti, card-sel}
 use Rattle.field.specs.Field.{allTake, heardFrom}
 use Rattle.field.specs.Merge.{join, merge}
+use Rattle.field.specs.MergeLaws.{join-nil, merge-same}
 use Rattle.sweep_rules.specs.Demand.{halted}
 use Rattle.sweep_rules.specs.Terms.{isIdle, isHalt}
 use Rattle.sweep_rules.proofs.Abstract.{strips, leave, rest}
 use Rattle.sweep_rules.proofs.First.{put}
-use Rattle.sweep_rules.proofs.Frames.{length-hlta, length-anti, length-select}
 use Rattle.sweep_rules.proofs.Idle.{Fits, idlers, rowIn, idles, sizes, all-idle}
-use Rattle.sweep_rules.proofs.Merge.{merge-same}
-use Rattle.sweep_rules.proofs.OneCard.{idle-else, halt-else, sit₁, said, saked, card-anti, card-sel}
-use Rattle.sweep_rules.proofs.Seal.{seal}
-use Rattle.sweep_rules.proofs.Step.{join-nil}
 use Rattle.sweep_rules.proofs.Strip.{strips-put, merge-strips, all-unstrips}
 use Rattle.uid.specs.declared.Level.{Level}
 use Rattle.uid.specs.declared.Level.the-variants.{One}
 use Rattle.card.specs.declared.Card.{Card}
 use Rattle.card.specs.declared.CardState.{CardState}
 use Rattle.card.specs.declared.CardState.the-variants.{Off, Idle, Ready, Active, Halt, Protocol}
-
--- the rules look at a card's state only where it is handed over
-rules-state : (c : Card) (x y : CardState) (f : List ℕ) → rules (withState c x) y f ≡ rules c y f
-unfolding rules ready chosen sak remain levels
-rules-state c x Off f = refl
-rules-state c x Idle f = refl
-rules-state c x (Ready l) f = refl
-rules-state c x Active f = refl
-rules-state c x Halt f = refl
-rules-state c x (Protocol i) f = refl
 
 -- ---- the field while W is known: the idle cards whose rows begin with W are in state x
 

@@ -16,15 +16,11 @@ use Rattle.uid.specs.Order.{Diff, on, off, later, diff, one, parts}
 use Rattle.uid.specs.OrderLaws.{lead, from, lead-some, diff-cons, lead-same}
 use Rattle.uid.specs.PartsLaws.{parts-nil}
 use Rattle.field.specs.Merge.{meet, join, merge}
+use Rattle.field.specs.MergeLaws.{join-nil}
 use Rattle.sweep_rules.proofs.Abstract.{strips, heard, Up, Top}
 use Rattle.sweep_rules.proofs.First.{put, pull, out, miss, strips-nil, strips-cons, parts-cons}
 
 -- ---- what is heard of the first bits
-
-pub join-nil : (r : List ℕ) → join r [] ≡ r
-unfolding join
-join-nil [] = refl
-join-nil (x ∷ r) = refl
 
 meet-two : (x : ℕ) → meet x 2 ≡ 2
 unfolding meet

@@ -7,7 +7,7 @@ use lib.ListN.{take}
 use native.Mathlib.Omega.{arith}
 use Rattle.rows.specs.Rows.{All}
 use Rattle.uid.specs.Order.{Diff, on, off, diff}
-use Rattle.uid.specs.StripLaws.{shape, strip}
+use Rattle.uid.specs.StripLaws.{strip, shape}
 use Rattle.field.specs.Merge.{join, merge}
 use Rattle.sweep_rules.proofs.Abstract.{keep, strips}
 use Rattle.sweep_rules.proofs.First.{put}

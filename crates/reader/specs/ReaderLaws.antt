@@ -1,36 +1,33 @@
--- What the reader holds in a sweep, by the row that it has found so far: the UID's bytes of the levels before, and the known bits of a level.
--- Assumes nothing.
+-- The reader in a sweep, by the row that it has found so far: what it holds, the UID's bytes of the levels before and the known bits of a
+-- level, and what it does with each good answer. Assumes nothing.
 use mathlib.Core.Path.{_≡_, refl}
 use Prim.Native.Nat.{ℕ, zero, suc, _+_, _-_, _*_, _/_, _≤_, _<_}
 use mathlib.Core.Bool.{Bool, true, false, cond}
-use mathlib.Core.List.{List, [], _++_, map}
+use mathlib.Core.List.{List, [], _++_}
 use lib.ListN.{length, take, drop, replicate, length-append, length-take, length-drop}
 use lib.Seq.{take-at}
 use native.Mathlib.Omega.{arith}
-use Rattle.rows.specs.CleanLaws.{not-nil}
 use Rattle.rows.specs.Rows.{isNil, fill}
 use Rattle.parity.specs.Bits.{unbits}
 use Rattle.frame.specs.ByteLaws.{length-bytes}
 use Rattle.frame.specs.Frame.{bytesOf}
-use Rattle.uid.specs.LevelLaws.{wide, InLevels, lev-next, lev-head}
+use Rattle.uid.specs.LevelLaws.{InLevels, wide, lev-next, lev-head}
 use Rattle.uid.specs.Uid.{byteCount, place, uidBytes}
 use Rattle.uid.specs.UidLaws.{soFar, name}
-use Rattle.selection.specs.Heard.{readRest, restOf}
-use Rattle.selection.specs.Selection.{sakFrame, atqa}
-use Rattle.card.specs.Card.{up}
+use Rattle.selection.specs.Heard.{readRest, restOf, readAtqa}
+use Rattle.selection.specs.SakLaws.{reads-more, reads-last}
+use Rattle.selection.specs.Selection.{sakFrame}
 use Rattle.reader.specs.Reader.{reader, blank, hear, longer, afterSak, hearSilence, hearAtqa, uid, opens, completes, sends, finds, hearRest, hearSak}
-use Rattle.field.specs.Merge.{merge}
-use Rattle.sweep_rules.proofs.HeardLaws.{length-atqas, reads-atqa}
-use Rattle.sweep_rules.proofs.SakLaws.{reads-more, reads-last}
 use Rattle.uid.specs.declared.Level.{Level}
 use Rattle.uid.specs.declared.Level.the-variants.{One, Two, Three}
 use Rattle.uid.specs.declared.UidSize.{UidSize}
 use Rattle.uid.specs.declared.UidSize.the-variants.{Single, Double, Triple}
+use Rattle.selection.specs.declared.AtqaRead.the-variants.{Atqa}
 use Rattle.selection.specs.declared.RestSays.the-variants.{Whole, Collided}
 use Rattle.reader.specs.declared.Phase.{Phase}
 use Rattle.reader.specs.declared.Phase.the-variants.{ReqaSent, AnticollisionSent, SelectSent, HltaSent}
 use Rattle.reader.specs.declared.Reader.{Reader}
 use Rattle.reader.specs.declared.Turn.{Turn}
 
 -- ---- levels by number
 
@@ -45,12 +42,6 @@ place-lvl zero h = refl
 place-lvl (suc zero) h = refl
 place-lvl (suc (suc zero)) h = refl
 place-lvl (suc (suc (suc j))) h = absurd (omega arith)
-
-pub up-lvl : (j : ℕ) → suc j < 3 → up (lvl j) ≡ lvl (suc j)
-unfolding lvl
-up-lvl zero h = refl
-up-lvl (suc zero) h = refl
-up-lvl (suc (suc j)) h = absurd (omega arith)
 
 unfoldable pub sizeAt : ℕ → UidSize
 sizeAt zero = Single
@@ -136,8 +127,8 @@ unfoldable pub opened : ℕ → List ℕ → List ℕ → Turn
 opened j P K = sends (knows (AnticollisionSent (lvl j)) (soFar j P) K)
 
 -- SELECT of level j with the bits X comes next
-unfoldable pub chosen : ℕ → List ℕ → List ℕ → Turn
-chosen j P X = sends (knows (SelectSent (lvl j)) (soFar j P) X)
+unfoldable pub selecting : ℕ → List ℕ → List ℕ → Turn
+selecting j P X = sends (knows (SelectSent (lvl j)) (soFar j P) X)
 
 -- HLTA comes next, and the UID of the row P is announced
 unfoldable pub closed : List ℕ → ℕ → Turn
@@ -145,12 +136,12 @@ closed P b = finds (closing P b)
 
 -- ---- what it hears
 
-pub hears-atqa : (zs : List UidSize) → 1 ≤ length zs → hear (blank ReqaSent true) (merge (map atqa zs)) ≡ opened 0 [] []
+pub hears-atqa : (h : List ℕ) → isNil h ≡ false → readAtqa h ≡ Atqa → hear (blank ReqaSent true) h ≡ opened 0 [] []
 unfolding hear hearAtqa opens opened knows lvl soFar bytesOf unbits
-hears-atqa zs h = rw (not-nil (merge (map atqa zs)) (omega (arith, length-atqas zs h)), reads-atqa zs h)
+hears-atqa h n e = rw (n, e)
 
-pub hears-whole : (j : ℕ) (P K d h : List ℕ) → readRest (length K) (bytesOf 5 K) h ≡ restOf Whole d → hear (knows (AnticollisionSent (lvl j)) (soFar j P) K) h ≡ chosen j P d
-unfolding hear hearRest knows chosen restOf
+pub hears-whole : (j : ℕ) (P K d h : List ℕ) → readRest (length K) (bytesOf 5 K) h ≡ restOf Whole d → hear (knows (AnticollisionSent (lvl j)) (soFar j P) K) h ≡ selecting j P d
+unfolding hear hearRest knows selecting restOf
 hears-whole j P K d h e = rw e
 
 pub hears-collided : (j : ℕ) (P K d h : List ℕ) → readRest (length K) (bytesOf 5 K) h ≡ restOf Collided d → hear (knows (AnticollisionSent (lvl j)) (soFar j P) K) h ≡ opened j P d

@@ -1,5 +1,5 @@
--- One card of the field and one frame of a round: a card whose row begins with the bits that are known stays in and answers, the
--- others fall back to Idle and are silent. Assumes nothing.
+-- One card and one frame of a round: a card whose row begins with the bits that are known stays in and answers, the others fall back to
+-- Idle and are silent. Assumes nothing.
 use mathlib.Core.Path.{_≡_, refl, sym, ap, ap₂, _∙_}
 use mathlib.Core.Logic.{_≢_}
 use Prim.Native.Nat.{ℕ, suc, _+_, _*_, _≤_, _<_}
@@ -19,14 +19,28 @@ use Rattle.uid.specs.LevelLaws.{wide, lev-under}
 use Rattle.uid.specs.StripLaws.{strip, and-then, not-none, strip-append, strip-sound}
 use Rattle.uid.specs.Uid.{levels, rowOf, place}
 use Rattle.uid.specs.UidLaws.{Sound, length-row, lev-row, five-row}
+use Rattle.selection.specs.SealLaws.{seal}
 use Rattle.selection.specs.Selection.{cut, reqa, wupa, anticollision, others, select, sakFrame}
-use Rattle.card.specs.Card.{Step, up, bitsSent, remain, sak, chosen, ready, rules}
-use Rattle.sweep_rules.proofs.Frames.{length-reqa, length-wupa, length-anti, length-select, bits-sent, anti-same, anti-tells, rest-is, select-tells}
-use Rattle.sweep_rules.proofs.Seal.{seal}
+use Rattle.selection.specs.SelectionLaws.{length-reqa, length-wupa, length-anti, length-select, anti-same, anti-tells, rest-is, select-tells}
+use Rattle.card.specs.Card.{Step, up, bitsSent, remain, sak, chosen, ready, rules, withState}
 use Rattle.uid.specs.declared.Level.{Level}
 use Rattle.card.specs.declared.Card.{Card}
 use Rattle.card.specs.declared.CardState.{CardState}
-use Rattle.card.specs.declared.CardState.the-variants.{Idle, Ready, Active, Halt}
+use Rattle.card.specs.declared.CardState.the-variants.{Idle, Ready, Active, Halt, Off, Protocol}
+
+-- the rules look at a card's state only where it is handed over
+pub rules-state : (c : Card) (x y : CardState) (f : List ℕ) → rules (withState c x) y f ≡ rules c y f
+unfolding rules ready chosen sak remain levels
+rules-state c x Off f = refl
+rules-state c x Idle f = refl
+rules-state c x (Ready l) f = refl
+rules-state c x Active f = refl
+rules-state c x Halt f = refl
+rules-state c x (Protocol i) f = refl
+
+-- its length tells how many bits an ANTICOLLISION sends
+pub bits-sent : (f : List ℕ) (k : ℕ) → length f ≡ 18 + cut k → bitsSent f ≡ k
+bits-sent f k h = rw h (omega arith)
 
 begins : (u K x : List ℕ) → take 40 u ≡ K ++ x → u ≡ K ++ (x ++ drop 40 u)
 begins u K x e = sym (take-append-drop 40 u) ∙ ap (λ r. r ++ drop 40 u) e ∙ append-assoc K x (drop 40 u)

@@ -1,6 +1,6 @@
--- What the reader reads where cards answer together, the answer to REQA and to ANTICOLLISION: no test applies. Assumes nothing.
+-- What the reader reads where cards answer together, to REQA and to ANTICOLLISION: no test applies. Assumes nothing.
 use mathlib.Core.Path.{_≡_, refl, sym, ap, ap₂, _∙_}
-use Prim.Native.Nat.{ℕ, _+_, _-_, _/_, _≤_, _<_}
+use Prim.Native.Nat.{ℕ, _+_, _-_, _/_, _≤_}
 use mathlib.Core.Bool.{true, false, cond, not, _&&_}
 use mathlib.Core.List.{List, [], _∷_, _++_, map, map-map}
 use lib.ListN.{length, take, drop, length-map, length-append, length-take, length-drop, take-append-drop}
@@ -9,22 +9,22 @@ use borrow.Author.Tests.{le-ltb}
 use native.Mathlib.Omega.{arith}
 use Rattle.rows.specs.CleanLaws.{next-clean, not-nil, clean-append, next-append}
 use Rattle.rows.specs.EachLaws.{all-map, all-weaken}
-use Rattle.rows.specs.ListLaws.{map-all, all-of, all-take, all-append}
+use Rattle.rows.specs.ListLaws.{map-all, all-of}
 use Rattle.rows.specs.Rows.{All, clean, next, Bits, same}
 use Rattle.parity.specs.Bits.{bitsOf}
-use Rattle.frame.specs.ByteLaws.{length-airBits, bits-airBits}
+use Rattle.frame.specs.ByteLaws.{length-airBits}
 use Rattle.frame.specs.Frame.{airBits, standard, dataOf, bytesOf, faulty, airByte}
 use Rattle.frame.specs.FrameLaws.{length-standard}
 use Rattle.frame.specs.ParityLaws.{faulty-drop}
 use Rattle.uid.specs.CheckLaws.{check-holds, checkOf}
 use Rattle.uid.specs.Uid.{level}
 use Rattle.selection.specs.Heard.{readAtqa, readRest, restOf, notRest}
+use Rattle.selection.specs.SealLaws.{seal, standard-seal, take-seal, length-seal}
 use Rattle.selection.specs.Selection.{cut, atqa, atqaByte}
+use Rattle.selection.specs.SelectionLaws.{sent-known}
 use Rattle.field.specs.Merge.{merge}
-use Rattle.sweep_rules.proofs.Abstract.{heard}
-use Rattle.sweep_rules.proofs.Frames.{sent-known}
-use Rattle.sweep_rules.proofs.Merge.{merge-append, length-merge, merge-same}
-use Rattle.sweep_rules.proofs.Seal.{seal, standard-seal, take-seal, length-seal, data-seal, faulty-seal}
+use Rattle.field.specs.MergeLaws.{merge-append, length-merge, merge-same}
+use Rattle.field.specs.TogetherLaws.{data-seal, faulty-seal}
 use Rattle.refusal.specs.declared.Refusal.the-variants.{Collision, Check}
 use Rattle.uid.specs.declared.UidSize.{UidSize}
 use Rattle.uid.specs.declared.UidSize.the-variants.{Single, Double, Triple}
@@ -66,7 +66,6 @@ module _ (zs : List UidSize) (some : 1 ≤ length zs) where
       let D : UidSize → List ℕ = λ z. airBits (atqaBytes z) in
       ap (λ l. faulty 2 (merge l)) (map-all atqa (λ z. seal 2 (D z)) zs (all-of atqa-seal zs) ∙ sym (map-map (seal 2) D zs))
       ∙ faulty-seal 2 (map D zs) (rw length-map some) (all-map {F = λ z. Unit {0}} (λ d. length d ≡ 16) D zs (λ z h. length-airBits (atqaBytes z)) (all-of (λ z. tt) zs))
-      (all-map {F = λ z. Unit {0}} Bits D zs (λ z h. bits-airBits (atqaBytes z)) (all-of (λ z. tt) zs))
 
   pub reads-atqa : readAtqa (merge (map atqa zs)) ≡ Atqa
   unfolding readAtqa same
@@ -76,7 +75,7 @@ module _ (zs : List UidSize) (some : 1 ≤ length zs) where
 
 -- T has what each card that is in has left; K was sent, n bits are open
 module _ (K : List ℕ) (n : ℕ) (T : List (List ℕ)) (bK : Bits K) (hn : 40 ≡ length K + n) (h1 : 1 ≤ n)
-    (some : 1 ≤ length T) (long : All (λ t. n ≤ length t) T) (bT : All Bits T) where
+    (some : 1 ≤ length T) (long : All (λ t. n ≤ length t) T) where
   -- the level of each
   full : List ℕ → List ℕ
   full t = K ++ take n t
@@ -90,10 +89,6 @@ module _ (K : List ℕ) (n : ℕ) (T : List (List ℕ)) (bK : Bits K) (hn : 40 �
   length-full : All (λ d. length d ≡ 40) D
   unfolding D full
   length-full = all-map {F = λ t. n ≤ length t} (λ d. length d ≡ 40) full T (λ t k. rw (length-append, length-take) (omega arith)) long
-
-  bits-full : All Bits D
-  unfolding D full
-  bits-full = all-map {F = Bits} Bits full T (λ t b. all-append (λ x. x < 2) K (take n t) bK (all-take (λ x. x < 2) n t b)) bT
 
   some-full : 1 ≤ length D
   unfolding D
@@ -115,33 +110,33 @@ module _ (K : List ℕ) (n : ℕ) (T : List (List ℕ)) (bK : Bits K) (hn : 40 �
   length-answer = length-merge (λ t. drop (cut (length K)) (seal 5 (K ++ take n t))) (45 - cut (length K)) T some
       (all-weaken {F = λ t. n ≤ length t} T (λ t k. rw (length-drop, length-seal 5 (K ++ take n t) (rw (length-append, length-take) (omega arith)))) long)
 
-  data-is : dataOf 5 (merge (map (seal 5) D)) ≡ K ++ heard n T
-  unfolding D full heard
+  data-is : dataOf 5 (merge (map (seal 5) D)) ≡ K ++ merge (map (take n) T)
+  unfolding D full
   data-is =
       data-seal 5 D some-full length-full ∙ merge-append (λ t. K) (length K) (take n) T some (all-of (λ t. refl) T)
       ∙ ap (λ r. r ++ merge (map (take n) T)) (merge-same (λ t. K) (length K) K T some (all-of (λ t. refl) T))
 
   faulty-none : faulty 5 (merge (map (seal 5) D)) ≡ false
-  faulty-none = faulty-seal 5 D some-full length-full bits-full
+  faulty-none = faulty-seal 5 D some-full length-full
 
   -- all tests but those on collided bits and the check byte
   passes : readRest (length K) (bytesOf 5 K) h
-      ≡ cond (not (clean (heard n T)) && ltb 32 (length (K ++ next (heard n T)))) (notRest Collision)
-      (cond (clean (heard n T) && not (same (bytesOf 5 (K ++ heard n T)) (level (take 4 (bytesOf 5 (K ++ heard n T)))))) (notRest Check)
-      (restOf (cond (clean (heard n T)) Whole Collided) (K ++ next (heard n T))))
+      ≡ cond (not (clean (merge (map (take n) T))) && ltb 32 (length (K ++ next (merge (map (take n) T))))) (notRest Collision)
+      (cond (clean (merge (map (take n) T)) && not (same (bytesOf 5 (K ++ merge (map (take n) T))) (level (take 4 (bytesOf 5 (K ++ merge (map (take n) T))))))) (notRest Check)
+      (restOf (cond (clean (merge (map (take n) T))) Whole Collided) (K ++ next (merge (map (take n) T)))))
   unfolding readRest h
   passes =
       let e₁ : cut (length K) + (45 - cut (length K)) ≡ 45 = omega arith in
-      rw (row-is, data-is, not-nil h (omega (arith, length-answer)), length-answer, e₁, faulty-drop 5 ((length K + 7) / 8) (merge (map (seal 5) D)) faulty-none, clean-append K (heard n T) bK, next-append K (heard n T) bK)
+      rw (row-is, data-is, not-nil h (omega (arith, length-answer)), length-answer, e₁, faulty-drop 5 ((length K + 7) / 8) (merge (map (seal 5) D)) faulty-none, clean-append K (merge (map (take n) T)) bK, next-append K (merge (map (take n) T)) bK)
 
   -- no collision: the level is known
-  pub reads-clean : clean (heard n T) ≡ true → (y : List ℕ) → K ++ heard n T ≡ y ++ checkOf y → Bits y → length y ≡ 32
-      → readRest (length K) (bytesOf 5 K) (merge (map (λ t. drop (cut (length K)) (seal 5 (K ++ take n t))) T)) ≡ restOf Whole (K ++ heard n T)
+  pub reads-clean : clean (merge (map (take n) T)) ≡ true → (y : List ℕ) → K ++ merge (map (take n) T) ≡ y ++ checkOf y → Bits y → length y ≡ 32
+      → readRest (length K) (bytesOf 5 K) (merge (map (λ t. drop (cut (length K)) (seal 5 (K ++ take n t))) T)) ≡ restOf Whole (K ++ merge (map (take n) T))
   unfolding h
-  reads-clean c y e b m = passes ∙ rw (c, check-holds (K ++ heard n T) y e b m, next-clean (heard n T) c)
+  reads-clean c y e b m = passes ∙ rw (c, check-holds (K ++ merge (map (take n) T)) y e b m, next-clean (merge (map (take n) T)) c)
 
   -- a collision, not in the check byte: the bits before it and then a 1
-  pub reads-clash : clean (heard n T) ≡ false → length (K ++ next (heard n T)) ≤ 32
-      → readRest (length K) (bytesOf 5 K) (merge (map (λ t. drop (cut (length K)) (seal 5 (K ++ take n t))) T)) ≡ restOf Collided (K ++ next (heard n T))
+  pub reads-clash : clean (merge (map (take n) T)) ≡ false → length (K ++ next (merge (map (take n) T))) ≤ 32
+      → readRest (length K) (bytesOf 5 K) (merge (map (λ t. drop (cut (length K)) (seal 5 (K ++ take n t))) T)) ≡ restOf Collided (K ++ next (merge (map (take n) T)))
   unfolding h
-  reads-clash c m = passes ∙ rw (c, le-ltb 32 (length (K ++ next (heard n T))) m)
+  reads-clash c m = passes ∙ rw (c, le-ltb 32 (length (K ++ next (merge (map (take n) T)))) m)

@@ -1,4 +1,4 @@
--- The frames of a selection: their lengths, and when a reader's frame is the one that a card awaits. Assumes nothing.
+-- The frames of a selection: their lengths, and when a reader's ANTICOLLISION or SELECT is the one that a card awaits. Assumes nothing.
 use mathlib.Core.Path.{_≡_, sym, ap, ap₂, _∙_}
 use Prim.Native.Nat.{ℕ, _+_, _-_, _*_, _≤_}
 use mathlib.Core.List.{List, [], _∷_, _++_, append-cancel-left}
@@ -12,9 +12,8 @@ use Rattle.crc.specs.Crc.{withCrc, crcBytes}
 use Rattle.frame.specs.ByteLaws.{bits-bytes, length-bytes, length-airBits, airBits-append}
 use Rattle.frame.specs.Frame.{airBits, short, standard, bytesOf}
 use Rattle.frame.specs.FrameLaws.{length-standard}
+use Rattle.selection.specs.SealLaws.{seal, standard-seal, take-seal, seal-same}
 use Rattle.selection.specs.Selection.{cut, sel, nvb, reqa, wupa, hlta, anticollision, select, sakFrame}
-use Rattle.card.specs.Card.{bitsSent}
-use Rattle.sweep_rules.proofs.Seal.{seal, standard-seal, take-seal, seal-same}
 use Rattle.uid.specs.declared.Level.{Level}
 
 pub length-reqa : length reqa ≡ 7
@@ -44,10 +43,6 @@ length-select l five h = rw (length-standard, length-crc) (omega arith)
 pub length-sak : (b : ℕ) → length (sakFrame b) ≡ 27
 unfolding sakFrame
 length-sak b = length-standard (withCrc (b ∷ [])) ∙ rw length-crc
-
--- its length tells how many bits an ANTICOLLISION sends
-pub bits-sent : (f : List ℕ) (k : ℕ) → length f ≡ 18 + cut k → bitsSent f ≡ k
-bits-sent f k h = rw h (omega arith)
 
 -- ---- ANTICOLLISION: the level's row, cut
 
