@@ -3,26 +3,26 @@
 use mathlib.Core.Path.{_≡_, refl, sym, ap, ap₂, _∙_}
 use mathlib.Core.Logic.{_≢_}
 use Prim.Native.Nat.{ℕ, suc, _+_, _*_, _≤_, _<_}
-use mathlib.Core.Bool.{Bool, true, false, cond}
+use mathlib.Core.Bool.{Bool, cond}
 use mathlib.Core.Option.{Option, none, some}
 use mathlib.Core.List.{List, [], _∷_, _++_, append-assoc}
-use lib.ListN.{length, take, drop, getD, length-append, take-append-drop}
+use lib.ListN.{length, take, drop, length-append, take-append-drop}
 use lib.Seq.{take-append-add, take-at}
-use lib.Dec.{ltb}
-use borrow.Author.Tests.{ltb-true, lt-ltb, le-ltb}
+use borrow.Author.Tests.{lt-ltb, le-ltb}
 use native.Mathlib.Omega.{arith}
-use Rattle.rows.specs.ListLaws.{same-eq, same-ne, same-length}
+use Rattle.rows.specs.ListLaws.{same-eq}
 use Rattle.rows.specs.Rows.{Bits}
-use Rattle.frame.specs.ByteLaws.{bytes-bits, bits-bytes-all, length-bytes}
+use Rattle.frame.specs.ByteLaws.{bits-bytes-take, bytes-bits, bits-bytes-all, length-bytes}
 use Rattle.frame.specs.Frame.{airBits, bytesOf}
 use Rattle.uid.specs.LevelLaws.{wide, lev-under}
 use Rattle.uid.specs.StripLaws.{strip, and-then, not-none, strip-append, strip-sound}
 use Rattle.uid.specs.Uid.{levels, rowOf, place}
 use Rattle.uid.specs.UidLaws.{Sound, length-row, lev-row, five-row}
 use Rattle.selection.specs.SealLaws.{seal}
-use Rattle.selection.specs.Selection.{cut, reqa, wupa, anticollision, others, select, sakFrame}
-use Rattle.selection.specs.SelectionLaws.{length-reqa, length-wupa, length-anti, length-select, anti-same, anti-tells, rest-is, select-tells}
+use Rattle.selection.specs.Selection.{cut, anticollision, others, select, sakFrame}
+use Rattle.selection.specs.SelectionLaws.{anti-bits, length-anti, length-select, anti-same, rest-is, select-tells}
 use Rattle.card.specs.Card.{Step, up, bitsSent, remain, sak, chosen, ready, rules, withState}
+use Rattle.card.specs.ElseLaws.{fiveAt, else-is, idle-else}
 use Rattle.uid.specs.declared.Level.{Level}
 use Rattle.card.specs.declared.Card.{Card}
 use Rattle.card.specs.declared.CardState.{CardState}
@@ -45,33 +45,41 @@ bits-sent f k h = rw h (omega arith)
 begins : (u K x : List ℕ) → take 40 u ≡ K ++ x → u ≡ K ++ (x ++ drop 40 u)
 begins u K x e = sym (take-append-drop 40 u) ∙ ap (λ r. r ++ drop 40 u) e ∙ append-assoc K x (drop 40 u)
 
--- ---- frames that an idle card and a halted card pass over
+-- ---- a mismatch: the card leaves Ready
 
-pub idle-else : (c : Card) (f : List ℕ) → length f ≢ 7 → rules c Idle f ≡ (Idle, [])
-unfolding rules
-idle-else c f h = rw (same-length f reqa (rw length-reqa h), same-length f wupa (rw length-wupa h))
+module _ (c : Card) (s : Sound (c .uid)) (l : Level) where
+  level-full : place l < length (levels (c .uid)) → length (fiveAt c l) ≡ 5
+  level-full h = five-row (c .uid) s (place l) h .full
 
-pub halt-else : (c : Card) (f : List ℕ) → length f ≢ 7 → rules c Halt f ≡ (Halt, [])
-unfolding rules
-halt-else c f h = rw (same-length f wupa (rw length-wupa h))
+  -- the k bits that are sent are not the card's
+  pub anti-mismatch : (k : ℕ) (a : List ℕ) → length a ≡ 5 → k < 40 → (place l < length (levels (c .uid)) → take k (airBits a) ≢ take k (airBits (fiveAt c l)))
+      → rules c (Ready l) (anticollision l k a) ≡ (Idle, [])
+  anti-mismatch k a ha m n = else-is c (Ready l) (anticollision l k a) (λ h.
+      (λ i e. n h (anti-bits l k a (fiveAt c l) ha (level-full h) (omega arith) (e ∙ ap (λ j. anticollision l j (fiveAt c l)) k-is)),
+      λ e. omega (arith, ap length e, length-anti l k a ha (omega arith), length-select l (fiveAt c l) (level-full h))))
+    where
+      k-is : bitsSent (anticollision l k a) ≡ k
+      k-is = bits-sent (anticollision l k a) k (length-anti l k a ha (omega arith))
+
+  -- the 40 bits are not
+  pub select-mismatch : (a : List ℕ) → length a ≡ 5 → (place l < length (levels (c .uid)) → airBits a ≢ airBits (fiveAt c l)) → rules c (Ready l) (select l a) ≡ (Idle, [])
+  select-mismatch a ha n = else-is c (Ready l) (select l a) (λ h.
+      (λ i e. omega (arith, i, rw (length-select l a ha) at i),
+      λ e. n h (select-tells l a (fiveAt c l) ha (level-full h) e)))
 
 -- ---- a card in Ready at level l, whose row begins with the levels P before it
 
 module _ (c : Card) (s : Sound (c .uid)) (l : Level) (P u : List ℕ) (hP : length P ≡ wide * place l) (eu : strip P (rowOf (c .uid)) ≡ some u) where
-  five : List ℕ
-  five = getD (levels (c .uid)) (place l) []
-
   sizes : 40 * length (levels (c .uid)) ≡ 40 * place l + length u
   unfolding wide
   sizes = sym (length-row (c .uid) s) ∙ ap length (strip-sound P (rowOf (c .uid)) u eu) ∙ length-append P u ∙ ap (λ n. n + length u) hP
 
   module _ (h : place l < length (levels (c .uid))) where
-    five-full : length five ≡ 5
-    unfolding five
+    five-full : length (fiveAt c l) ≡ 5
     five-full = five-row (c .uid) s (place l) h .full
 
-    bits-are : airBits five ≡ take 40 u
-    unfolding five wide
+    bits-are : airBits (fiveAt c l) ≡ take 40 u
+    unfolding wide
     bits-are = sym (lev-row (c .uid) s (place l) h) ∙ lev-under (place l) P (rowOf (c .uid)) u hP eu
 
   module _ (K : List ℕ) (n : ℕ) (b : Bits K) (hn : 40 ≡ length K + n) (h1 : 1 ≤ n) where
@@ -87,31 +95,18 @@ module _ (c : Card) (s : Sound (c .uid)) (l : Level) (P u : List ℕ) (hP : leng
 
     -- its bits match
     pub anti-in : (t : List ℕ) → u ≡ K ++ t → n ≤ length t → rules c (Ready l) (anticollision l (length K) (bytesOf 5 K)) ≡ (Ready l, drop (cut (length K)) (seal 5 (K ++ take n t)))
-    unfolding rules ready others f five
+    unfolding rules ready others f
     anti-in t e ht =
         let h : place l < length (levels (c .uid)) = omega (arith, sizes, ap length e, length-append K t) in
-        let x : airBits five ≡ K ++ take n t = bits-are h ∙ ap₂ take hn e ∙ take-append-add K t n in
-        rw (lt-ltb (place l) (length (levels (c .uid))) h, k-is, lt-ltb (length K) 40 (omega arith), same-eq f (anticollision l (length K) five) (anti-same l five K (five-full h) b (omega arith) (take n t) x))
-        (ap (λ r. (Ready l, r)) (rest-is five K (take n t) (five-full h) x))
+        let x : airBits (fiveAt c l) ≡ K ++ take n t = bits-are h ∙ ap₂ take hn e ∙ take-append-add K t n in
+        rw (lt-ltb (place l) (length (levels (c .uid))) h, k-is, lt-ltb (length K) 40 (omega arith), same-eq f (anticollision l (length K) (fiveAt c l)) (anti-same l (fiveAt c l) K (five-full h) b (omega arith) (take n t) x))
+        (ap (λ r. (Ready l, r)) (rest-is (fiveAt c l) K (take n t) (five-full h) x))
 
     -- they do not
     pub anti-out : strip K u ≡ none → rules c (Ready l) (anticollision l (length K) (bytesOf 5 K)) ≡ (Idle, [])
-    unfolding rules ready others f five
-    anti-out e = go (ltb (place l) (length (levels (c .uid)))) refl
-      where
-        go : (b : Bool) → ltb (place l) (length (levels (c .uid))) ≡ b → cond b (ready c l five f) (Idle, []) ≡ (Idle, [])
-        go false q = refl
-        go true q = rw (k-is, lt-ltb (length K) 40 (omega arith), same-ne f (anticollision l (length K) five) other, same-length f (select l five) longer)
-          where
-            h : place l < length (levels (c .uid))
-            h = ltb-true (place l) (length (levels (c .uid))) q
-
-            other : f ≢ anticollision l (length K) five
-            other e′ = not-none K (drop (length K) (airBits five) ++ drop 40 u) u e
-                (begins u K (drop (length K) (airBits five)) (sym (bits-are h) ∙ anti-tells l five K (five-full h) b (omega arith) e′))
-
-            longer : length f ≢ length (select l five)
-            longer e′ = omega (arith, e′, length-f, length-select l five (five-full h))
+    anti-out e = anti-mismatch c s l (length K) (bytesOf 5 K) (length-bytes 5 K) (omega arith) (λ h e′.
+        not-none K (drop (length K) (airBits (fiveAt c l)) ++ drop 40 u) u e
+        (begins u K (drop (length K) (airBits (fiveAt c l))) (sym (bits-are h) ∙ sym (take-append-drop (length K) (airBits (fiveAt c l))) ∙ ap (λ r. r ++ drop (length K) (airBits (fiveAt c l))) (sym e′ ∙ bits-bytes-take 5 K b (omega arith)))))
 
   module _ (X : List ℕ) (b : Bits X) (hX : 40 ≡ length X) where
     g : List ℕ
@@ -123,28 +118,16 @@ module _ (c : Card) (s : Sound (c .uid)) (l : Level) (P u : List ℕ) (hP : leng
 
     -- SELECT matches all 40 bits
     pub sel-in : (t : List ℕ) → u ≡ X ++ t → rules c (Ready l) (select l (bytesOf 5 X)) ≡ (chosen c l, sakFrame (sak c l))
-    unfolding rules ready g five
+    unfolding rules ready g
     sel-in t e =
         let h : place l < length (levels (c .uid)) = omega (arith, sizes, ap length e, length-append X t) in
-        let x : airBits five ≡ X = bits-are h ∙ ap (take 40) e ∙ take-at X t 40 (sym hX) in
-        let y : bytesOf 5 X ≡ five = ap (bytesOf 5) (sym x) ∙ ap (λ n. bytesOf n (airBits five)) (sym (five-full h)) ∙ bytes-bits five (five-row (c .uid) s (place l) h .fits) in
-        rw (lt-ltb (place l) (length (levels (c .uid))) h, length-g, same-eq g (select l five) (ap (select l) y))
+        let x : airBits (fiveAt c l) ≡ X = bits-are h ∙ ap (take 40) e ∙ take-at X t 40 (sym hX) in
+        let y : bytesOf 5 X ≡ (fiveAt c l) = ap (bytesOf 5) (sym x) ∙ ap (λ n. bytesOf n (airBits (fiveAt c l))) (sym (five-full h)) ∙ bytes-bits (fiveAt c l) (five-row (c .uid) s (place l) h .fits) in
+        rw (lt-ltb (place l) (length (levels (c .uid))) h, length-g, same-eq g (select l (fiveAt c l)) (ap (select l) y))
 
     pub sel-out : strip X u ≡ none → rules c (Ready l) (select l (bytesOf 5 X)) ≡ (Idle, [])
-    unfolding rules ready g five
-    sel-out e = go (ltb (place l) (length (levels (c .uid)))) refl
-      where
-        go : (b : Bool) → ltb (place l) (length (levels (c .uid))) ≡ b → cond b (ready c l five g) (Idle, []) ≡ (Idle, [])
-        go false q = refl
-        go true q = rw (length-g, same-ne g (select l five) other)
-          where
-            h : place l < length (levels (c .uid))
-            h = ltb-true (place l) (length (levels (c .uid))) q
-
-            other : g ≢ select l five
-            other e′ = not-none X (drop 40 u) u e
-                (sym (take-append-drop 40 u) ∙ ap (λ r. r ++ drop 40 u)
-                (sym (bits-are h) ∙ sym (select-tells l (bytesOf 5 X) five (length-bytes 5 X) (five-full h) e′) ∙ bits-bytes-all 5 X b (omega arith)))
+    sel-out e = select-mismatch c s l (bytesOf 5 X) (length-bytes 5 X) (λ h e′.
+        not-none X (drop 40 u) u e (sym (take-append-drop 40 u) ∙ ap (λ r. r ++ drop 40 u) (sym (bits-are h) ∙ sym e′ ∙ bits-bytes-all 5 X b (omega arith))))
 
 -- ---- the same for any idle card: W is known of its row, o is what it has left
 

@@ -3,7 +3,7 @@ use mathlib.Core.Path.{_≡_, refl, sym, ap, _∙_}
 use Prim.Native.Nat.{ℕ, zero, suc, _+_, _*_, _<_, _-_, _≤_, min}
 use mathlib.Core.List.{List, [], _∷_, _++_, append-assoc, append-nil}
 use lib.ListN.{length, take, length-append, drop, replicate, length-take, length-drop, take-append-drop, replicate-append-replicate, drop-of-length-le}
-use lib.Seq.{take-at, drop-at, take-all}
+use lib.Seq.{take-at, drop-at, take-all, take-append-seam}
 use native.Mathlib.Omega.{arith}
 use mathlib.Core.Bool.{Bool, true, false}
 use lib.Dec.{ltb}
@@ -69,6 +69,11 @@ bits-bytes zero (x ∷ d) b h = absurd (omega arith)
 bits-bytes (suc n) d b h =
     rw (bits-unbits 8 (take 8 d) (all-take (λ x. x < 2) 8 d b) (rw length-take (omega arith)), bits-bytes n (drop 8 d) (all-drop (λ x. x < 2) 8 d b) (rw length-drop (omega arith)), length-take, length-drop)
     (fill-split n d h)
+
+-- the first k bits of a row's bytes
+pub bits-bytes-take : (n : ℕ) (d : List ℕ) → Bits d → length d ≤ 8 * n → take (length d) (airBits (bytesOf n d)) ≡ d
+unfolding fill
+bits-bytes-take n d b h = rw (bits-bytes n d b h) (take-append-seam d (replicate (8 * n - length d) 0))
 
 -- all of them
 pub bits-bytes-all : (n : ℕ) (d : List ℕ) → Bits d → length d ≡ 8 * n → airBits (bytesOf n d) ≡ d

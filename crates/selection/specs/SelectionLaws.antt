@@ -69,16 +69,18 @@ module _ (l : Level) (five K : List ℕ) (h : length five ≡ 5) (b : Bits K) (m
   unfolding anticollision
   anti-same x e = ap (λ r. standard (sel l ∷ nvb (length K) ∷ []) ++ r) (sent-known K b m ∙ sym (sent-is five K x h e))
 
-  pub anti-tells : anticollision l (length K) (bytesOf 5 K) ≡ anticollision l (length K) five → airBits five ≡ K ++ drop (length K) (airBits five)
-  unfolding anticollision
-  anti-tells e =
-      let k : ℕ = length K in
-      let L : List ℕ = take k (airBits five) in
-      let n : length L ≡ k = length-take-le k (airBits five) (rw (length-airBits, h) m) in
-      let s : seal 5 K ≡ seal 5 L =
-      sym (sent-known K b m) ∙ append-cancel-left (standard (sel l ∷ nvb k ∷ [])) _ _ e
-      ∙ rw n at (sent-is five L (drop k (airBits five)) h (sym (take-append-drop k (airBits five)))) in
-      sym (take-append-drop k (airBits five)) ∙ ap (λ r. r ++ drop k (airBits five)) (sym (seal-same 5 K L (sym n) m s))
+-- an ANTICOLLISION tells its bits
+pub anti-bits : (l : Level) (k : ℕ) (a c : List ℕ) → length a ≡ 5 → length c ≡ 5 → k ≤ 40 → anticollision l k a ≡ anticollision l k c → take k (airBits a) ≡ take k (airBits c)
+unfolding anticollision
+anti-bits l k a c ha hc m e =
+    seal-same 5 (take k (airBits a)) (take k (airBits c)) (k-long a ha ∙ sym (k-long c hc)) (rw (k-long a ha) m)
+    (sym (sent a ha) ∙ append-cancel-left (standard (sel l ∷ nvb k ∷ [])) _ _ e ∙ sent c hc)
+  where
+    k-long : (five : List ℕ) → length five ≡ 5 → length (take k (airBits five)) ≡ k
+    k-long five h = length-take-le k (airBits five) (rw (length-airBits, h) m)
+
+    sent : (five : List ℕ) → length five ≡ 5 → take (cut k) (standard five) ≡ seal 5 (take k (airBits five))
+    sent five h = rw (k-long five h) at (sent-is five (take k (airBits five)) (drop k (airBits five)) h (sym (take-append-drop k (airBits five))))
 
 -- ---- SELECT
 

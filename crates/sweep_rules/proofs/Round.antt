@@ -22,7 +22,8 @@ use Rattle.selection.specs.SealLaws.{seal}
 use Rattle.selection.specs.Selection.{cut, reqa, wupa, hlta, anticollision, select, sakFrame, atqa}
 use Rattle.selection.specs.SelectionLaws.{length-hlta, length-anti, length-select}
 use Rattle.card.specs.Card.{Step, up, rules, withState, takes, answers}
-use Rattle.card.specs.CardLaws.{sit₁, said, saked, rules-state, idle-else, halt-else, card-anti, card-sel}
+use Rattle.card.specs.CardLaws.{sit₁, said, saked, rules-state, card-anti, card-sel}
+use Rattle.card.specs.ElseLaws.{idle-else, halt-else}
 use Rattle.field.specs.Field.{allTake, heardFrom}
 use Rattle.field.specs.Merge.{join, merge}
 use Rattle.field.specs.MergeLaws.{join-nil, merge-same}
