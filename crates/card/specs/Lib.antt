@@ -1,2 +1,4 @@
 pub mod Card
 pub mod Calls
+pub mod CardLaws
+pub mod ElseLaws

@@ -5,3 +5,6 @@ pub mod LevelLaws
 pub mod PadLaws
 pub mod RestLaws
 pub mod SizeLaws
+pub mod SealLaws
+pub mod SelectionLaws
+pub mod SakLaws

@@ -1,0 +1,16 @@
+pub mod Abstract
+pub mod First
+pub mod Step
+pub mod Level
+pub mod Select
+pub mod Sort
+pub mod Sweep
+pub mod Falling
+pub mod Strip
+pub mod Machine
+pub mod Idle
+pub mod Round
+pub mod LogSize
+pub mod Model
+pub mod Demand3
+pub mod Early
