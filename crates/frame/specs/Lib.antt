@@ -3,3 +3,4 @@ pub mod Calls
 pub mod FrameLaws
 pub mod ByteLaws
 pub mod ParityLaws
+pub mod TellLaws

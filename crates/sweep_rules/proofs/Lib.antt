@@ -14,3 +14,4 @@ pub mod LogSize
 pub mod Model
 pub mod Demand3
 pub mod Early
+pub mod Example

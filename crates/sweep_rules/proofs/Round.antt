@@ -10,20 +10,20 @@ use lib.ListN.{length, take, drop}
 use native.Mathlib.Omega.{arith}
 use Rattle.rows.specs.EachLaws.{all-zip, all-weaken}
 use Rattle.rows.specs.ListLaws.{same-refl, map-all, all-of, all-unmap}
-use Rattle.rows.specs.Rows.{All, isNil, Bits, same}
-use Rattle.parity.specs.Bits.{bitsOf}
+use Rattle.rows.specs.Rows.{All, isNil, Bits}
 use Rattle.frame.specs.ByteLaws.{length-bytes}
-use Rattle.frame.specs.Frame.{short, bytesOf}
+use Rattle.frame.specs.Frame.{bytesOf}
 use Rattle.uid.specs.LevelLaws.{wide}
 use Rattle.uid.specs.Order.{Diff, on, off, diff}
 use Rattle.uid.specs.StripLaws.{strip, shape}
 use Rattle.uid.specs.Uid.{levels, rowOf, place}
 use Rattle.selection.specs.SealLaws.{seal}
-use Rattle.selection.specs.Selection.{cut, reqa, wupa, hlta, anticollision, select, sakFrame, atqa}
+use Rattle.selection.specs.Selection.{cut, reqa, hlta, anticollision, select, sakFrame, atqa}
 use Rattle.selection.specs.SelectionLaws.{length-hlta, length-anti, length-select}
 use Rattle.card.specs.Card.{Step, up, rules, withState, takes, answers}
 use Rattle.card.specs.CardLaws.{sit₁, said, saked, rules-state, card-anti, card-sel}
 use Rattle.card.specs.ElseLaws.{idle-else, halt-else}
+use Rattle.card.specs.StateLaws.{halt-reqa}
 use Rattle.field.specs.Field.{allTake, heardFrom}
 use Rattle.field.specs.Merge.{join, merge}
 use Rattle.field.specs.MergeLaws.{join-nil, merge-same}
@@ -132,10 +132,6 @@ none-idle W x (c ∷ F) h e = go (c .state) (h .0 .rests) e (none-idle W x F (h 
     go Active h e ih = absurd (false≢true h)
     go (Protocol i) h e ih = absurd (false≢true h)
 
-deaf-reqa : (c : Card) → rules c Halt reqa ≡ (Halt, [])
-unfolding rules same reqa wupa short bitsOf
-deaf-reqa c = refl
-
 idle-reqa : (c : Card) → rules c Idle reqa ≡ (Ready One, atqa (c .uid .size))
 unfolding rules
 idle-reqa c = rw (same-refl reqa)
@@ -223,11 +219,11 @@ module _ (G : Bool → Option (List ℕ) → List ℕ) (W : List ℕ) where
 module _ (F : List Card) (hF : All Fits F) where
   pub turn-req : allTake reqa F ≡ at [] (Ready One) F
   unfolding sit₁ strip shape diff
-  turn-req = ap (allTake reqa) (sym (at-rest [] F)) ∙ turn-at reqa deaf-reqa [] [] Idle (Ready One) F hF (all-of (λ c. ap (λ z. z .0) (idle-reqa c)) (idlers F))
+  turn-req = ap (allTake reqa) (sym (at-rest [] F)) ∙ turn-at reqa halt-reqa [] [] Idle (Ready One) F hF (all-of (λ c. ap (λ z. z .0) (idle-reqa c)) (idlers F))
 
   pub hear-req : heardFrom reqa F ≡ merge (map atqa (sizes F))
   unfolding sit₁ strip shape diff sizes
-  hear-req = ap (heardFrom reqa) (sym (at-rest [] F)) ∙ hear-at reqa deaf-reqa [] Idle F hF
+  hear-req = ap (heardFrom reqa) (sym (at-rest [] F)) ∙ hear-at reqa halt-reqa [] Idle F hF
       ∙ ap merge (map-all (λ c. rules c Idle reqa .1) (λ c. atqa (c .uid .size)) (idlers F) (all-of (λ c. ap (λ z. z .1) (idle-reqa c)) (idlers F))
       ∙ sym (map-map atqa (λ c. c .uid .size) (idlers F)))
 
