@@ -69,7 +69,7 @@ module _ (c : Card) (s : Sound (c .uid)) (l : Level) (P u : List ℕ) (hP : leng
     k-is = bits-sent f (length K) length-f
 
     -- its bits match
-    pub anti-in : (t : List ℕ) → u ≡ K ++ t → n ≤ length t → rules c (Ready l) (anticollision l (length K) (bytesOf 5 K)) ≡ (Ready l, drop (cut (length K)) (seal 5 (K ++ take n t)))
+    anti-in : (t : List ℕ) → u ≡ K ++ t → n ≤ length t → rules c (Ready l) (anticollision l (length K) (bytesOf 5 K)) ≡ (Ready l, drop (cut (length K)) (seal 5 (K ++ take n t)))
     unfolding rules ready others f
     anti-in t e ht =
         let h : place l < length (levels (c .uid)) = omega (arith, sizes, ap length e, length-append K t) in
@@ -78,7 +78,7 @@ module _ (c : Card) (s : Sound (c .uid)) (l : Level) (P u : List ℕ) (hP : leng
         (ap (λ r. (Ready l, r)) (rest-is (fiveAt c l) K (take n t) (five-full h) x))
 
     -- they do not
-    pub anti-out : strip K u ≡ none → rules c (Ready l) (anticollision l (length K) (bytesOf 5 K)) ≡ (Idle, [])
+    anti-out : strip K u ≡ none → rules c (Ready l) (anticollision l (length K) (bytesOf 5 K)) ≡ (Idle, [])
     anti-out e = anti-mismatch c s l (length K) (bytesOf 5 K) (length-bytes 5 K) (omega arith) (λ h e′.
         not-none K (drop (length K) (airBits (fiveAt c l)) ++ drop 40 u) u e
         (begins u K (drop (length K) (airBits (fiveAt c l))) (sym (bits-are h) ∙ sym (take-append-drop (length K) (airBits (fiveAt c l))) ∙ ap (λ r. r ++ drop (length K) (airBits (fiveAt c l))) (sym e′ ∙ bits-bytes-take 5 K b (omega arith)))))
@@ -92,7 +92,7 @@ module _ (c : Card) (s : Sound (c .uid)) (l : Level) (P u : List ℕ) (hP : leng
     length-g = length-select l (bytesOf 5 X) (length-bytes 5 X)
 
     -- SELECT matches all 40 bits
-    pub sel-in : (t : List ℕ) → u ≡ X ++ t → rules c (Ready l) (select l (bytesOf 5 X)) ≡ (chosen c l, sakFrame (sak c l))
+    sel-in : (t : List ℕ) → u ≡ X ++ t → rules c (Ready l) (select l (bytesOf 5 X)) ≡ (chosen c l, sakFrame (sak c l))
     unfolding rules ready g
     sel-in t e =
         let h : place l < length (levels (c .uid)) = omega (arith, sizes, ap length e, length-append X t) in
@@ -100,7 +100,7 @@ module _ (c : Card) (s : Sound (c .uid)) (l : Level) (P u : List ℕ) (hP : leng
         let y : bytesOf 5 X ≡ (fiveAt c l) = ap (bytesOf 5) (sym x) ∙ ap (λ n. bytesOf n (airBits (fiveAt c l))) (sym (five-full h)) ∙ bytes-bits (fiveAt c l) (five-row (c .uid) s (place l) h .fits) in
         rw (lt-ltb (place l) (length (levels (c .uid))) h, length-g, same-eq g (select l (fiveAt c l)) (ap (select l) y))
 
-    pub sel-out : strip X u ≡ none → rules c (Ready l) (select l (bytesOf 5 X)) ≡ (Idle, [])
+    sel-out : strip X u ≡ none → rules c (Ready l) (select l (bytesOf 5 X)) ≡ (Idle, [])
     sel-out e = select-mismatch c s l (bytesOf 5 X) (length-bytes 5 X) (λ h e′.
         not-none X (drop 40 u) u e (sym (take-append-drop 40 u) ∙ ap (λ r. r ++ drop 40 u) (sym (bits-are h) ∙ sym e′ ∙ bits-bytes-all 5 X b (omega arith))))
 

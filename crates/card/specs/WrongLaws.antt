@@ -1,19 +1,14 @@
 -- Document 01, "The card": a frame with a collided bit, wrong parity, length, CRC_A or NVB, and one that does not match, is "else". The
 -- rules say so by comparing with the awaited frames; here it is said in the paper's words. Assumes nothing.
-use mathlib.Core.Bool.{not, _||_, true≢false, true, false, _&&_}
-use Prim.Native.Nat.{_%_, _/_, _*_, _-_}
-use lib.Dec.{eqb, leb, ltb}
-use borrow.Author.Tests.{le-leb, lt-ltb, ne-eqb}
-use lib.ListN.{length-append, length-take, getD}
-use lib.Seq.{take-append-add}
 use mathlib.Core.Path.{_≡_, sym, ap, _∙_}
 use mathlib.Core.Logic.{_≢_}
-use Prim.Native.Nat.{ℕ, _+_, _*_, _≤_, _<_}
-use mathlib.Core.Bool.{Bool}
+use Prim.Native.Nat.{_%_, _/_, _*_, _-_, ℕ, _+_, _≤_, _<_}
+use mathlib.Core.Bool.{not, _||_, true≢false, true, false, _&&_, Bool}
 use mathlib.Core.List.{List, [], _∷_, _++_}
-use lib.ListN.{length, take, drop, length-append}
+use lib.ListN.{length-append, length-take, getD, length, take, drop}
 use lib.Seq.{take-append-add}
-use borrow.Author.Tests.{lt-ltb}
+use lib.Dec.{eqb, leb, ltb}
+use borrow.Author.Tests.{le-leb, lt-ltb, ne-eqb}
 use native.Mathlib.Omega.{arith}
 use Rattle.rows.specs.CleanLaws.{bits-clean}
 use Rattle.rows.specs.EachLaws.{parts-equal}
@@ -168,9 +163,10 @@ module _ (l : List ℕ) (b : Bytes l) (wrong : same l (withCrc (take (length l -
   -- in Ready: of more bytes than any ANTICOLLISION has, which bears no CRC_A
   pub crc-else-ready : (c : Card) → Sound (c .uid) → (v : Level) → 7 ≤ length l → rules c (Ready v) (standard l) ≡ (Idle, [])
   unfolding select
-  crc-else-ready c s v m = else-is c (Ready v) (standard l) (λ h.
-      (λ k e. omega (arith, k, ap length e, length-standard l, length-anti v (bitsSent (standard l)) (fiveAt c v) (level-full c s v h) (omega arith)),
-      not-crc (sel v ∷ 0x70 ∷ fiveAt c v) (sel-fits v, (omega arith, level-bytes c s v h))))
+  crc-else-ready c s v m = else-is c (Ready v) (standard l) (λ h. (
+    λ k e. omega (arith, k, ap length e, length-standard l, length-anti v (bitsSent (standard l)) (fiveAt c v) (level-full c s v h) (omega arith)),
+    not-crc (sel v ∷ 0x70 ∷ fiveAt c v) (sel-fits v, (omega arith, level-bytes c s v h)),
+  ))
 
 -- ---- wrong NVB: a frame of less than a level's 45 bits behind SEL and NVB, in Ready
 
@@ -200,15 +196,17 @@ module _ (c : Card) (s : Sound (c .uid)) (l : Level) where
   -- the k bits that are sent are not the card's
   pub anti-mismatch : (k : ℕ) (a : List ℕ) → length a ≡ 5 → k < 40 → (place l < length (levels (c .uid)) → take k (airBits a) ≢ take k (airBits (fiveAt c l)))
       → rules c (Ready l) (anticollision l k a) ≡ (Idle, [])
-  anti-mismatch k a ha m n = else-is c (Ready l) (anticollision l k a) (λ h.
-      (λ i e. n h (anti-bits l k a (fiveAt c l) ha (level-full c s l h) (omega arith) (e ∙ ap (λ j. anticollision l j (fiveAt c l)) k-is)),
-      λ e. omega (arith, ap length e, length-anti l k a ha (omega arith), length-select l (fiveAt c l) (level-full c s l h))))
+  anti-mismatch k a ha m n = else-is c (Ready l) (anticollision l k a) (λ h. (
+    λ i e. n h (anti-bits l k a (fiveAt c l) ha (level-full c s l h) (omega arith) (e ∙ ap (λ j. anticollision l j (fiveAt c l)) k-is)),
+    λ e. omega (arith, ap length e, length-anti l k a ha (omega arith), length-select l (fiveAt c l) (level-full c s l h)),
+  ))
     where
       k-is : bitsSent (anticollision l k a) ≡ k
       k-is = bits-sent (anticollision l k a) k (length-anti l k a ha (omega arith))
 
   -- the 40 bits are not
   pub select-mismatch : (a : List ℕ) → length a ≡ 5 → (place l < length (levels (c .uid)) → airBits a ≢ airBits (fiveAt c l)) → rules c (Ready l) (select l a) ≡ (Idle, [])
-  select-mismatch a ha n = else-is c (Ready l) (select l a) (λ h.
-      (λ i e. omega (arith, i, rw (length-select l a ha) at i),
-      λ e. n h (select-tells l a (fiveAt c l) ha (level-full c s l h) e)))
+  select-mismatch a ha n = else-is c (Ready l) (select l a) (λ h. (
+    λ i e. omega (arith, i, rw (length-select l a ha) at i),
+    λ e. n h (select-tells l a (fiveAt c l) ha (level-full c s l h) e),
+  ))

@@ -28,19 +28,16 @@ field =
     ∷ []
 
 pub typed : All Typed field
-typed = (one, (two, (three, (four, tt))))
-  where
-    one : Typed (card Single (0x11 ∷ 0x22 ∷ 0x33 ∷ 0x44 ∷ 0 ∷ 0 ∷ 0 ∷ 0 ∷ 0 ∷ 0 ∷ []) true Idle)
-    one = record { ten = refl; bytes = search arith }
-
-    two : Typed (card Double (0x04 ∷ 0xA1 ∷ 0xB2 ∷ 0xC3 ∷ 0xD4 ∷ 0xE5 ∷ 0xF6 ∷ 0 ∷ 0 ∷ 0 ∷ []) false Idle)
-    two = record { ten = refl; bytes = search arith }
-
-    three : Typed (card Single (0x11 ∷ 0x22 ∷ 0x33 ∷ 0x45 ∷ 0 ∷ 0 ∷ 0 ∷ 0 ∷ 0 ∷ 0 ∷ []) true Halt)
-    three = record { ten = refl; bytes = search arith }
-
-    four : Typed (card Triple (0x04 ∷ 0xA1 ∷ 0xB2 ∷ 0x88 ∷ 0x01 ∷ 0x02 ∷ 0x88 ∷ 0x03 ∷ 0x04 ∷ 0x05 ∷ []) true Idle)
-    four = record { ten = refl; bytes = search arith }
+typed = (
+  record { ten = refl; bytes = search arith },
+  (
+    record { ten = refl; bytes = search arith },
+    (
+      record { ten = refl; bytes = search arith },
+      (record { ten = refl; bytes = search arith }, tt),
+    ),
+  ),
+)
 
 pub meets : within field ≡ true
 unfolding within allFit cardFits apart any same valid uidBytes
