@@ -1,14 +1,13 @@
 -- One card and one frame of a round: a card whose row begins with the bits that are known stays in and answers, the others fall back to
 -- Idle and are silent. Assumes nothing.
 use mathlib.Core.Path.{_≡_, refl, sym, ap, ap₂, _∙_}
-use mathlib.Core.Logic.{_≢_}
-use Prim.Native.Nat.{ℕ, suc, _+_, _*_, _≤_, _<_}
+use Prim.Native.Nat.{ℕ, _+_, _*_, _≤_, _<_}
 use mathlib.Core.Bool.{Bool, cond}
 use mathlib.Core.Option.{Option, none, some}
 use mathlib.Core.List.{List, [], _∷_, _++_, append-assoc}
 use lib.ListN.{length, take, drop, length-append, take-append-drop}
 use lib.Seq.{take-append-add, take-at}
-use borrow.Author.Tests.{lt-ltb, le-ltb}
+use borrow.Author.Tests.{lt-ltb}
 use native.Mathlib.Omega.{arith}
 use Rattle.rows.specs.ListLaws.{same-eq}
 use Rattle.rows.specs.Rows.{Bits}
@@ -20,9 +19,11 @@ use Rattle.uid.specs.Uid.{levels, rowOf, place}
 use Rattle.uid.specs.UidLaws.{Sound, length-row, lev-row, five-row}
 use Rattle.selection.specs.SealLaws.{seal}
 use Rattle.selection.specs.Selection.{cut, anticollision, others, select, sakFrame}
-use Rattle.selection.specs.SelectionLaws.{anti-bits, length-anti, length-select, anti-same, rest-is, select-tells}
+use Rattle.selection.specs.SelectionLaws.{length-anti, length-select, anti-same, rest-is}
 use Rattle.card.specs.Card.{Step, up, bitsSent, remain, sak, chosen, ready, rules, withState}
-use Rattle.card.specs.ElseLaws.{fiveAt, else-is, idle-else}
+use Rattle.card.specs.ElseLaws.{fiveAt, idle-else}
+use Rattle.card.specs.StateLaws.{sak-more, sak-last}
+use Rattle.card.specs.WrongLaws.{anti-mismatch, select-mismatch, bits-sent}
 use Rattle.uid.specs.declared.Level.{Level}
 use Rattle.card.specs.declared.Card.{Card}
 use Rattle.card.specs.declared.CardState.{CardState}
@@ -38,34 +39,8 @@ rules-state c x Active f = refl
 rules-state c x Halt f = refl
 rules-state c x (Protocol i) f = refl
 
--- its length tells how many bits an ANTICOLLISION sends
-pub bits-sent : (f : List ℕ) (k : ℕ) → length f ≡ 18 + cut k → bitsSent f ≡ k
-bits-sent f k h = rw h (omega arith)
-
 begins : (u K x : List ℕ) → take 40 u ≡ K ++ x → u ≡ K ++ (x ++ drop 40 u)
 begins u K x e = sym (take-append-drop 40 u) ∙ ap (λ r. r ++ drop 40 u) e ∙ append-assoc K x (drop 40 u)
-
--- ---- a mismatch: the card leaves Ready
-
-module _ (c : Card) (s : Sound (c .uid)) (l : Level) where
-  level-full : place l < length (levels (c .uid)) → length (fiveAt c l) ≡ 5
-  level-full h = five-row (c .uid) s (place l) h .full
-
-  -- the k bits that are sent are not the card's
-  pub anti-mismatch : (k : ℕ) (a : List ℕ) → length a ≡ 5 → k < 40 → (place l < length (levels (c .uid)) → take k (airBits a) ≢ take k (airBits (fiveAt c l)))
-      → rules c (Ready l) (anticollision l k a) ≡ (Idle, [])
-  anti-mismatch k a ha m n = else-is c (Ready l) (anticollision l k a) (λ h.
-      (λ i e. n h (anti-bits l k a (fiveAt c l) ha (level-full h) (omega arith) (e ∙ ap (λ j. anticollision l j (fiveAt c l)) k-is)),
-      λ e. omega (arith, ap length e, length-anti l k a ha (omega arith), length-select l (fiveAt c l) (level-full h))))
-    where
-      k-is : bitsSent (anticollision l k a) ≡ k
-      k-is = bits-sent (anticollision l k a) k (length-anti l k a ha (omega arith))
-
-  -- the 40 bits are not
-  pub select-mismatch : (a : List ℕ) → length a ≡ 5 → (place l < length (levels (c .uid)) → airBits a ≢ airBits (fiveAt c l)) → rules c (Ready l) (select l a) ≡ (Idle, [])
-  select-mismatch a ha n = else-is c (Ready l) (select l a) (λ h.
-      (λ i e. omega (arith, i, rw (length-select l a ha) at i),
-      λ e. n h (select-tells l a (fiveAt c l) ha (level-full h) e)))
 
 -- ---- a card in Ready at level l, whose row begins with the levels P before it
 
@@ -94,7 +69,7 @@ module _ (c : Card) (s : Sound (c .uid)) (l : Level) (P u : List ℕ) (hP : leng
     k-is = bits-sent f (length K) length-f
 
     -- its bits match
-    pub anti-in : (t : List ℕ) → u ≡ K ++ t → n ≤ length t → rules c (Ready l) (anticollision l (length K) (bytesOf 5 K)) ≡ (Ready l, drop (cut (length K)) (seal 5 (K ++ take n t)))
+    anti-in : (t : List ℕ) → u ≡ K ++ t → n ≤ length t → rules c (Ready l) (anticollision l (length K) (bytesOf 5 K)) ≡ (Ready l, drop (cut (length K)) (seal 5 (K ++ take n t)))
     unfolding rules ready others f
     anti-in t e ht =
         let h : place l < length (levels (c .uid)) = omega (arith, sizes, ap length e, length-append K t) in
@@ -103,7 +78,7 @@ module _ (c : Card) (s : Sound (c .uid)) (l : Level) (P u : List ℕ) (hP : leng
         (ap (λ r. (Ready l, r)) (rest-is (fiveAt c l) K (take n t) (five-full h) x))
 
     -- they do not
-    pub anti-out : strip K u ≡ none → rules c (Ready l) (anticollision l (length K) (bytesOf 5 K)) ≡ (Idle, [])
+    anti-out : strip K u ≡ none → rules c (Ready l) (anticollision l (length K) (bytesOf 5 K)) ≡ (Idle, [])
     anti-out e = anti-mismatch c s l (length K) (bytesOf 5 K) (length-bytes 5 K) (omega arith) (λ h e′.
         not-none K (drop (length K) (airBits (fiveAt c l)) ++ drop 40 u) u e
         (begins u K (drop (length K) (airBits (fiveAt c l))) (sym (bits-are h) ∙ sym (take-append-drop (length K) (airBits (fiveAt c l))) ∙ ap (λ r. r ++ drop (length K) (airBits (fiveAt c l))) (sym e′ ∙ bits-bytes-take 5 K b (omega arith)))))
@@ -117,7 +92,7 @@ module _ (c : Card) (s : Sound (c .uid)) (l : Level) (P u : List ℕ) (hP : leng
     length-g = length-select l (bytesOf 5 X) (length-bytes 5 X)
 
     -- SELECT matches all 40 bits
-    pub sel-in : (t : List ℕ) → u ≡ X ++ t → rules c (Ready l) (select l (bytesOf 5 X)) ≡ (chosen c l, sakFrame (sak c l))
+    sel-in : (t : List ℕ) → u ≡ X ++ t → rules c (Ready l) (select l (bytesOf 5 X)) ≡ (chosen c l, sakFrame (sak c l))
     unfolding rules ready g
     sel-in t e =
         let h : place l < length (levels (c .uid)) = omega (arith, sizes, ap length e, length-append X t) in
@@ -125,7 +100,7 @@ module _ (c : Card) (s : Sound (c .uid)) (l : Level) (P u : List ℕ) (hP : leng
         let y : bytesOf 5 X ≡ (fiveAt c l) = ap (bytesOf 5) (sym x) ∙ ap (λ n. bytesOf n (airBits (fiveAt c l))) (sym (five-full h)) ∙ bytes-bits (fiveAt c l) (five-row (c .uid) s (place l) h .fits) in
         rw (lt-ltb (place l) (length (levels (c .uid))) h, length-g, same-eq g (select l (fiveAt c l)) (ap (select l) y))
 
-    pub sel-out : strip X u ≡ none → rules c (Ready l) (select l (bytesOf 5 X)) ≡ (Idle, [])
+    sel-out : strip X u ≡ none → rules c (Ready l) (select l (bytesOf 5 X)) ≡ (Idle, [])
     sel-out e = select-mismatch c s l (bytesOf 5 X) (length-bytes 5 X) (λ h e′.
         not-none X (drop 40 u) u e (sym (take-append-drop 40 u) ∙ ap (λ r. r ++ drop 40 u) (sym (bits-are h) ∙ sym e′ ∙ bits-bytes-all 5 X b (omega arith))))
 
@@ -178,7 +153,7 @@ module _ (c : Card) (s : Sound (c .uid)) (l : Level) (P Q R : List ℕ) (hP : le
       go (some u) e long = go₂ u e (strip Q u) refl long
 
   pub card-sel : 40 ≡ length (Q ++ R) → rules c (sit₁ (Ready l) (strip (P ++ Q) (rowOf (c .uid)))) (select l (bytesOf 5 (Q ++ R))) ≡ saked l (c .blocks) (strip (P ++ (Q ++ R)) (rowOf (c .uid)))
-  unfolding and-then sit₁ saked chosen sak remain r K
+  unfolding and-then sit₁ saked r K
   card-sel hn = rw (strip-append P Q r) (go (strip P r) refl) ∙ ap (saked l (c .blocks)) (sym (strip-append P K r))
     where
       a : List ℕ
@@ -189,8 +164,12 @@ module _ (c : Card) (s : Sound (c .uid)) (l : Level) (P Q R : List ℕ) (hP : le
 
       -- SAK says whether levels remain
       which : (u t : List ℕ) → strip P r ≡ some u → u ≡ K ++ t → (chosen c l, sakFrame (sak c l)) ≡ saked l (c .blocks) (some t)
-      which u [] e d = rw (le-ltb (suc (place l)) (length (levels (c .uid))) (omega (arith, sizes c s l P u hP e, ap length d, length-append K [])))
-      which u (x ∷ t) e d = rw (lt-ltb (suc (place l)) (length (levels (c .uid))) (omega (arith, sizes c s l P u hP e, ap length d, length-append K (x ∷ t))))
+      which u [] e d =
+          let h : (sak c l ≡ cond (c .blocks) 0x20 0x00) × (chosen c l ≡ Active) = sak-last c l (omega (arith, sizes c s l P u hP e, ap length d, length-append K [])) in
+          rw (h .0, h .1)
+      which u (x ∷ t) e d =
+          let h : (sak c l ≡ 0x04) × (chosen c l ≡ Ready (up l)) = sak-more c l (omega (arith, sizes c s l P u hP e, ap length d, length-append K (x ∷ t))) in
+          rw (h .0, h .1)
 
       go₃ : (u : List ℕ) → strip P r ≡ some u → (o : Option (List ℕ)) → strip K u ≡ o → rules c (Ready l) a ≡ saked l (c .blocks) o
       go₃ u e none d = sel-out c s l P u hP e K b hn d

@@ -37,7 +37,7 @@ Unawaited c Off f = Unit {0}
 Unawaited c Idle f = (f ≢ reqa) × (f ≢ wupa)
 Unawaited c (Ready l) f =
     place l < length (levels (c .uid)) → (bitsSent f < 40 → f ≢ anticollision l (bitsSent f) (fiveAt c l)) × (f ≢ select l (fiveAt c l))
-Unawaited c Active f = (f ≢ hlta) × ((i : ℕ) → f ≢ rats i)
+Unawaited c Active f = (f ≢ hlta) × (f ≢ rats (fsdi f))
 Unawaited c Halt f = f ≢ wupa
 Unawaited c (Protocol i) f = Unit {0}
 
@@ -64,7 +64,7 @@ else-is c (Ready l) f h = go (ltb (place l) (length (levels (c .uid)))) refl
         let k : place l < length (levels (c .uid)) = ltb-true (place l) (length (levels (c .uid))) e in
         ready-else c l (fiveAt c l) f (h k .0) (h k .1)
     go false e = refl
-else-is c Active f h = rw (same-ne f hlta (h .0), same-ne f (rats (fsdi f)) (h .1 (fsdi f)), and-false)
+else-is c Active f h = rw (same-ne f hlta (h .0), same-ne f (rats (fsdi f)) (h .1), and-false)
 else-is c Halt f h = rw (same-ne f wupa h)
 else-is c (Protocol i) f h = refl
 

@@ -4,11 +4,10 @@ use mathlib.Core.Path.{_≡_, refl, sym, ap, ap₂, _∙_}
 use Prim.Native.Nat.{ℕ, suc, _≤_}
 use native.Mathlib.Nat.{not-suc-le-zero}
 use mathlib.Core.Bool.{Bool, true, false, cond, false≢true}
-use borrow.Author.Tests.{eqb-true}
-use lib.Dec.{eqb, ltb}
-use mathlib.Core.List.{map-id, List, [], _∷_, _++_, map, map-id}
+use mathlib.Core.List.{map-id, List, [], _∷_, _++_, map}
 use lib.ListN.{length}
-use lib.Dec.{T, eqb, ltb}
+use lib.Dec.{eqb, ltb}
+use borrow.Author.Tests.{eqb-true}
 use native.Mathlib.Omega.{arith}
 use Rattle.rows.specs.CleanLaws.{eqb-same}
 use Rattle.rows.specs.Rows.{clean, All}

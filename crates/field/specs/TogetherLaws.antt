@@ -95,4 +95,3 @@ pub faulty-seal : (n : ℕ) (D : List (List ℕ)) → 1 ≤ length D → All (λ
 unfolding later
 faulty-seal zero D h l = unfold faulty in refl
 faulty-seal (suc n) D h l = faulty-step n D h l (faulty-seal n (map (drop 8) D) (rw length-map h) (drops n D h l))
-

@@ -1,13 +1,13 @@
 -- Bytes and their bits in air order, there and back. Assumes nothing.
 use mathlib.Core.Path.{_≡_, refl, sym, ap, _∙_}
 use Prim.Native.Nat.{ℕ, zero, suc, _+_, _*_, _<_, _-_, _≤_, min}
+use mathlib.Core.Bool.{Bool, true, false}
 use mathlib.Core.List.{List, [], _∷_, _++_, append-assoc, append-nil}
 use lib.ListN.{length, take, length-append, drop, replicate, length-take, length-drop, take-append-drop, replicate-append-replicate, drop-of-length-le}
 use lib.Seq.{take-at, drop-at, take-all, take-append-seam}
-use native.Mathlib.Omega.{arith}
-use mathlib.Core.Bool.{Bool, true, false}
 use lib.Dec.{ltb}
 use borrow.Author.Tests.{ltb-true, ltb-false}
+use native.Mathlib.Omega.{arith}
 use Rattle.rows.specs.ListLaws.{all-take, all-drop, all-append}
 use Rattle.rows.specs.Rows.{Bits, fill, Bytes}
 use Rattle.parity.specs.BitLaws.{length-bits, unbits-bits, bits-unbits, unbits-lt, bits-bits}
@@ -89,4 +89,3 @@ pub length-bytes : (n : ℕ) (d : List ℕ) → length (bytesOf n d) ≡ n
 unfolding bytesOf
 length-bytes zero d = refl
 length-bytes (suc n) d = ap suc (length-bytes n (drop 8 d))
-

@@ -4,3 +4,4 @@ pub mod FrameLaws
 pub mod LoopLaws
 pub mod ByteLaws
 pub mod ParityLaws
+pub mod TellLaws

@@ -5,8 +5,8 @@ use mathlib.Core.Bool.{Bool, true, false, cond, true≢false, false≢true}
 use mathlib.Core.List.{List, [], _∷_, _++_}
 use lib.ListN.{length, take}
 use lib.Dec.{eqb, ltb}
-use native.Mathlib.Omega.{arith}
 use borrow.Author.Tests.{eq-eqb}
+use native.Mathlib.Omega.{arith}
 use Rattle.rows.specs.Rows.{clean, next, Bits, isNil}
 
 pub eqb-same : (x : ℕ) → eqb x x ≡ true

@@ -4,9 +4,8 @@ use Prim.Native.Nat.{ℕ, zero, suc, _≤_, _<_}
 use native.Mathlib.Nat.{not-suc-le-zero}
 use mathlib.Core.List.{List, [], _∷_, map, _++_}
 use lib.ListN.{length, take, length-append, getD, drop, length-replicate}
-use lib.Dec.{T}
-use native.Mathlib.Omega.{arith}
 use lib.Seq.{take-at, drop-at}
+use native.Mathlib.Omega.{arith}
 use Rattle.rows.specs.Rows.{All, Bits, fill}
 
 pub all-map {ℓ} : {A B : Type ℓ} {F : A → Type 0} (G : B → Type 0) (f : A → B) (S : List A) → ((r : A) → F r → G (f r)) → All F S → All G (map f S)

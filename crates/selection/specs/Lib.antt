@@ -4,6 +4,7 @@ pub mod Level
 pub mod LevelLaws
 pub mod PadLaws
 pub mod RestLaws
+pub mod SentLaws
 pub mod SizeLaws
 pub mod SealLaws
 pub mod SelectionLaws

@@ -4,12 +4,12 @@ use mathlib.Core.Bool.{Bool, true, false, cond, not, _&&_}
 use mathlib.Core.List.{List, [], _∷_, _++_, append-nil}
 use Prim.Native.Nat.{ℕ, zero, suc, _+_, _-_, _*_, _/_, _≤_, _<_}
 use native.Mathlib.Omega.{arith}
-use lib.ListN.{length, take, drop, replicate, length-append, length-take, drop-of-length-le}
+use lib.ListN.{length, take, drop, getD, replicate, length-append, length-take, drop-of-length-le}
 use lib.Dec.{eqb, ltb}
 use borrow.Author.Tests.{eq-eqb, ne-eqb, lt-ltb, le-ltb, ltb-true, ltb-false}
 use Rattle.rows.specs.Rows.{overlay, isNil, clean, next, same, fill, Bits}
 use Rattle.frame.specs.Frame.{standard, dataOf, bytesOf, faulty}
-use Rattle.uid.specs.Uid.{level}
+use Rattle.uid.specs.Uid.{level, check}
 use Rattle.selection.specs.Selection.{cut}
 use Rattle.selection.specs.Heard.{notRest, restOf, readRest}
 use Rattle.selection.specs.Level.{firstCollided}
@@ -132,3 +132,22 @@ known-clean d n l =
 pub made-whole : (d five : List ℕ) → length d ≡ 40 → five ≡ bytesOf 5 d → _≡_ {A = Rest} (record { says = Whole; five = five; known = 40 }) (restOf Whole d)
 unfolding restOf
 made-whole d five n e = rw (e, n)
+
+-- ---- B
+
+-- five bytes are a level's where the last is the B of the others
+pub checked : (five : List ℕ) (b : ℕ) → length five ≡ 5 → b ≡ check (getD five 0 0 ∷ getD five 1 0 ∷ getD five 2 0 ∷ getD five 3 0 ∷ [])
+    → eqb (getD five 4 0) b ≡ same five (level (take 4 five))
+unfolding level same
+checked [] b h e = absurd (omega arith)
+checked (x ∷ []) b h e = absurd (omega arith)
+checked (x ∷ y ∷ []) b h e = absurd (omega arith)
+checked (x ∷ y ∷ z ∷ []) b h e = absurd (omega arith)
+checked (x ∷ y ∷ z ∷ t ∷ []) b h e = absurd (omega arith)
+checked (x ∷ y ∷ z ∷ t ∷ u ∷ []) b h e =
+    rw (e, eq-eqb x x refl, eq-eqb y y refl, eq-eqb z z refl, eq-eqb t t refl) (sym (and-true (eqb u (check (x ∷ y ∷ z ∷ t ∷ [])))))
+  where
+    and-true : (a : Bool) → (a && true) ≡ a
+    and-true true = refl
+    and-true false = refl
+checked (x ∷ y ∷ z ∷ t ∷ u ∷ v ∷ l) b h e = absurd (omega arith)

@@ -12,8 +12,9 @@ use Rattle.crc.specs.Crc.{withCrc, crcBytes}
 use Rattle.frame.specs.ByteLaws.{bits-bytes, length-bytes, length-airBits, airBits-append}
 use Rattle.frame.specs.Frame.{airBits, short, standard, bytesOf}
 use Rattle.frame.specs.FrameLaws.{length-standard}
+use Rattle.frame.specs.TellLaws.{standard-bits, length-crc}
 use Rattle.selection.specs.SealLaws.{seal, standard-seal, take-seal, seal-same}
-use Rattle.selection.specs.Selection.{cut, sel, nvb, reqa, wupa, hlta, anticollision, select, sakFrame}
+use Rattle.selection.specs.Selection.{rats, cut, sel, nvb, reqa, wupa, hlta, anticollision, select, sakFrame}
 use Rattle.uid.specs.declared.Level.{Level}
 
 pub length-reqa : length reqa ≡ 7
@@ -24,13 +25,13 @@ pub length-wupa : length wupa ≡ 7
 unfolding wupa short
 length-wupa = length-bits 7 0x52
 
-length-crc : (l : List ℕ) → length (withCrc l) ≡ 2 + length l
-unfolding withCrc crcBytes
-length-crc l = rw length-append (omega arith)
-
 pub length-hlta : length hlta ≡ 36
 unfolding hlta
 length-hlta = length-standard (withCrc (0x50 ∷ 0x00 ∷ [])) ∙ rw length-crc
+
+pub length-rats : (i : ℕ) → length (rats i) ≡ 36
+unfolding rats
+length-rats i = length-standard (withCrc (0xE0 ∷ 16 * i ∷ [])) ∙ rw length-crc
 
 pub length-anti : (l : Level) (k : ℕ) (five : List ℕ) → length five ≡ 5 → k ≤ 40 → length (anticollision l k five) ≡ 18 + cut k
 unfolding anticollision
@@ -84,15 +85,10 @@ anti-bits l k a c ha hc m e =
 
 -- ---- SELECT
 
-standard-tells : (l m : List ℕ) → length l ≡ length m → standard l ≡ standard m → airBits l ≡ airBits m
-standard-tells l m h e =
-    seal-same (length l) (airBits l) (airBits m) (rw (length-airBits l, length-airBits m) (omega arith)) (rw (length-airBits l) (omega arith))
-    (sym (standard-seal l) ∙ e ∙ standard-seal m ∙ ap (λ n. seal n (airBits m)) (sym h))
-
 crc-tells : (l m : List ℕ) → length l ≡ length m → standard (withCrc l) ≡ standard (withCrc m) → airBits l ≡ airBits m
 unfolding withCrc crcBytes
 crc-tells l m h e =
-    let b : airBits (l ++ crcBytes l) ≡ airBits (m ++ crcBytes m) = standard-tells (l ++ crcBytes l) (m ++ crcBytes m) (rw (length-append l, length-append m) (omega arith)) e in
+    let b : airBits (l ++ crcBytes l) ≡ airBits (m ++ crcBytes m) = standard-bits (l ++ crcBytes l) (m ++ crcBytes m) e in
     parts-equal (8 * length l) (airBits l) (airBits m) (airBits (crcBytes l)) (airBits (crcBytes m)) (length-airBits l) (rw (length-airBits m) (omega arith))
     (sym (airBits-append l (crcBytes l)) ∙ b ∙ airBits-append m (crcBytes m)) .0
 

@@ -2,13 +2,12 @@
 -- core cites this file. Assumes nothing.
 use mathlib.Core.Path.{_≡_}
 use Prim.Native.Nat.{ℕ, zero, suc, _+_, _-_, _*_, _/_}
-use mathlib.Core.Bool.{Bool, true, cond}
+use mathlib.Core.Bool.{true, cond}
 use mathlib.Core.List.{List, [], _∷_, _++_, map}
 use lib.ListN.{length, take}
-use lib.Dec.{ltb}
 use Rattle.rows.specs.Rows.{clean, next, isNil, any, All}
 use Rattle.uid.specs.LevelLaws.{wide}
-use Rattle.uid.specs.Order.{insertOn, sortOn, Diff, on, off, diff, above, one, parts}
+use Rattle.uid.specs.Order.{insertOn, sortOn, Diff, on, off, diff, above, parts}
 use Rattle.uid.specs.OrderLaws.{Off}
 use Rattle.field.specs.Merge.{merge}
 
@@ -35,11 +34,6 @@ rest P (r ∷ S) = leave (diff P r) r (rest P S)
 -- what is heard of the next n bits
 unfoldable pub heard : ℕ → List (List ℕ) → List ℕ
 heard n T = merge (map (take n) T)
-
--- the bits of a heard row before its first collision
-unfoldable pub known : List ℕ → List ℕ
-known [] = []
-known (x ∷ h) = cond (ltb 1 x) [] (x ∷ known h)
 
 -- the first of the two rows comes first, or is the other's head
 abbrev pub Up : Diff → Type 0
@@ -104,14 +98,7 @@ abbrev pub Apart : List (List ℕ) → Type 0
 Apart [] = Unit {0}
 Apart (r ∷ S) = All (λ s. Off (diff r s) × Off (diff s r)) S × Apart S
 
--- what `sort` is: each row comes before all later ones, and a row occurs as often as before
+-- each row comes before all later ones
 abbrev pub Falling : List (List ℕ) → Type 0
 Falling [] = Unit {0}
 Falling (r ∷ l) = All (λ s. above r s ≡ true) l × Falling l
-
-unfoldable pub tally : (List ℕ → Bool) → List (List ℕ) → ℕ
-tally f [] = 0
-tally f (r ∷ l) = one (f r) + tally f l
-
--- ---- levels
-

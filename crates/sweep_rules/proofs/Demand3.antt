@@ -2,21 +2,19 @@
 use mathlib.Core.Path.{_≡_, refl, sym, ap, ap₂, _∙_}
 use mathlib.Core.Logic.{_≢_}
 use Prim.Native.Nat.{ℕ, _*_, _/_, _≤_}
-use mathlib.Core.Bool.{Bool, true, false, cond, not, _&&_, _||_, true≢false}
+use mathlib.Core.Bool.{true, false}
 use mathlib.Core.List.{List, [], _∷_, map, map-map}
 use lib.ListN.{length, length-map, length-take}
-use lib.Dec.{leb}
-use borrow.Author.Tests.{leb-true, le-ltb, not-true}
+use borrow.Author.Tests.{le-ltb}
 use native.Mathlib.Omega.{arith}
 use Rattle.sweep_rules.proofs.Abstract
 use Rattle.rows.specs.EachLaws.{all-zip, all-map}
-use Rattle.rows.specs.ListLaws.{both, same-eq}
-use Rattle.rows.specs.Rows.{All, any, same}
+use Rattle.rows.specs.Rows.{All}
 use Rattle.uid.specs.LevelLaws.{wide, InLevels}
 use Rattle.uid.specs.Order.{diff}
 use Rattle.uid.specs.OrderLaws.{Off}
 use Rattle.uid.specs.SortLaws.{map-sort, length-sort, all-sort}
-use Rattle.uid.specs.Uid.{levels, rowOf, falling, frameSum, valid, uidBytes}
+use Rattle.uid.specs.Uid.{levels, rowOf, falling, frameSum, uidBytes}
 use Rattle.uid.specs.UidLaws.{name, Sound, rows-off, length-row, name-row}
 use Rattle.reader.specs.Reader.{blank, turn, isNew}
 use Rattle.log.specs.Log.{exchangeBytes}
@@ -24,66 +22,20 @@ use Rattle.sweep_rules.specs.Call.{done, sweepCall}
 use Rattle.sweep_rules.specs.Demand.{Typed, idle, halted, Swept, Demand3}
 use Rattle.sweep_rules.specs.Limits.{mostCards, logRoom, listRoom, mostFrames}
 use Rattle.sweep_rules.specs.Run.{sweep}
-use Rattle.sweep_rules.specs.Terms.{isIdle, isHalt, cardFits, allFit, apart, within}
+use Rattle.sweep_rules.specs.Terms.{within}
 use Rattle.sweep_rules.proofs.Abstract.{Falling, sort, frames, Apart}
 use Rattle.sweep_rules.proofs.Falling.{sort-falling}
 use Rattle.sweep_rules.proofs.Idle.{Fits, idlers, idles, idle-uids, all-idle, few-idle}
+use Rattle.sweep_rules.proofs.IdleRows.{whole-idles}
 use Rattle.sweep_rules.proofs.LogSize.{small-all, log-length, list-length}
-use Rattle.sweep_rules.proofs.Model.{view, whole-idles, model-swept}
+use Rattle.sweep_rules.proofs.Model.{view, model-swept}
 use Rattle.sweep_rules.proofs.Sweep.{sweep-bound, frames-small}
+use Rattle.sweep_rules.proofs.Within.{Within, within-says, Differ, uids}
 use Rattle.uid.specs.declared.Uid.{Uid}
 use Rattle.card.specs.declared.Card.{Card}
 use Rattle.reader.specs.declared.Answer.the-variants.{Finishes}
 use Rattle.reader.specs.declared.Phase.the-variants.{Finished}
 use Rattle.reader.specs.declared.Reader.{Reader}
-
--- ---- the terms
-
-fits-card : (c : Card) → Typed c → cardFits c ≡ true → Fits c
-unfolding cardFits
-fits-card c t e =
-    let b : ((valid (c .uid) && leb (c .index) 8) ≡ true) × ((isIdle (c .state) || isHalt (c .state)) ≡ true) =
-    both (valid (c .uid) && leb (c .index) 8) (isIdle (c .state) || isHalt (c .state)) e in
-    record { sound = record { ten = t .ten; bytes = t .bytes; is-valid = both (valid (c .uid)) (leb (c .index) 8) (b .0) .0 }; rests = b .1 }
-
-fits-all : (cs : List Card) → All Typed cs → allFit cs ≡ true → All Fits cs
-unfolding allFit
-fits-all [] t e = tt
-fits-all (c ∷ cs) t e =
-    let b : (cardFits c ≡ true) × (allFit cs ≡ true) = both (cardFits c) (allFit cs) e in
-    (fits-card c (t .0) (b .0), fits-all cs (t .1) (b .1))
-
--- no UID is there twice
-abbrev Differ : List Uid → Type 0
-Differ [] = Unit {0}
-Differ (u ∷ us) = All (λ v. uidBytes u ≢ uidBytes v) us × Differ us
-
--- the UIDs of cards
-abbrev uids : List Card → List Uid
-uids cs = map (λ c. c .uid) cs
-
-none-same : (c : Card) (cs : List Card) → any (λ k. same (uidBytes (c .uid)) (uidBytes (k .uid))) cs ≡ false → All (λ k. uidBytes (c .uid) ≢ uidBytes (k .uid)) cs
-unfolding any
-none-same c [] e = tt
-none-same c (k ∷ cs) e = go (same (uidBytes (c .uid)) (uidBytes (k .uid))) refl e (none-same c cs)
-  where
-    go : (b : Bool) → same (uidBytes (c .uid)) (uidBytes (k .uid)) ≡ b → (b || any (λ k. same (uidBytes (c .uid)) (uidBytes (k .uid))) cs) ≡ false
-        → (any (λ k. same (uidBytes (c .uid)) (uidBytes (k .uid))) cs ≡ false → All (λ k. uidBytes (c .uid) ≢ uidBytes (k .uid)) cs)
-        → (uidBytes (c .uid) ≢ uidBytes (k .uid)) × All (λ k. uidBytes (c .uid) ≢ uidBytes (k .uid)) cs
-    go true s e ih = absurd (true≢false e)
-    go false s e ih = (λ q. true≢false (sym (same-eq (uidBytes (c .uid)) (uidBytes (k .uid)) q) ∙ s), ih e)
-
-differ-idle : (cs : List Card) → apart cs ≡ true → Differ (uids (idlers cs))
-unfolding apart idlers
-differ-idle [] e = tt
-differ-idle (c ∷ cs) e =
-    let t : Bool = any (λ k. same (uidBytes (c .uid)) (uidBytes (k .uid))) cs in
-    let b : (not t ≡ true) × (apart cs ≡ true) = both (not t) (apart cs) e in
-    go (isIdle (c .state)) (none-same c cs (not-true t (b .0))) (differ-idle cs (b .1))
-  where
-    go : (b : Bool) → All (λ k. uidBytes (c .uid) ≢ uidBytes (k .uid)) cs → Differ (uids (idlers cs)) → Differ (uids (cond b (c ∷ idlers cs) (idlers cs)))
-    go true n i = (all-map {F = λ k. uidBytes (c .uid) ≢ uidBytes (k .uid)} (λ v. uidBytes (c .uid) ≢ uidBytes v) (λ k. k .uid) (idlers cs) (λ k h. h) (all-idle (λ k. uidBytes (c .uid) ≢ uidBytes (k .uid)) cs n), i)
-    go false n i = i
 
 -- ---- rows that are apart
 
@@ -120,7 +72,7 @@ frames-sum (u ∷ us) s = let e : 40 * length (levels u) / 40 ≡ length (levels
 
 -- ---- demand 3
 
-module _ (cs : List Card) (s : All Fits cs) (few : length cs ≤ mostCards) (d : apart cs ≡ true) where
+module _ (cs : List Card) (s : All Fits cs) (few : length cs ≤ mostCards) (d : Differ (uids (idlers cs))) where
   found : List Uid
   found = falling (idle cs)
 
@@ -135,8 +87,8 @@ module _ (cs : List Card) (s : All Fits cs) (few : length cs ≤ mostCards) (d :
   unfolding idles
   rows-are = rw (idle-uids cs) (sym (map-map rowOf (λ c. c .uid) (idlers cs)))
 
-  pub apart-idles : Apart (idles cs)
-  apart-idles = rw rows-are (apart-rows (idle cs) sound-idle (rw (idle-uids cs) (differ-idle cs d)))
+  apart-idles : Apart (idles cs)
+  apart-idles = rw rows-are (apart-rows (idle cs) sound-idle (rw (idle-uids cs) d))
 
   whole : All (InLevels 3) (idles cs)
   whole = whole-idles cs s
@@ -151,7 +103,7 @@ module _ (cs : List Card) (s : All Fits cs) (few : length cs ≤ mostCards) (d :
   unfolding found
   is-found = rw rows-are (rows-falling (idle cs))
 
-  pub rows-fall : Falling (map rowOf (falling (idle cs)))
+  rows-fall : Falling (map rowOf (falling (idle cs)))
   unfolding found
   rows-fall = rw is-found at (sort-falling (idles cs) whole apart-idles)
 
@@ -174,7 +126,7 @@ module _ (cs : List Card) (s : All Fits cs) (few : length cs ≤ mostCards) (d :
   unfolding uidBytes
   fits-found = all-map {F = Sound} (λ u. length u ≤ 10) uidBytes found (λ u t. rw length-take (omega (arith, t .ten))) sound-found
 
-  pub sweep-is : Swept cs (sweep cs)
+  sweep-is : Swept cs (sweep cs)
   unfolding view found
   sweep-is =
       let e : All (λ e. length (exchangeBytes e) ≤ 19) (sweep cs .exchanges) = small-all (sweep cs .exchanges) (ap (λ w. w .2 .1) swept) in
@@ -189,28 +141,14 @@ module _ (cs : List Card) (s : All Fits cs) (few : length cs ≤ mostCards) (d :
         list-fits = rw (ap (λ w. w .0) swept, list-length (map uidBytes found) fits-found, length-map (falling (idle cs)) uidBytes, length-falling (idle cs)) (omega (arith, few-idles));
       }
 
--- what `within` says
-module _ (cs : List Card) (t : All Typed cs) (w : within cs ≡ true) where
-  tests : ((leb (length cs) mostCards && allFit cs) ≡ true) × (apart cs ≡ true)
-  unfolding within
-  tests = both (leb (length cs) mostCards && allFit cs) (apart cs) w
+call-is : (cs : List Card) → within cs ≡ true → (r : Reader) (log list : List ℕ) → isNew (r .phase) ≡ true → logRoom ≤ length log → listRoom ≤ length list
+    → sweepCall r log list cs ≡ done log list (sweep cs)
+unfolding sweepCall
+call-is cs w r log list n h k = rw (n, le-ltb (length log) logRoom h, le-ltb (length list) listRoom k, w)
 
-  first-two : (leb (length cs) mostCards ≡ true) × (allFit cs ≡ true)
-  first-two = both (leb (length cs) mostCards) (allFit cs) (tests .0)
+pub demand3 : (cs : List Card) → All Typed cs → within cs ≡ true → Demand3 cs
+demand3 cs t w = let x : Within cs = within-says cs t w in record { swept = sweep-is cs (x .fits) (x .few) (x .differ); call = call-is cs w }
 
-  fitting : All Fits cs
-  fitting = fits-all cs t (first-two .1)
-
-  few-cards : length cs ≤ mostCards
-  few-cards = leb-true (length cs) mostCards (first-two .0)
-
-  call-is : (r : Reader) (log list : List ℕ) → isNew (r .phase) ≡ true → logRoom ≤ length log → listRoom ≤ length list → sweepCall r log list cs ≡ done log list (sweep cs)
-  unfolding sweepCall
-  call-is r log list n h k = rw (n, le-ltb (length log) logRoom h, le-ltb (length list) listRoom k, w)
-
-  pub demand3 : Demand3 cs
-  demand3 = record { swept = sweep-is cs fitting few-cards (tests .1); call = call-is }
-
-  -- the order of the list is falling
-  pub found-falls : Falling (map rowOf (falling (idle cs)))
-  found-falls = rows-fall cs fitting few-cards (tests .1)
+-- the order of the list is falling
+pub found-falls : (cs : List Card) → All Typed cs → within cs ≡ true → Falling (map rowOf (falling (idle cs)))
+found-falls cs t w = let x : Within cs = within-says cs t w in rows-fall cs (x .fits) (x .few) (x .differ)

@@ -3,12 +3,9 @@ use mathlib.Core.Path.{_≡_, refl, sym, ap, _∙_}
 use Prim.Native.Nat.{ℕ, zero, suc, _≤_, _<_, _+_, _-_, _*_}
 use native.Mathlib.Nat.{not-suc-le-zero}
 use mathlib.Core.Bool.{Bool, true, false, cond, true≢false}
-use lib.ListN.{length-map}
-use lib.Seq.{length-take-le}
 use mathlib.Core.List.{List, [], _∷_, _++_, map, tail, append-assoc, append-cancel-left}
-use lib.ListN.{length, take, drop, length-append}
-use lib.Seq.{drop-at, take-append-add, take-take}
-use lib.Dec.{T}
+use lib.ListN.{length-map, length, take, drop, length-append}
+use lib.Seq.{length-take-le, drop-at, take-append-add, take-take}
 use native.Mathlib.Omega.{arith}
 use Rattle.rows.specs.CleanLaws.{next-take, bits-clean}
 use Rattle.rows.specs.EachLaws.{all-zip, all-map, all-weaken}
@@ -77,7 +74,7 @@ check-early check K m n T k h l b c e =
     (λ t p. append-cancel-left K (take n t) (take m t ++ check (K ++ take m t)) (p ∙ append-assoc K (take m t) (check (K ++ take m t)))) c) e
 
 module _ (j n m : ℕ) (P K : List ℕ) (hP : length P ≡ wide * j) (hn : wide ≡ length K + n) (hm : 32 ≡ length K + m) (k : m ≤ n) where
-  pub lev-open : (t : List ℕ) → lev j (P ++ K ++ t) ≡ K ++ take n t
+  lev-open : (t : List ℕ) → lev j (P ++ K ++ t) ≡ K ++ take n t
   unfolding lev
   lev-open t =
       ap (λ l. take wide (drop (wide * j) l)) (append-assoc P K t) ∙ ap (take wide) (drop-at P (K ++ t) (wide * j) hP)
@@ -92,15 +89,15 @@ module _ (j n m : ℕ) (P K : List ℕ) (hP : length P ≡ wide * j) (hn : wide 
       rw (lev-open t, first-bits t) at (c j (rw (length-append, length-append, hP) (omega arith)))
 
 -- so it is for all that are left
-pub all-tied : (S : List (List ℕ)) (j n m : ℕ) (P K : List ℕ) → All (Checked) S → Open 32 S j n P K → 32 ≡ length K + m
+pub all-tied : (S : List (List ℕ)) (j n m : ℕ) (P K : List ℕ) → All Checked S → Open 32 S j n P K → 32 ≡ length K + m
     → All (λ t. K ++ take n t ≡ K ++ take m t ++ checkOf (K ++ take m t)) (strips (P ++ K) S)
 unfolding wide
 all-tied S j n m P K cs o hm =
     all-zip (strips (P ++ K) S) (λ t f h. f h)
-    (all-strips (Checked) (λ t. n ≤ length t → K ++ take n t ≡ K ++ take m t ++ checkOf (K ++ take m t)) (P ++ K) S
+    (all-strips Checked (λ t. n ≤ length t → K ++ take n t ≡ K ++ take m t ++ checkOf (K ++ take m t)) (P ++ K) S
     (tied j n m P K (o .before) (o .room) hm (omega (arith, o .room, o .early))) cs) (o .long)
 
-pub law-early-32 : (S : List (List ℕ)) (j n : ℕ) (P K : List ℕ) → All (Checked) S → Open 32 S j n P K
+pub law-early-32 : (S : List (List ℕ)) (j n : ℕ) (P K : List ℕ) → All Checked S → Open 32 S j n P K
     → clean (heard n (strips (P ++ K) S)) ≡ false → length (K ++ next (heard n (strips (P ++ K) S))) ≤ 32
 unfolding wide
 law-early-32 S j n P K cs o e =

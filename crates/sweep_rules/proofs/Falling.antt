@@ -1,4 +1,4 @@
--- The sort is in falling order, and a permutation. Assumes nothing.
+-- Sorted rows are in falling order. Assumes nothing.
 use mathlib.Core.Path.{_≡_, refl, ap}
 use Prim.Native.Nat.{ℕ, zero, suc, _≤_}
 use native.Mathlib.Nat.{not-suc-le-zero}
@@ -39,4 +39,3 @@ falling (suc n) (r ∷ S) h w a =
 
 pub sort-falling : (S : List (List ℕ)) → All (InLevels 3) S → Apart S → Falling (sort S)
 sort-falling S w a = falling (length S) S (omega arith) w a
-

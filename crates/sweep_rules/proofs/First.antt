@@ -1,6 +1,4 @@
--- One bit at a time: what `diff`, `strips`, `rest` and `parts` of a row x ∷ P are by the first bits of the other rows.
--- `lead x r` is what r has left after a first bit x; after `diff-cons` no proof looks at a test of two bits again.
--- Assumes nothing.
+-- One bit at a time: what `strips` and `parts` of a row x ∷ P are by the first bits of the other rows. Assumes nothing.
 use mathlib.Core.Path.{_≡_, refl, ap, ap₂, _∙_}
 use Prim.Native.Nat.{ℕ, suc, _+_}
 use mathlib.Core.Bool.{Bool, true, false, _||_}

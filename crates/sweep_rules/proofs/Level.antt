@@ -16,8 +16,6 @@ use Rattle.sweep_rules.proofs.Abstract.{keep, strips, heard, Up, Top, l
 use Rattle.sweep_rules.proofs.First.{strips-nil, strips-append, parts-append}
 use Rattle.sweep_rules.proofs.Step.{Step, step, up-later, top-nil}
 
--- ---- a row that begins with P is P and what it has left
-
 -- what holds of a row holds, in another form, of what it has left
 pub all-strips : (F G : List ℕ → Type 0) (P : List ℕ) (S : List (List ℕ)) → ((t : List ℕ) → F (P ++ t) → G t) → All F S → All G (strips P S)
 unfolding strips keep

@@ -6,11 +6,15 @@ pub mod Select
 pub mod Sort
 pub mod Sweep
 pub mod Falling
-pub mod Strip
 pub mod Machine
+pub mod Early
+pub mod Strip
 pub mod Idle
+pub mod IdleRows
+pub mod Sitting
 pub mod Round
 pub mod LogSize
 pub mod Model
+pub mod Within
 pub mod Demand3
-pub mod Early
+pub mod Example

@@ -1,5 +1,5 @@
 -- The run of any machine whose frames obey the laws below is the sweep over the rows of its idle cards. A machine is a field with a
--- reader at some level of detail: commands here (`Run`), frames with parity and CRC elsewhere. Assumes nothing.
+-- reader; proofs/Model.antt has the one of the core. Assumes nothing.
 use mathlib.Core.Path.{_≡_, refl, sym, ap, _∙_}
 use Prim.Native.Nat.{ℕ, zero, suc, _+_, _-_, _*_, _≤_, _<_}
 use native.Mathlib.Nat.{not-suc-le-zero, suc-add, add-sub-of-le}

@@ -1,22 +1,18 @@
 -- The field of cards and the reader, with their frames, are a machine (proofs/Machine.antt): its laws, one for each kind of frame.
 -- Assumes nothing.
 use mathlib.Core.Path.{_≡_, refl, sym, ap, _∙_}
-use Prim.Native.Nat.{ℕ, suc, _+_, _-_, _*_, _≤_, _<_, zero}
-use native.Mathlib.Nat.{not-suc-le-zero}
+use Prim.Native.Nat.{ℕ, suc, _+_, _*_, _≤_, _<_, zero}
 use mathlib.Core.Bool.{Bool, true, false, cond}
-use mathlib.Core.List.{List, [], _∷_, _++_, map, append-nil, append-assoc, cons≢nil}
-use lib.ListN.{length, take, drop, length-map, length-append, length-take}
+use mathlib.Core.List.{List, [], _∷_, _++_, map, append-nil, cons≢nil}
+use lib.ListN.{length, take, drop, length-map}
 use native.Mathlib.Omega.{arith}
 use Rattle.rows.specs.CleanLaws.{not-nil}
-use Rattle.rows.specs.EachLaws.{bits-right, all-map, bits-left, some-all}
-use Rattle.rows.specs.ListLaws.{all-take, all-append}
 use Rattle.rows.specs.Rows.{clean, next, All, isNil, Bits}
 use Rattle.frame.specs.ByteLaws.{length-bytes}
 use Rattle.frame.specs.Frame.{bytesOf}
-use Rattle.uid.specs.CheckLaws.{Checked, checkOf}
 use Rattle.uid.specs.LevelLaws.{wide, InLevels}
 use Rattle.uid.specs.Uid.{place, uidBytes}
-use Rattle.uid.specs.UidLaws.{name, soFar, uid-in-levels, checked-row}
+use Rattle.uid.specs.UidLaws.{name, soFar}
 use Rattle.selection.specs.SakLaws.{clean-more, clean-last}
 use Rattle.selection.specs.SealLaws.{seal}
 use Rattle.selection.specs.Selection.{cut, reqa, hlta, anticollision, select, sakFrame, atqa}
@@ -30,12 +26,14 @@ use Rattle.field.specs.Merge.{merge}
 use Rattle.sweep_rules.specs.Demand.{halted}
 use Rattle.sweep_rules.specs.Run.{Out, before, ended, follow, run, finding}
 use Rattle.sweep_rules.proofs.Abstract.{strips, heard, sort, frames, Apart}
-use Rattle.sweep_rules.proofs.Early.{all-tied, law-early-32, clean-all}
-use Rattle.sweep_rules.proofs.Idle.{idles, Fits, idlers, rowIn, sizes, all-idle}
+use Rattle.sweep_rules.proofs.Early.{law-early-32}
+use Rattle.sweep_rules.proofs.Idle.{idles, Fits, idlers, rowIn, sizes}
+use Rattle.sweep_rules.proofs.IdleRows.{whole-idles, checked-idles, known-bits, Checks, heard-checks}
 use Rattle.sweep_rules.proofs.Level.{all-strips}
 use Rattle.sweep_rules.proofs.LogSize.{small, allSmall, small-any, small-clean, small-anti}
 use Rattle.sweep_rules.proofs.Machine.{View, Open, Machine, machine-swept}
-use Rattle.sweep_rules.proofs.Round.{at, none-idle, turn-req, hear-req, turn-hlt, hear-hlt, turn-anti, hear-anti, turn-more, hear-more, turn-last, hear-last, sound-halt, idles-halt, halted-at, speaks}
+use Rattle.sweep_rules.proofs.Round.{turn-req, hear-req, turn-hlt, hear-hlt, turn-anti, hear-anti, turn-more, hear-more, turn-last, hear-last, speaks}
+use Rattle.sweep_rules.proofs.Sitting.{at, none-idle, sound-halt, idles-halt, halted-at}
 use Rattle.uid.specs.declared.Level.{Level}
 use Rattle.uid.specs.declared.Level.the-variants.{One}
 use Rattle.card.specs.declared.Card.{Card}
@@ -45,7 +43,7 @@ use Rattle.reader.specs.declared.Phase.the-variants.{Finished, ReqaSent, Antico
 use Rattle.reader.specs.declared.Reader.{Reader}
 use Rattle.reader.specs.declared.Turn.{Turn}
 
-pub up-lvl : (j : ℕ) → suc j < 3 → up (lvl j) ≡ lvl (suc j)
+up-lvl : (j : ℕ) → suc j < 3 → up (lvl j) ≡ lvl (suc j)
 unfolding lvl
 up-lvl zero h = refl
 up-lvl (suc zero) h = refl
@@ -74,47 +72,6 @@ tick-found : (f : ℕ) (r : Reader) (t : Turn) (F F′ : List Card) (h : List �
     → goes f t F′ ≡ v → goes (suc f) (finds r) F ≡ (uidBytes (r .uid) ∷ v .0, suc (v .1), v .2)
 unfolding goes run before finding view allSmall finds
 tick-found f r t F F′ h v e₁ e₂ e₃ e₄ e₅ = rw (e₁, e₂, e₃, e₄) (ap (λ w. (uidBytes (r .uid) ∷ w .0, suc (w .1), w .2)) e₅)
-
--- ---- what all rows of a field within the terms have
-
-module _ (F : List Card) (hF : All Fits F) where
-  pub whole-idles : All (InLevels 3) (idles F)
-  unfolding idles
-  whole-idles = all-map {F = Fits} (InLevels 3) rowIn (idlers F) (λ c s. uid-in-levels (c .uid) (s .sound)) (all-idle Fits F hF)
-
-  checked-idles : All Checked (idles F)
-  unfolding idles
-  checked-idles = all-map {F = Fits} Checked rowIn (idlers F) (λ c s. checked-row (c .uid) (s .sound)) (all-idle Fits F hF)
-
--- the bits that the reader knows are a card's
-known-bits : (S : List (List ℕ)) (P K : List ℕ) → All (InLevels 3) S → 1 ≤ length (strips (P ++ K) S) → Bits K
-known-bits S P K w h =
-    some-all (strips (P ++ K) S) (Bits K) h
-    (all-strips (InLevels 3) (λ t. Bits K) (P ++ K) S (λ t x. bits-left K t (bits-right P (K ++ t) (rw append-assoc at (x .bits)))) w)
-
--- a level that is heard with no collision is a card's: its last byte checks the others
-pub record Checks (d : List ℕ) : Type 0 where
-  pub y : List ℕ
-  pub bits : Bits y
-  pub full : length y ≡ 32
-  pub is : d ≡ y ++ checkOf y
-
-heard-checks : (S : List (List ℕ)) (j n : ℕ) (P K : List ℕ) → All Checked S → Open 32 S j n P K → Bits K → clean (heard n (strips (P ++ K) S)) ≡ true → Checks (K ++ heard n (strips (P ++ K) S))
-heard-checks S j n P K cs o b c =
-    go (strips (P ++ K) S) (o .some-in) (o .long) (o .bits) (clean-all n (strips (P ++ K) S) (o .some-in) (o .long) c) (all-tied S j n m P K cs o (omega (arith, o .early)))
-  where
-    m : ℕ
-    m = 32 - length K
-
-    go : (T : List (List ℕ)) → 1 ≤ length T → All (λ t. n ≤ length t) T → All Bits T → All (λ t. take n t ≡ heard n (strips (P ++ K) S)) T
-        → All (λ t. K ++ take n t ≡ K ++ take m t ++ checkOf (K ++ take m t)) T → Checks (K ++ heard n (strips (P ++ K) S))
-    go [] h l bT a e = absurd (not-suc-le-zero h)
-    go (t ∷ T) h l bT a e = record {
-      y = K ++ take m t;
-      bits = all-append (λ x. x < 2) K (take m t) b (all-take (λ x. x < 2) m t (bT .0));
-      full = rw (length-append, length-take) (unfold wide in omega (arith, l .0, o .room, o .early));
-      is = ap (λ r. K ++ r) (sym (a .0)) ∙ e .0;
-    }
 
 -- SELECT and a clean SAK
 small-sak : (l : Level) (five : List ℕ) (b : ℕ) → length five ≡ 5 → clean (sakFrame b) ≡ true → small (select l five, sakFrame b) ≡ true
@@ -238,7 +195,7 @@ stop-law f F hF e =
     let h : heardFrom reqa F ≡ [] = hear-req F hF ∙ rw n in
     rw (h, turn-req F hF, none-idle [] (Ready One) F hF n, small-any reqa [] (rw length-reqa (omega arith)))
 
-pub model : Machine
+model : Machine
 unfolding wide
 model = record {
   Base = List Card;

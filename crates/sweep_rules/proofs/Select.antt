@@ -46,7 +46,7 @@ ended ([] ∷ []) h e = refl
 ended ([] ∷ s ∷ S) h e = absurd (h .0 .0 .0)
 ended ((x ∷ r) ∷ S) h e = absurd (no-nil (x ∷ r) S (h .0) e)
 
-pub open-ended : (T : List (List ℕ)) → any isNil T ≡ false → All (λ r. 1 ≤ length r) T
+open-ended : (T : List (List ℕ)) → any isNil T ≡ false → All (λ r. 1 ≤ length r) T
 unfolding any isNil
 open-ended [] e = tt
 open-ended ([] ∷ S) e = absurd (true≢false e)
@@ -63,7 +63,7 @@ pub whole-wide : (L : ℕ) (r : List ℕ) → InLevels L r → wide ≤ length r
 unfolding wide
 whole-wide L r w = omega (arith, w .one-level, w .levels-only)
 
-pub whole-right : (L : ℕ) (Q t : List ℕ) → length Q ≡ wide → InLevels (suc L) (Q ++ t) → 1 ≤ length t → InLevels L t
+whole-right : (L : ℕ) (Q t : List ℕ) → length Q ≡ wide → InLevels (suc L) (Q ++ t) → 1 ≤ length t → InLevels L t
 unfolding wide
 whole-right L Q t e w h = record {
   bits = bits-right Q t (w .bits);
@@ -76,7 +76,7 @@ levels-append : (Q P : List ℕ) → length Q ≡ wide → levels (Q ++ P) ≡ s
 unfolding levels wide
 levels-append Q P e = rw length-append (omega arith)
 
-pub levels-one : (Q : List ℕ) → length Q ≡ wide → levels Q ≡ 1
+levels-one : (Q : List ℕ) → length Q ≡ wide → levels Q ≡ 1
 unfolding levels wide
 levels-one Q e = rw e
 

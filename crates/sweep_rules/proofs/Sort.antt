@@ -13,9 +13,7 @@ use Rattle.uid.specs.PartsLaws.{count-cong}
 use Rattle.uid.specs.SortLaws.{all-sort, above-asym}
 use Rattle.sweep_rules.proofs.Abstract.{keep, strips, leave, rest, Up, Top, insert, sort, Apart}
 
--- ---- of two rows at most one comes before the other
-
--- ---- sorting keeps what holds of all, and of some
+-- ---- sorting keeps the positions of first difference
 
 or-swap : (a b c : Bool) → (a || (b || c)) ≡ (b || (a || c))
 or-swap true true c = refl

@@ -7,7 +7,7 @@ use mathlib.Core.Bool.{Bool, true, false, cond, not, _||_, true≢false, false�
 use mathlib.Core.Option.{Option, none, some}
 use mathlib.Core.List.{List, [], _∷_, map, tail}
 use lib.ListN.{length, take}
-use lib.Dec.{T, eqb, eqb→eq}
+use lib.Dec.{eqb, eqb→eq}
 use native.Mathlib.Omega.{arith}
 use Rattle.rows.specs.CleanLaws.{bit-two, eqb-same}
 use Rattle.rows.specs.EachLaws.{all-map, all-weaken}
@@ -61,7 +61,7 @@ heard-zero (r ∷ S) = heard-zero S
 
 -- ---- where no first bit is another than x, all go on
 
-pub pull-all : (x : ℕ) (S : List (List ℕ)) → miss x S ≡ false → pull x S ≡ map tail S
+pull-all : (x : ℕ) (S : List (List ℕ)) → miss x S ≡ false → pull x S ≡ map tail S
 unfolding miss any pull put out
 pull-all x [] e = refl
 pull-all x (r ∷ S) e = go (lead x r) refl (pull-all x S) e
@@ -116,13 +116,13 @@ top-cons x P (r ∷ S) h t = rw diff-cons (go (lead x r) (top-cons x P S) h t)
     go none ih h t = (h refl, ih (λ e. h refl) t)
 
 -- the first bits differ: the reader goes on with a 1
-pub miss-one : (x : ℕ) (r : List ℕ) (S : List (List ℕ)) → x < 2 → miss x S ≡ true → miss 1 ((x ∷ r) ∷ S) ≡ true
+miss-one : (x : ℕ) (r : List ℕ) (S : List (List ℕ)) → x < 2 → miss x S ≡ true → miss 1 ((x ∷ r) ∷ S) ≡ true
 unfolding miss any lead out
 miss-one zero r S h e = refl
 miss-one (suc zero) r S h e = e
 miss-one (suc (suc x)) r S h e = absurd (omega arith)
 
-pub pull-one : (x : ℕ) (r : List ℕ) (S : List (List ℕ)) → x < 2 → All (λ s. 1 ≤ length s) S → All Bits S → miss x S ≡ true → 1 ≤ length (pull 1 ((x ∷ r) ∷ S))
+pull-one : (x : ℕ) (r : List ℕ) (S : List (List ℕ)) → x < 2 → All (λ s. 1 ≤ length s) S → All Bits S → miss x S ≡ true → 1 ≤ length (pull 1 ((x ∷ r) ∷ S))
 unfolding pull lead put
 pull-one zero r S hx h b e = some-one S h b e
 pull-one (suc zero) r S hx h b e = omega arith
@@ -151,7 +151,7 @@ agree n x T R c e s = record {
   left = rw (strips-cons, pull-all x T e) (s .left);
 }
 
-pub miss-same : (x : ℕ) (r : List ℕ) (S : List (List ℕ)) → miss x S ≡ false → miss x ((x ∷ r) ∷ S) ≡ false
+miss-same : (x : ℕ) (r : List ℕ) (S : List (List ℕ)) → miss x S ≡ false → miss x ((x ∷ r) ∷ S) ≡ false
 unfolding miss any out
 miss-same x r S e = rw lead-same e
 
@@ -159,7 +159,7 @@ pub long-tail : (n : ℕ) (r : List ℕ) → suc n ≤ length r → n ≤ length
 long-tail n [] h = absurd (not-suc-le-zero h)
 long-tail n (x ∷ r) h = omega arith
 
-pub bits-tail : (r : List ℕ) → Bits r → Bits (tail r)
+bits-tail : (r : List ℕ) → Bits r → Bits (tail r)
 bits-tail [] h = tt
 bits-tail (x ∷ r) h = h .1
 

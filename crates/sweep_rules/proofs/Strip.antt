@@ -1,9 +1,8 @@
--- What a row has left after the bits that are known, as an option; and what all rows of a field have left. Assumes nothing.
+-- What all rows have left after the bits that are known, by what each has left. Assumes nothing.
 use mathlib.Core.Path.{_≡_, refl, ap}
 use Prim.Native.Nat.{ℕ}
 use mathlib.Core.Option.{Option, none, some}
 use mathlib.Core.List.{List, [], _∷_, map}
-use lib.ListN.{take}
 use native.Mathlib.Omega.{arith}
 use Rattle.rows.specs.Rows.{All}
 use Rattle.uid.specs.Order.{Diff, on, off, diff}
@@ -11,10 +10,6 @@ use Rattle.uid.specs.StripLaws.{strip, shape}
 use Rattle.field.specs.Merge.{join, merge}
 use Rattle.sweep_rules.proofs.Abstract.{keep, strips}
 use Rattle.sweep_rules.proofs.First.{put}
-
-unfoldable pub cut : ℕ → Option (List ℕ) → Option (List ℕ)
-cut n (some t) = some (take n t)
-cut n none = none
 
 pub strips-put : (W r : List ℕ) (S : List (List ℕ)) → strips W (r ∷ S) ≡ put (strip W r) (strips W S)
 unfolding strips strip shape keep put

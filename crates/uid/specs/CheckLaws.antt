@@ -38,7 +38,7 @@ pub take-level : (l : List ℕ) → length l ≡ 4 → take 4 (level l) ≡ l
 unfolding level
 take-level l e = take-at l (check l ∷ []) 4 e
 
-pub airBits-level : (l : List ℕ) → airBits (level l) ≡ airBits l ++ bitsOf 8 (check l)
+airBits-level : (l : List ℕ) → airBits (level l) ≡ airBits l ++ bitsOf 8 (check l)
 unfolding level
 airBits-level l = airBits-append l (check l ∷ []) ∙ ap (λ t. airBits l ++ t) (airBits-one (check l))
 

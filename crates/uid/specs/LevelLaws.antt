@@ -3,11 +3,11 @@ use mathlib.Core.Path.{_≡_, sym, ap, _∙_, refl, ap₂}
 use mathlib.Core.Logic.{_≢_}
 use Prim.Native.Nat.{ℕ, zero, suc, _+_, _*_, _<_, _≤_, _%_}
 use native.Mathlib.Nat.{not-suc-le-zero}
+use mathlib.Core.Option.{some}
 use mathlib.Core.List.{List, [], _∷_, _++_, append-assoc}
 use lib.ListN.{length, take, getD, length-append, drop, length-drop}
 use lib.Seq.{take-at, drop-append-add, drop-at, take-all, take-append-le, drop-append-le}
 use native.Mathlib.Omega.{arith}
-use mathlib.Core.Option.{some}
 use Rattle.rows.specs.EachLaws.{parts-equal}
 use Rattle.rows.specs.ListLaws.{all-append}
 use Rattle.rows.specs.Rows.{All, Bits}
@@ -70,7 +70,6 @@ lev-air (suc j) (l ∷ ls) v h =
     let e : wide * suc j ≡ length l + wide * j = rw (v .0 .full) (omega arith) in
     rw (e, drop-append-add l (air ls) (wide * j)) (lev-air j ls (v .1) (omega arith))
 
-
 pub lev-under : (j : ℕ) (P r u : List ℕ) → length P ≡ wide * j → strip P r ≡ some u → lev j r ≡ take wide u
 unfolding lev
 lev-under j P r u h e = ap (take wide) (ap (drop (wide * j)) (strip-sound P r u e) ∙ drop-at P u (wide * j) h)
@@ -86,7 +85,7 @@ lev-next j P X h k = rw (drop-at P X (40 * j) h) (take-all 40 X (omega arith))
 -- ---- a row of levels
 
 -- by its levels, one after the other
-pub levels-all : (n : ℕ) (a : List (List ℕ)) → Valid n a → All OneLevel a × (1 ≤ length a) × (length a ≤ n)
+levels-all : (n : ℕ) (a : List (List ℕ)) → Valid n a → All OneLevel a × (1 ≤ length a) × (length a ≤ n)
 levels-all zero a v = absurd v
 levels-all (suc n) [] v = absurd v
 levels-all (suc zero) (l ∷ []) v = ((v, tt), omega arith, omega arith)

@@ -1,21 +1,17 @@
 -- Laws of the first difference of two rows. `lead x r` is what r has left after a first bit x; after `diff-cons` no proof looks at a test of
 -- two bits again. Assumes nothing.
-use mathlib.Core.Logic.{_≢_}
-use borrow.Author.Tests.{eqb-true, eqb-false, ltb-true, ltb-false}
-use native.Mathlib.Nat.{not-suc-le-zero}
-use lib.ListN.{take, drop, getD, take-append-drop}
-use lib.Seq.{take-all}
-use lib.Dec.{ltb}
 use mathlib.Core.Path.{_≡_, refl, ap, ap₂, _∙_, sym}
+use mathlib.Core.Logic.{_≢_}
 use Prim.Native.Nat.{ℕ, suc, _<_, _≤_}
+use native.Mathlib.Nat.{not-suc-le-zero}
 use mathlib.Core.Bool.{Bool, true, false, cond}
 use mathlib.Core.Option.{Option, none, some}
 use mathlib.Core.List.{List, [], _∷_, _++_}
-use lib.ListN.{length, take, drop}
-use lib.Dec.{eqb, eqb→eq, ltb}
+use lib.ListN.{take, drop, getD, take-append-drop, length}
+use lib.Seq.{take-all}
+use lib.Dec.{ltb, eqb, eqb→eq}
+use borrow.Author.Tests.{eqb-true, eqb-false, ltb-true, ltb-false}
 use native.Mathlib.Omega.{arith}
-use native.Mathlib.Nat.{not-suc-le-zero}
-use mathlib.Core.Logic.{_≢_}
 use Rattle.rows.specs.CleanLaws.{eqb-same}
 use Rattle.uid.specs.Order.{Diff, on, off, later, diff}
 

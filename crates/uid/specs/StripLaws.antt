@@ -1,10 +1,10 @@
 -- What a row has left after the bits W, if it begins with them. Assumes nothing.
 use mathlib.Core.Path.{_≡_, refl, ap, _∙_, sym}
+use mathlib.Core.Logic.{_≢_}
 use Prim.Native.Nat.{ℕ}
 use mathlib.Core.Option.{Option, none, some}
 use mathlib.Core.List.{List, [], _∷_, _++_}
 use native.Mathlib.Omega.{arith}
-use mathlib.Core.Logic.{_≢_}
 use Rattle.uid.specs.Order.{Diff, on, off, later, diff}
 use Rattle.uid.specs.OrderLaws.{lead, from, diff-cons, diff-on, lead-same}
 
@@ -25,7 +25,7 @@ unfolding shape later
 shape-later (on t) = refl
 shape-later (off p x) = refl
 
-pub strip-cons : (x : ℕ) (W r : List ℕ) → strip (x ∷ W) r ≡ and-then (lead x r) W
+strip-cons : (x : ℕ) (W r : List ℕ) → strip (x ∷ W) r ≡ and-then (lead x r) W
 unfolding strip and-then shape from
 strip-cons x W r = rw diff-cons (go (lead x r))
   where
@@ -51,7 +51,7 @@ strip-sound W r t e = go (diff W r) refl e
     go (off p x) d e = cc
 
 -- a row that begins with W
-pub strip-on : (W t : List ℕ) → strip W (W ++ t) ≡ some t
+strip-on : (W t : List ℕ) → strip W (W ++ t) ≡ some t
 unfolding and-then
 strip-on [] t = unfold strip shape diff in refl
 strip-on (x ∷ W) t = rw (strip-cons x W (x ∷ (W ++ t)), lead-same x (W ++ t)) (strip-on W t)

@@ -1,18 +1,14 @@
 -- Laws of UIDs: their levels and rows; a UID is got back from its row; the rows of different UIDs differ before either ends, and first
 -- never in a check byte. Assumes nothing.
-use mathlib.Core.Logic.{_≢_}
-use mathlib.Core.Bool.{false}
-use borrow.Author.Tests.{ltb-true, ltb-false}
-use lib.Dec.{ltb}
-use mathlib.Core.Path.{refl, _≡_, sym, ap, _∙_, refl}
+use mathlib.Core.Path.{refl, _≡_, sym, ap, _∙_}
 use mathlib.Core.Logic.{_≢_}
 use Prim.Native.Nat.{ℕ, zero, suc, _+_, _-_, _*_, _/_, _≤_, _<_, _%_}
-use mathlib.Core.Bool.{true, not, Bool, false}
+use mathlib.Core.Bool.{false, true, not, Bool}
 use mathlib.Core.List.{List, [], _∷_, _++_, map}
 use lib.ListN.{length, take, drop, getD, length-map, length-take, length-drop, List·getD-map}
-use lib.Seq.{take-take, length-take-le, getD-take, getD-drop, drop-at, drop-cons, take-add, take-take}
-use lib.Dec.{eqb}
-use borrow.Author.Tests.{eqb-false, not-true}
+use lib.Seq.{take-take, length-take-le, getD-take, getD-drop, drop-at, drop-cons, take-add}
+use lib.Dec.{ltb, eqb}
+use borrow.Author.Tests.{ltb-true, ltb-false, eqb-false, not-true}
 use native.Mathlib.Omega.{arith}
 use Rattle.rows.specs.EachLaws.{all-getD, all-map}
 use Rattle.rows.specs.ListLaws.{all-drop, all-take}
@@ -60,7 +56,7 @@ module _ (u : List ℕ) (ten : length u ≡ 10) (fits : Bytes u) where
   no-mark i h v =
       rw (drop-cons u i 0 (omega arith)) (not-mark (getD u i 0) _ (rw (drop-cons u i 0 (omega arith)) at (all-drop (λ b. b < 256) i u fits) .0) (eqb-false (getD u i 0) 0x88 (not-true (eqb (getD u i 0) 0x88) v)))
 
-  pub valid-bits : (z : UidSize) → validOf z u ≡ true → Valid 3 (map airBits (levelsOf z u))
+  valid-bits : (z : UidSize) → validOf z u ≡ true → Valid 3 (map airBits (levelsOf z u))
   unfolding level
   valid-bits Single v = (five-level _ (fives Single .0), no-mark 0 (omega arith) v)
   valid-bits Double v = (five-level _ (fives Double .0), a-mark _, (five-level _ (fives Double .1 .0), no-mark 3 (omega arith) v))
@@ -84,29 +80,29 @@ module _ (ls : List (List ℕ)) (f : All Five ls) where
   unfolding wide
   length-rows = length-air (map airBits ls) one-levels ∙ rw length-map
 
-  pub lev-rows : (j : ℕ) → j < length ls → lev j (air (map airBits ls)) ≡ airBits (getD ls j [])
+  lev-rows : (j : ℕ) → j < length ls → lev j (air (map airBits ls)) ≡ airBits (getD ls j [])
   lev-rows j h = lev-air j (map airBits ls) one-levels (rw length-map h) ∙ unfold airBits in List·getD-map airBits ls j []
 
-  pub five-at : (j : ℕ) → j < length ls → Five (getD ls j [])
+  five-at : (j : ℕ) → j < length ls → Five (getD ls j [])
   five-at j h = all-getD Five j ls f h
 
-  pub byte-rows : (j : ℕ) → j < length ls → bytesOf 5 (lev j (air (map airBits ls))) ≡ getD ls j []
+  byte-rows : (j : ℕ) → j < length ls → bytesOf 5 (lev j (air (map airBits ls))) ≡ getD ls j []
   byte-rows j h =
       let g : Five (getD ls j []) = five-at j h in
       rw (lev-rows j h) (ap (λ k. bytesOf k (airBits (getD ls j []))) (sym (g .full)) ∙ bytes-bits (getD ls j []) (g .fits))
 
-  pub checked-rows : Checked (air (map airBits ls))
+  checked-rows : Checked (air (map airBits ls))
   unfolding wide
   checked-rows j h =
       let k : j < length ls = omega (arith, length-rows) in
       rw (lev-rows j k) (five-checked (getD ls j []) (five-at j k))
 
 module _ (u : Uid) (s : Sound u) where
-  pub uid-fives : All Five (levels u)
+  uid-fives : All Five (levels u)
   unfolding levels
   uid-fives = fives (u .bytes) (s .ten) (s .bytes) (u .size)
 
-  pub uid-valid : Valid 3 (map airBits (levels u))
+  uid-valid : Valid 3 (map airBits (levels u))
   unfolding levels valid
   uid-valid = valid-bits (u .bytes) (s .ten) (s .bytes) (u .size) (s .is-valid)
 

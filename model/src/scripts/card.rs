@@ -540,7 +540,6 @@ fn random_line(s: &S, random: &mut Random, blocks: bool) -> String {
     let wrong = if blocks { 4 } else { 14 };
     if random.chance(wrong) {
         let row = damaged(random, &row);
-        // A damaged frame must not turn into RATS or a block by chance; it never does, but it may stay as it was.
         return plain_row(&row);
     }
     if random.chance(wrong / 2) {

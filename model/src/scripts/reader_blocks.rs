@@ -436,6 +436,11 @@ fn lent_message(s: &mut S) {
         s.say("send 000102030405060708090A0B0C0D0E0F101112131415161718191A1B1C1D1E1F");
         s.say("row -");
     }
+    s.remark("while joining, and after the answer, the place is 0 again: a shorter message lent is no 1");
+    stand(s, Place::LastOfTwo);
+    say_all(s, &["crc 13AA", "send -", "row -", "crc F201", "crc 12BB", "send 00", "row x", "crc 03CC"]);
+    stand(s, Place::LastOfTwo);
+    say_all(s, &["crc 03AA", "deselect", "send -", "row -", "crc C2"]);
     s.remark("the next I behind the end of a shorter one: empty, the last; its place is behind the end, so the next call is 1");
     stand(s, Place::More);
     say_all(s, &["send 0102", "crc A2", "row -", "send 000102030405060708090A0B0C0D0E0F", "row -", "crc A2"]);

@@ -1,3 +1,9 @@
+use Rattle.frame.specs.Frame.{bytesOf}
+use Rattle.selection.specs.Level.{firstCollided}
+use mathlib.Core.Path.{_≡_, refl, sym, ap, _∙_}
+use native.Mathlib.Omega.{arith}
+use lib.ListN.{length}
+use Rattle.selection.specs.RestLaws.{says-collision, says-parity, says-collided, made-collided, known-clean}
 use borrow.Author.Needs.{needs}
 use Rattle.selection.proofs.heard.collided_level.Statement.{statement}
 use Rattle.selection.proofs.heard.collided_level.Tie as tie
@@ -14,7 +20,9 @@ not-rest-requires c κs = search needs
 
 -- src/heard.rt:93:9
 returns : tie.Need-returns
-returns c = ?
+returns c =
+    let a = c .before .before .args in
+    c .not-rest .ensures ∙ sym (says-collision (a .k) (a .w) (a .d) (search needs) (search needs) (omega arith) (omega arith))
 
 -- src/heard.rt:95:8
 is-faulty-requires : tie.Need-is-faulty-requires
@@ -26,7 +34,10 @@ not-rest-requires-2 c κs = search needs
 
 -- src/heard.rt:96:9
 returns-2 : tie.Need-returns-2
-returns-2 c = ?
+returns-2 c =
+    let a = c .before .before .before .before .args in
+    c .not-rest2 .ensures
+    ∙ sym (says-parity (a .k) (a .w) (a .d) (search needs) (search needs) (λ l m. omega arith) (sym (c .before .before .is-faulty .ensures) ∙ c .before .if2 .taken))
 
 -- src/heard.rt:98:41
 known-bits-requires : tie.Need-known-bits-requires
@@ -34,7 +45,9 @@ known-bits-requires c κs = search needs
 
 -- src/heard.rt:98:9
 five-bytes-requires : tie.Need-five-bytes-requires
-five-bytes-requires c κs = ?
+five-bytes-requires c κs =
+    let a = c .before .before .before .before .args in
+    rw (c .known-bits .ensures) (known-clean (a .d) (search needs) (omega arith))
 
 -- src/heard.rt:102:16
 cast-t12 : tie.Need-cast-t12
@@ -46,7 +59,13 @@ add-t13 c = search needs
 
 -- src/heard.rt:88:1
 returns-3 : tie.Need-returns-3
-returns-3 c = ?
+returns-3 c =
+    let a = c .before .before .before .before .before .args in
+    let n : length (a .d) ≡ 40 = search needs in
+    let q : a .p ≡ firstCollided (a .d) = search needs in
+    rw q
+    (made-collided (a .d) (c .five-bytes .result) n (omega arith) (c .five-bytes .ensures ∙ ap (bytesOf 5) (c .before .known-bits .ensures))
+    ∙ sym (says-collided (a .k) (a .w) (a .d) (search needs) (search needs) (λ l m. omega arith) (sym (c .before .before .before .is-faulty .ensures) ∙ c .before .before .if2 .left) (omega arith)))
 
 pub collided-level-spec : {M : Type 1} → statement M
 collided-level-spec =

@@ -1,3 +1,4 @@
+use Rattle.selection.specs.RestLaws.{checked}
 use borrow.Author.Needs.{needs}
 use Rattle.selection.proofs.heard.is_checked.Statement.{statement}
 use Rattle.selection.proofs.heard.is_checked.Tie as tie
@@ -31,7 +32,7 @@ check-byte-requires c κs = search needs
 
 -- src/heard.rt:70:1
 returns : tie.Need-returns
-returns c = ?
+returns c = checked (c .before .args .t1) _ (search needs) (c .check-byte .ensures)
 
 pub is-checked-spec : {M : Type 1} → statement M
 is-checked-spec =

@@ -1,3 +1,12 @@
+use mathlib.Core.Path.{_≡_, refl, sym, ap, _∙_}
+use Prim.Native.Nat.{_+_}
+use native.Mathlib.Omega.{arith}
+use denote.Ref.{now}
+use lib.ListN.{length}
+use Rattle.frame.specs.Frame.{standard}
+use Rattle.frame.specs.FrameLaws.{length-standard}
+use Rattle.selection.specs.Selection.{cut}
+use Rattle.selection.specs.RestLaws.{levelSays, rest-silent, rest-length, rest-level, level-row}
 use borrow.Author.Needs.{needs}
 use Rattle.selection.proofs.heard.read_rest.Statement.{statement}
 use Rattle.selection.proofs.heard.read_rest.Tie as tie
@@ -15,7 +24,7 @@ not-rest-requires c κs = search needs
 
 -- src/heard.rt:115:9
 returns : tie.Need-returns
-returns c = ?
+returns c = c .not-rest .ensures ∙ sym (rest-silent (c .before .before .before .args .k) (c .before .before .before .args .five) (now (c .before .before .before .args .row)) (c .before .if1 .taken))
 
 -- src/heard.rt:117:9
 cut-requires : tie.Need-cut-requires
@@ -31,7 +40,7 @@ not-rest-requires-2 c κs = search needs
 
 -- src/heard.rt:119:9
 returns-2 : tie.Need-returns-2
-returns-2 c = ?
+returns-2 c = c .not-rest2 .ensures ∙ sym (rest-length (c .before .before .before .before .before .args .k) (c .before .before .before .before .before .args .five) (now (c .before .before .before .before .before .args .row)) (c .before .before .before .if1 .left) (λ e. c .before .if2 .taken (omega (arith, e))))
 
 -- src/heard.rt:121:17
 level-row-requires : tie.Need-level-row-requires
@@ -51,7 +60,17 @@ level-says-requires c κs = search needs
 
 -- src/heard.rt:111:1
 returns-3 : tie.Need-returns-3
-returns-3 c = ?
+returns-3 c =
+    let k = c .before .before .before .before .before .before .before .before .before .args .k in
+    let five = c .before .before .before .before .before .before .before .before .before .args .five in
+    let row = now (c .before .before .before .before .before .before .before .before .before .args .row) in
+    let f : length five ≡ 5 = search needs in
+    let e : cut k + length row ≡ 45 = omega arith in
+    let n : c .before .before .before .before .before .before .cut .result ≡ cut k = omega arith in
+    let s : length (standard five) ≡ 45 = rw (length-standard, f) in
+    c .level-says .ensures
+    ∙ ap (levelSays k) (c .before .before .put .ensures ∙ rw (c .before .before .before .before .level-row .ensures, n) (level-row (standard five) row (cut k) s e))
+    ∙ sym (rest-level k five row (c .before .before .before .before .before .before .before .if1 .left) e)
 
 pub read-rest-spec : {M : Type 1} → statement M
 read-rest-spec =

@@ -1,3 +1,9 @@
+use mathlib.Core.Path.{_≡_, refl, sym, ap, _∙_}
+use native.Mathlib.Omega.{arith}
+use borrow.Author.Tests.{eq-eqb, ne-eqb}
+use mathlib.Core.Bool.{not}
+use Rattle.selection.specs.Heard.{readSak}
+use Rattle.selection.specs.RestLaws.{nil-yes, nil-no}
 use borrow.Author.Needs.{needs}
 use Rattle.selection.proofs.heard.read_sak.Statement.{statement}
 use Rattle.selection.proofs.heard.read_sak.Tie as tie
@@ -10,11 +16,13 @@ use Rattle.rows.proofs.is_clean.Reads as is-clean-reads
 
 -- src/heard.rt:40:9
 returns : tie.Need-returns
-returns c = ?
+unfolding readSak
+returns c = rw (nil-yes _ (c .if1 .taken))
 
 -- src/heard.rt:43:9
 returns-2 : tie.Need-returns-2
-returns-2 c = ?
+unfolding readSak
+returns-2 c = rw (nil-no _ (c .before .if1 .left), ne-eqb _ _ (c .if2 .taken))
 
 -- src/heard.rt:45:9
 is-clean-requires : tie.Need-is-clean-requires
@@ -22,7 +30,8 @@ is-clean-requires c κs = search needs
 
 -- src/heard.rt:46:9
 returns-3 : tie.Need-returns-3
-returns-3 c = ?
+unfolding readSak
+returns-3 c = rw (nil-no _ (c .before .before .before .if1 .left), eq-eqb _ _ (c .before .before .if2 .left), sym (c .before .is-clean .ensures) ∙ c .if3 .taken)
 
 -- src/heard.rt:48:8
 is-faulty-requires : tie.Need-is-faulty-requires
@@ -30,7 +39,8 @@ is-faulty-requires c κs = search needs
 
 -- src/heard.rt:49:9
 returns-4 : tie.Need-returns-4
-returns-4 c = ?
+unfolding readSak
+returns-4 c = rw (nil-no _ (c .before .before .before .before .before .if1 .left), eq-eqb _ _ (c .before .before .before .before .if2 .left), sym (c .before .before .before .is-clean .ensures) ∙ c .before .before .if3 .left, sym (c .before .is-faulty .ensures) ∙ c .if4 .taken)
 
 -- src/heard.rt:52:37
 slice-aggregate-bytes-of : tie.Need-slice-aggregate-bytes-of
@@ -38,7 +48,7 @@ slice-aggregate-bytes-of c = search needs
 
 -- src/heard.rt:52:5
 bytes-of-requires : tie.Need-bytes-of-requires
-bytes-of-requires c κs = ?
+bytes-of-requires c κs = (omega arith, omega arith, sym (c .before .before .before .before .is-clean .ensures) ∙ c .before .before .before .if3 .left)
 
 -- src/heard.rt:53:22
 slice-aggregate-is-good : tie.Need-slice-aggregate-is-good
@@ -50,6 +60,7 @@ is-good-requires c κs = search needs
 
 -- src/heard.rt:54:9
 returns-5 : tie.Need-returns-5
+unfolding readSak
 returns-5 c = ?
 
 -- src/heard.rt:56:18
@@ -58,6 +69,7 @@ array-read-t19 c = search needs
 
 -- src/heard.rt:36:1
 returns-6 : tie.Need-returns-6
+unfolding readSak
 returns-6 c = ?
 
 pub read-sak-spec : {M : Type 1} → statement M

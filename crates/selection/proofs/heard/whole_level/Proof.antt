@@ -1,3 +1,12 @@
+use Rattle.frame.specs.Frame.{bytesOf}
+use Rattle.rows.specs.Rows.{same}
+use Rattle.uid.specs.Uid.{level}
+use lib.ListN.{take}
+use mathlib.Core.Path.{_≡_, refl, sym, ap, _∙_}
+use native.Mathlib.Omega.{arith}
+use lib.ListN.{length}
+use Rattle.selection.specs.RestLaws.{says-parity, says-check, says-whole, made-whole}
+use Rattle.selection.specs.LevelLaws.{first-clean}
 use borrow.Author.Needs.{needs}
 use Rattle.selection.proofs.heard.whole_level.Statement.{statement}
 use Rattle.selection.proofs.heard.whole_level.Tie as tie
@@ -18,11 +27,14 @@ not-rest-requires c κs = search needs
 
 -- src/heard.rt:112:9
 returns : tie.Need-returns
-returns c = ?
+returns c =
+    let a = c .before .before .before .args in
+    c .not-rest .ensures
+    ∙ sym (says-parity (a .k) (a .w) (a .d) (search needs) (search needs) (λ l m. omega arith) (sym (c .before .before .is-faulty .ensures) ∙ c .before .if1 .taken))
 
 -- src/heard.rt:114:9
 five-bytes-requires : tie.Need-five-bytes-requires
-five-bytes-requires c κs = ?
+five-bytes-requires c κs = let n : length (c .before .before .args .d) ≡ 40 = search needs in first-clean (c .before .before .args .d) (omega arith) .0
 
 -- src/heard.rt:115:9
 is-checked-requires : tie.Need-is-checked-requires
@@ -34,11 +46,19 @@ not-rest-requires-2 c κs = search needs
 
 -- src/heard.rt:116:9
 returns-2 : tie.Need-returns-2
-returns-2 c = ?
+returns-2 c =
+    let a = c .before .before .before .before .before .before .args in
+    c .not-rest2 .ensures
+    ∙ sym (says-check (a .k) (a .w) (a .d) (search needs) (search needs) (λ l m. omega arith) (sym (c .before .before .before .before .before .is-faulty .ensures) ∙ c .before .before .before .before .if1 .left) (search needs)
+    (rw (← c .before .before .before .five-bytes .ensures) (sym (c .before .before .is-checked .ensures) ∙ c .before .if2 .taken)))
 
 -- src/heard.rt:107:1
 returns-3 : tie.Need-returns-3
-returns-3 c = ?
+returns-3 c =
+    let a = c .before .before .before .before .before .args in
+    made-whole (a .d) _ (search needs) (c .before .before .five-bytes .ensures)
+    ∙ sym (says-whole (a .k) (a .w) (a .d) (search needs) (search needs) (λ l m. omega arith) (sym (c .before .before .before .before .is-faulty .ensures) ∙ c .before .before .before .if1 .left) (search needs)
+    (rw (← c .before .before .five-bytes .ensures) (sym (c .before .is-checked .ensures) ∙ c .if2 .left)))
 
 pub whole-level-spec : {M : Type 1} → statement M
 whole-level-spec =

@@ -1,3 +1,8 @@
+use mathlib.Core.Path.{refl, ap}
+use mathlib.Core.List.{[], _∷_}
+use lib.ListN.{replicate}
+use Rattle.selection.specs.Selection.{atqa}
+use Rattle.selection.specs.SentLaws.{made}
 use borrow.Author.Needs.{needs}
 use Rattle.selection.proofs.sent.atqa.Statement.{statement}
 use Rattle.selection.proofs.sent.atqa.Tie as tie
@@ -24,7 +29,8 @@ put-bytes-requires c κs = search needs
 
 -- src/sent.rt:67:1
 returns : tie.Need-returns
-returns c = ?
+unfolding atqa
+returns c = made _ (replicate 18 0) _ _ refl (ap (λ b. b ∷ 0 ∷ []) (c .before .before .before .before .atqa-byte .ensures)) (c .before .put-bytes .ensures)
 
 pub atqa-spec : {M : Type 1} → statement M
 atqa-spec =

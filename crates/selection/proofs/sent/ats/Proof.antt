@@ -1,3 +1,4 @@
+use Rattle.selection.specs.Selection.{ats}
 use borrow.Author.Needs.{needs}
 use Rattle.selection.proofs.sent.ats.Statement.{statement}
 use Rattle.selection.proofs.sent.ats.Tie as tie
@@ -11,7 +12,8 @@ two-bytes-requires c κs = search needs
 
 -- src/sent.rt:49:1
 returns : tie.Need-returns
-returns c = ?
+unfolding ats
+returns c = c .two-bytes .ensures
 
 pub ats-spec : {M : Type 1} → statement M
 ats-spec = tie.close (tie.spec two-bytes-requires returns)

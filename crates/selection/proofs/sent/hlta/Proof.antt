@@ -1,3 +1,4 @@
+use Rattle.selection.specs.Selection.{hlta}
 use borrow.Author.Needs.{needs}
 use Rattle.selection.proofs.sent.hlta.Statement.{statement}
 use Rattle.selection.proofs.sent.hlta.Tie as tie
@@ -11,7 +12,8 @@ two-bytes-requires c κs = search needs
 
 -- src/sent.rt:36:1
 returns : tie.Need-returns
-returns c = ?
+unfolding hlta
+returns c = c .two-bytes .ensures
 
 pub hlta-spec : {M : Type 1} → statement M
 hlta-spec = tie.close (tie.spec two-bytes-requires returns)

@@ -1,3 +1,6 @@
+use mathlib.Core.Path.{_≡_, refl}
+use lib.ListN.{length, replicate}
+use Rattle.selection.specs.SentLaws.{made}
 use borrow.Author.Needs.{needs}
 use Rattle.selection.proofs.sent.level_row.Statement.{statement}
 use Rattle.selection.proofs.sent.level_row.Tie as tie
@@ -19,7 +22,7 @@ put-bytes-requires c κs = search needs
 
 -- src/sent.rt:77:1
 returns : tie.Need-returns
-returns c = ?
+returns c = let n : length (c .before .before .before .before .args .t1) ≡ 5 = search needs in made _ (replicate 45 0) _ _ (rw n) refl (c .before .put-bytes .ensures)
 
 pub level-row-spec : {M : Type 1} → statement M
 level-row-spec =

@@ -1,3 +1,4 @@
+use Rattle.selection.specs.Selection.{rats}
 use borrow.Author.Needs.{needs}
 use Rattle.selection.proofs.sent.rats.Statement.{statement}
 use Rattle.selection.proofs.sent.rats.Tie as tie
@@ -15,7 +16,8 @@ two-bytes-requires c κs = search needs
 
 -- src/sent.rt:43:1
 returns : tie.Need-returns
-returns c = ?
+unfolding rats
+returns c = c .two-bytes .ensures
 
 pub rats-spec : {M : Type 1} → statement M
 rats-spec = tie.close (tie.spec mul-two-bytes two-bytes-requires returns)

@@ -1,3 +1,7 @@
+use mathlib.Core.Path.{refl}
+use Rattle.parity.specs.Bits.{bitsOf}
+use Rattle.frame.specs.Frame.{short}
+use Rattle.selection.specs.Selection.{reqa}
 use Rattle.selection.proofs.sent.reqa.Statement.{statement}
 use Rattle.selection.proofs.sent.reqa.Tie as tie
 use Rattle.selection.proofs.sent.reqa.Reads as reads
@@ -5,7 +9,8 @@ use Rattle.selection.proofs.sent.reqa.Lts as lts
 
 -- src/sent.rt:12:1
 returns : tie.Need-returns
-returns c = ?
+unfolding reqa short bitsOf
+returns c = refl
 
 pub reqa-spec : {M : Type 1} → statement M
 reqa-spec = tie.close (tie.spec returns)

@@ -1,3 +1,10 @@
+use mathlib.Core.Path.{_≡_, refl, ap, _∙_}
+use mathlib.Core.List.{[], _∷_, _++_}
+use lib.ListN.{length, replicate}
+use Rattle.crc.specs.Crc.{withCrc}
+use Rattle.frame.specs.Frame.{standard}
+use Rattle.selection.specs.Selection.{sel, select}
+use Rattle.selection.specs.SentLaws.{made-two, with-crc-whole, five-list}
 use borrow.Author.Needs.{needs}
 use Rattle.selection.proofs.sent.select.Statement.{statement}
 use Rattle.selection.proofs.sent.select.Tie as tie
@@ -65,7 +72,12 @@ put-bytes-requires-2 c κs = search needs
 
 -- src/sent.rt:85:1
 returns : tie.Need-returns
-returns c = ?
+unfolding select
+returns c =
+    let n : length (c .before .before .before .before .before .before .before .before .before .before .before .args .five) ≡ 5 = search needs in
+    made-two _ _ (replicate 81 0) _ _ 63 (rw (c .before .before .before .before .before .before .before .before .crc-bytes .ensures) (crc-two _)) refl (c .before .before .before .before .before .put-bytes .ensures) (c .before .put-bytes2 .ensures)
+    ∙ ap standard (with-crc-whole _ _ (c .before .before .before .before .before .before .before .before .crc-bytes .ensures))
+    ∙ rw (c .before .before .before .before .before .before .before .before .before .before .sel .ensures) (ap (λ f. standard (withCrc (sel (c .before .before .before .before .before .before .before .before .before .before .before .args .l) ∷ 0x70 ∷ f))) (five-list (c .before .before .before .before .before .before .before .before .before .before .before .args .five) n))
 
 pub select-spec : {M : Type 1} → statement M
 select-spec =

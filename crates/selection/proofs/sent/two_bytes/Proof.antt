@@ -1,3 +1,8 @@
+use mathlib.Core.Path.{refl}
+use mathlib.Core.List.{[], _∷_}
+use lib.ListN.{replicate}
+use Rattle.selection.specs.Selection.{sakFrame}
+use Rattle.selection.specs.SentLaws.{made, with-crc}
 use borrow.Author.Needs.{needs}
 use Rattle.selection.proofs.sent.two_bytes.Statement.{statement}
 use Rattle.selection.proofs.sent.two_bytes.Tie as tie
@@ -36,7 +41,7 @@ put-bytes-requires c κs = search needs
 
 -- src/sent.rt:25:1
 returns : tie.Need-returns
-returns c = ?
+returns c = made _ (replicate 36 0) _ _ refl (with-crc (c .before .before .before .before .before .before .args .a ∷ c .before .before .before .before .before .before .args .b ∷ []) (c .before .before .before .before .crc-bytes .result) (c .before .before .before .before .crc-bytes .ensures)) (c .before .put-bytes .ensures)
 
 pub two-bytes-spec : {M : Type 1} → statement M
 two-bytes-spec =

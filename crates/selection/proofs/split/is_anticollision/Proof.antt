@@ -1,3 +1,8 @@
+use mathlib.Core.Path.{_≡_, refl, sym, ap, _∙_}
+use native.Mathlib.Omega.{arith}
+use lib.ListN.{length, take}
+use Rattle.rows.specs.RowLaws.{overlay-front}
+use Rattle.selection.specs.SentLaws.{anti-length}
 use borrow.Author.Needs.{needs}
 use Rattle.selection.proofs.split.is_anticollision.Statement.{statement}
 use Rattle.selection.proofs.split.is_anticollision.Tie as tie

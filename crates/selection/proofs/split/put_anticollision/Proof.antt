@@ -1,3 +1,9 @@
+use mathlib.Core.Path.{_≡_, refl, sym, _∙_}
+use native.Mathlib.Omega.{arith}
+use denote.Ref.{now}
+use lib.ListN.{length, take, length-take}
+use Rattle.rows.specs.RowLaws.{length-overlay}
+use Rattle.selection.specs.SentLaws.{anti-made}
 use borrow.Author.Needs.{needs}
 use Rattle.selection.proofs.split.put_anticollision.Statement.{statement}
 use Rattle.selection.proofs.split.put_anticollision.Tie as tie
