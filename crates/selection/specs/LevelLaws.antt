@@ -14,6 +14,7 @@ use Rattle.rows.specs.Rows.{overlay, clean, next, fill, Bits}
 use Rattle.rows.specs.RowLaws.{overlay-set, overlay-copy}
 use Rattle.uid.specs.FillLaws.{fill-zeros}
 use Rattle.frame.specs.Frame.{dataOf, bytesOf}
+use Rattle.frame.specs.ByteLaws.{length-bytes}
 use Rattle.parity.specs.Bits.{unbits}
 use Rattle.selection.specs.Level.{firstCollided}
 
@@ -130,11 +131,6 @@ known-clash d e p hd hp l q =
     rw (q, n, ← fill-zeros 40 (take p d ++ 1 ∷ [])) (rw (t, zero-add) at (overlay-set (replicate 40 0) 0 (take p d) 1 (rw (t, length-replicate) (omega arith))))
 
 -- ---- bytes
-
-pub length-bytes : (n : ℕ) (d : List ℕ) → length (bytesOf n d) ≡ n
-unfolding bytesOf
-length-bytes zero d = refl
-length-bytes (suc n) d = ap suc (length-bytes n (drop 8 d))
 
 pub bytes-at : (n : ℕ) (d : List ℕ) (i : ℕ) → i < n → getD (bytesOf n d) i 0 ≡ unbits (take 8 (drop (8 * i) d))
 unfolding bytesOf

@@ -11,13 +11,17 @@ use Rattle.rows.specs.Rows.{overlay, isNil, clean, next, same, fill, Bits}
 use Rattle.frame.specs.Frame.{standard, dataOf, bytesOf, faulty}
 use Rattle.uid.specs.Uid.{level, check}
 use Rattle.selection.specs.Selection.{cut}
-use Rattle.selection.specs.Heard.{notRest, restOf, readRest}
+use Rattle.selection.specs.Heard.{notRest, restOf, readRest, readSak}
+use Rattle.selection.specs.declared.SakRead.the-variants.{Sak, NotSak}
+use Rattle.crc.specs.Crc.{crcGood, withCrc}
+use Rattle.rows.specs.RowLaws.{overlay-all}
+use Rattle.frame.specs.ByteLaws.{length-bytes}
 use Rattle.selection.specs.Level.{firstCollided}
 use Rattle.selection.specs.LevelLaws.{first-clean, first-clash, first-head, length-data}
 use Rattle.selection.specs.PadLaws.{bytes-fill}
 use Rattle.rows.specs.ListLaws.{all-append}
 use Rattle.rows.specs.HeardLaws.{bits-clean, clean-bits}
-use Rattle.refusal.specs.declared.Refusal.the-variants.{Length, Parity, Check, Silence, Collision}
+use Rattle.refusal.specs.declared.Refusal.the-variants.{Length, Parity, Crc, Check, Silence, Collision}
 use Rattle.selection.specs.declared.Rest.{Rest}
 use Rattle.selection.specs.declared.RestSays.the-variants.{Whole, Collided}
 
@@ -151,3 +155,28 @@ checked (x ∷ y ∷ z ∷ t ∷ u ∷ []) b h e =
     and-true true = refl
     and-true false = refl
 checked (x ∷ y ∷ z ∷ t ∷ u ∷ v ∷ l) b h e = absurd (omega arith)
+
+-- ---- SAK
+
+module _ (h bytes : List ℕ) (n : length h ≡ 27) (clear : clean h ≡ true) (sound : faulty 3 h ≡ false)
+  (is : bytes ≡ overlay (replicate 3 0) 0 (bytesOf 3 (dataOf 3 h))) where
+  three : bytes ≡ bytesOf 3 (dataOf 3 h)
+  three = is ∙ overlay-all (replicate 3 0) (bytesOf 3 (dataOf 3 h)) (sym (length-bytes 3 (dataOf 3 h)))
+
+  one-of-three : length bytes - 2 ≡ 1
+  one-of-three = rw (three, length-bytes 3 (dataOf 3 h))
+
+  crc-is : (b : Bool) → crcGood bytes ≡ b → same (bytesOf 3 (dataOf 3 h)) (withCrc (take 1 (bytesOf 3 (dataOf 3 h)))) ≡ b
+  unfolding crcGood
+  crc-is b e = rw (← three) (rw one-of-three at e)
+
+  some : length h ≡ 0 → ⊥
+  some e = omega arith
+
+  pub sak-crc : crcGood bytes ≡ false → readSak h ≡ NotSak Crc
+  unfolding readSak
+  sak-crc e = rw (nil-no h some, eq-eqb (length h) 27 n, clear, sound, crc-is false e)
+
+  pub sak-good : crcGood bytes ≡ true → readSak h ≡ Sak (getD bytes 0 0)
+  unfolding readSak
+  sak-good e = rw (nil-no h some, eq-eqb (length h) 27 n, clear, sound, crc-is true e, three)

@@ -1,3 +1,9 @@
+use borrow.Author.Tests.{not-true, not-false}
+use Rattle.rows.specs.RowLaws.{overlay-all}
+use Rattle.frame.specs.ByteLaws.{length-bytes}
+use lib.ListN.{replicate}
+use denote.Ref.{now}
+use Rattle.selection.specs.RestLaws.{sak-crc, sak-good}
 use mathlib.Core.Path.{_≡_, refl, sym, ap, _∙_}
 use native.Mathlib.Omega.{arith}
 use borrow.Author.Tests.{eq-eqb, ne-eqb}
@@ -31,7 +37,7 @@ is-clean-requires c κs = search needs
 -- src/heard.rt:46:9
 returns-3 : tie.Need-returns-3
 unfolding readSak
-returns-3 c = rw (nil-no _ (c .before .before .before .if1 .left), eq-eqb _ _ (c .before .before .if2 .left), sym (c .before .is-clean .ensures) ∙ c .if3 .taken)
+returns-3 c = rw (nil-no _ (c .before .before .before .if1 .left), eq-eqb _ _ (c .before .before .if2 .left), sym (c .before .is-clean .ensures) ∙ not-true _ (c .if3 .taken))
 
 -- src/heard.rt:48:8
 is-faulty-requires : tie.Need-is-faulty-requires
@@ -40,7 +46,7 @@ is-faulty-requires c κs = search needs
 -- src/heard.rt:49:9
 returns-4 : tie.Need-returns-4
 unfolding readSak
-returns-4 c = rw (nil-no _ (c .before .before .before .before .before .if1 .left), eq-eqb _ _ (c .before .before .before .before .if2 .left), sym (c .before .before .before .is-clean .ensures) ∙ c .before .before .if3 .left, sym (c .before .is-faulty .ensures) ∙ c .if4 .taken)
+returns-4 c = rw (nil-no _ (c .before .before .before .before .before .if1 .left), eq-eqb _ _ (c .before .before .before .before .if2 .left), sym (c .before .before .before .is-clean .ensures) ∙ not-false _ (c .before .before .if3 .left), sym (c .before .is-faulty .ensures) ∙ c .if4 .taken)
 
 -- src/heard.rt:52:37
 slice-aggregate-bytes-of : tie.Need-slice-aggregate-bytes-of
@@ -48,7 +54,7 @@ slice-aggregate-bytes-of c = search needs
 
 -- src/heard.rt:52:5
 bytes-of-requires : tie.Need-bytes-of-requires
-bytes-of-requires c κs = (omega arith, omega arith, sym (c .before .before .before .before .is-clean .ensures) ∙ c .before .before .before .if3 .left)
+bytes-of-requires c κs = (omega arith, omega arith, sym (c .before .before .before .before .is-clean .ensures) ∙ not-false _ (c .before .before .before .if3 .left))
 
 -- src/heard.rt:53:22
 slice-aggregate-is-good : tie.Need-slice-aggregate-is-good
@@ -61,7 +67,7 @@ is-good-requires c κs = search needs
 -- src/heard.rt:54:9
 returns-5 : tie.Need-returns-5
 unfolding readSak
-returns-5 c = ?
+returns-5 c = sym (sak-crc (now (c .before .before .before .before .before .before .before .before .before .before .before .before .before .args .row)) _ (c .before .before .before .before .before .before .before .before .before .before .if2 .left) (sym (c .before .before .before .before .before .before .before .before .before .is-clean .ensures) ∙ not-false _ (c .before .before .before .before .before .before .before .before .if3 .left)) (sym (c .before .before .before .before .before .before .before .is-faulty .ensures) ∙ c .before .before .before .before .before .before .if4 .left) (c .before .before .before .before .bytes-of .ensures) (sym (c .before .is-good .ensures) ∙ not-true _ (c .if5 .taken)))
 
 -- src/heard.rt:56:18
 array-read-t19 : tie.Need-array-read-t19
@@ -70,7 +76,7 @@ array-read-t19 c = search needs
 -- src/heard.rt:36:1
 returns-6 : tie.Need-returns-6
 unfolding readSak
-returns-6 c = ?
+returns-6 c = sym (sak-good (now (c .before .before .before .before .before .before .before .before .before .before .before .before .before .args .row)) _ (c .before .before .before .before .before .before .before .before .before .before .if2 .left) (sym (c .before .before .before .before .before .before .before .before .before .is-clean .ensures) ∙ not-false _ (c .before .before .before .before .before .before .before .before .if3 .left)) (sym (c .before .before .before .before .before .before .before .is-faulty .ensures) ∙ c .before .before .before .before .before .before .if4 .left) (c .before .before .before .before .bytes-of .ensures) (sym (c .before .is-good .ensures) ∙ not-false _ (c .if5 .left)))
 
 pub read-sak-spec : {M : Type 1} → statement M
 read-sak-spec =

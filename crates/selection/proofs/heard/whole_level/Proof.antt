@@ -1,3 +1,4 @@
+use borrow.Author.Tests.{not-true, not-false}
 use Rattle.frame.specs.Frame.{bytesOf}
 use Rattle.rows.specs.Rows.{same}
 use Rattle.uid.specs.Uid.{level}
@@ -50,7 +51,7 @@ returns-2 c =
     let a = c .before .before .before .before .before .before .args in
     c .not-rest2 .ensures
     ∙ sym (says-check (a .k) (a .w) (a .d) (search needs) (search needs) (λ l m. omega arith) (sym (c .before .before .before .before .before .is-faulty .ensures) ∙ c .before .before .before .before .if1 .left) (search needs)
-    (rw (← c .before .before .before .five-bytes .ensures) (sym (c .before .before .is-checked .ensures) ∙ c .before .if2 .taken)))
+    (rw (← c .before .before .before .five-bytes .ensures) (sym (c .before .before .is-checked .ensures) ∙ not-true _ (c .before .if2 .taken))))
 
 -- src/heard.rt:107:1
 returns-3 : tie.Need-returns-3
@@ -58,7 +59,7 @@ returns-3 c =
     let a = c .before .before .before .before .before .args in
     made-whole (a .d) _ (search needs) (c .before .before .five-bytes .ensures)
     ∙ sym (says-whole (a .k) (a .w) (a .d) (search needs) (search needs) (λ l m. omega arith) (sym (c .before .before .before .before .is-faulty .ensures) ∙ c .before .before .before .if1 .left) (search needs)
-    (rw (← c .before .before .five-bytes .ensures) (sym (c .before .is-checked .ensures) ∙ c .if2 .left)))
+    (rw (← c .before .before .five-bytes .ensures) (sym (c .before .is-checked .ensures) ∙ not-false _ (c .if2 .left))))
 
 pub whole-level-spec : {M : Type 1} → statement M
 whole-level-spec =

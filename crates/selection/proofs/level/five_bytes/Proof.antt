@@ -10,7 +10,8 @@ use Rattle.rows.specs.Rows.{overlay, clean}
 use Rattle.rows.specs.RowLaws.{overlay-nil, overlay-all}
 use Rattle.rows.specs.HeardLaws.{clean-take, clean-drop}
 use Rattle.frame.specs.Frame.{bytesOf}
-use Rattle.selection.specs.LevelLaws.{length-bytes, bytes-turn}
+use Rattle.frame.specs.ByteLaws.{length-bytes}
+use Rattle.selection.specs.LevelLaws.{bytes-turn}
 use Rattle.selection.proofs.level.five_bytes.Statement.{statement}
 use Rattle.selection.proofs.level.five_bytes.Tie as tie
 use Rattle.selection.proofs.level.five_bytes.Reads as reads

@@ -4,7 +4,7 @@ use lib.ListN.{length, replicate}
 use Rattle.crc.specs.Crc.{withCrc}
 use Rattle.frame.specs.Frame.{standard}
 use Rattle.selection.specs.Selection.{sel, select}
-use Rattle.selection.specs.SentLaws.{made-two, with-crc-whole, five-list}
+use Rattle.selection.specs.SentLaws.{made-two, with-crc-whole, five-list, crc-two}
 use borrow.Author.Needs.{needs}
 use Rattle.selection.proofs.sent.select.Statement.{statement}
 use Rattle.selection.proofs.sent.select.Tie as tie

@@ -1,3 +1,7 @@
+use Rattle.rows.specs.Rows.{same}
+use Rattle.selection.specs.Selection.{anticollision}
+use denote.Ref.{now}
+use lib.ListN.{length-take}
 use mathlib.Core.Path.{_≡_, refl, sym, ap, _∙_}
 use native.Mathlib.Omega.{arith}
 use lib.ListN.{length, take}
@@ -30,7 +34,7 @@ array-share-prefix-space c = search needs
 
 -- src/split.rt:35:24
 slice-aggregate-is-same : tie.Need-slice-aggregate-is-same
-slice-aggregate-is-same c = ?
+slice-aggregate-is-same c = rw length-take (omega (arith, c .before .before .before .put-anticollision .kept .0))
 
 -- src/split.rt:35:5
 is-same-requires : tie.Need-is-same-requires
@@ -38,7 +42,10 @@ is-same-requires c κs = search needs
 
 -- src/split.rt:29:1
 returns : tie.Need-returns
-returns c = ?
+returns c =
+    let a = c .before .before .before .before .before .before .before .args in
+    let n : c .before .before .anticollision-bits .result ≡ length (anticollision (a .l) (a .k) (a .five)) = c .before .before .anticollision-bits .ensures ∙ sym (anti-length (a .l) (a .k) (a .five) (search needs)) in
+    c .is-same .ensures ∙ ap (same (now (a .row))) (rw (c .before .before .before .before .put-anticollision .ensures, n) (overlay-front _ (anticollision (a .l) (a .k) (a .five))))
 
 pub is-anticollision-spec : {M : Type 1} → statement M
 is-anticollision-spec =

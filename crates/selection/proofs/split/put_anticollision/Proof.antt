@@ -46,11 +46,11 @@ array-share-prefix-level c = search needs
 
 -- src/split.rt:25:32
 slice-aggregate-put : tie.Need-slice-aggregate-put
-slice-aggregate-put c = ?
+slice-aggregate-put c = let n : length (c .before .before .before .level-row .result) ≡ 45 = search needs in rw length-take (omega arith)
 
 -- src/split.rt:25:5
 put-requires : tie.Need-put-requires
-put-requires c κs = ?
+put-requires c κs = let n : length (c .before .before .before .level-row .result) ≡ 45 = search needs in rw length-take (omega (arith, c .before .before .before .before .before .before .put-bytes .kept .0))
 
 -- src/split.rt:17:1
 same-length : tie.Need-same-length
@@ -58,7 +58,10 @@ same-length c = search needs
 
 -- src/split.rt:17:1
 returns : tie.Need-returns
-returns c = ?
+returns c =
+    let a = c .before .before .before .before .before .before .before .before .before .before .before .before .before .before .before .args in
+    anti-made (a .l) (a .k) (a .five) (search needs) (now (a .out)) _ _ _ _ _ _ (omega arith) (c .before .before .before .before .before .before .before .before .before .before .before .before .before .sel .ensures) (c .before .before .before .before .before .before .before .before .before .before .before .before .nvb .ensures) (c .before .before .before .before .before .cut .ensures) (c .before .before .before .before .before .before .level-row .ensures)
+    (c .before .before .before .before .before .before .before .before .before .put-bytes .ensures) (c .before .before .put .ensures)
 
 pub put-anticollision-spec : {M : Type 1} → statement M
 put-anticollision-spec =
