@@ -5,3 +5,5 @@ pub mod LoopLaws
 pub mod ByteLaws
 pub mod ParityLaws
 pub mod TellLaws
+pub mod CallLaws
+pub mod FrameVectors

@@ -7,7 +7,7 @@ use native.Mathlib.Numerals.{add-one}
 use native.Mathlib.Nat.{zero-add}
 use native.Mathlib.Omega.{arith}
 use lib.ListN.{length, take, drop, getD, set, length-append, length-drop}
-use lib.Seq.{take-suc, take-at, drop-at, length-take-le, drop-drop, getD-drop}
+use lib.Seq.{take-suc, length-take-le, drop-drop, getD-drop}
 use lib.Dec.{eqb}
 use Rattle.rows.specs.Rows.{overlay, clean}
 use Rattle.rows.specs.RowLaws.{overlay-next, overlay-set}
@@ -15,7 +15,7 @@ use Rattle.parity.specs.Bits.{bitsOf, unbits, odd}
 use Rattle.crc.specs.Crc.{crcBytes, withCrc}
 use Rattle.crc.specs.CrcLaws.{length-crc}
 use Rattle.frame.specs.Frame.{airByte, standard, dataOf, bytesOf, faulty}
-use Rattle.frame.specs.FrameLaws.{length-airByte, length-standard, standard-append, length-bytesOf}
+use Rattle.frame.specs.FrameLaws.{length-airByte, length-standard, standard-append, length-bytesOf, bytes-first}
 
 -- ---- writing
 
@@ -64,14 +64,7 @@ faulty-done k i r h = let e : k - i ≡ 0 = omega arith in rw e
 
 -- ---- reading
 
--- the first byte of a row, and the others
-pub bytes-first : (n : ℕ) (r : List ℕ) → 8 ≤ length r → bytesOf (suc n) (dataOf (suc n) r) ≡ unbits (take 8 r) ∷ bytesOf n (dataOf n (drop 9 r))
-unfolding bytesOf dataOf
-bytes-first n r h =
-    let e : length (take 8 r) ≡ 8 = length-take-le 8 r h in
-    rw (take-at (take 8 r) (dataOf n (drop 9 r)) 8 e, drop-at (take 8 r) (dataOf n (drop 9 r)) 8 e)
-
--- .. and the last byte
+-- one byte more, at the end
 bytes-last : (n : ℕ) (r : List ℕ) → 9 * suc n ≤ length r
     → bytesOf (suc n) (dataOf (suc n) r) ≡ bytesOf n (dataOf n r) ++ (unbits (take 8 (drop (9 * n) r)) ∷ [])
 bytes-last zero r h = unfold bytesOf dataOf in bytes-first zero r (omega arith)

@@ -65,20 +65,20 @@ pub fn write_crc(bytes: &[u8], out: &mut [u8]) -> Written
     ensures { λ r. ⌜ r ≡ writeAnswer 2 (length (now (out .entry))) (length (now (bytes .entry))) ⌝ }
     ensures { λ r. ⌜ now (out .exit) ≡ rowAfter r (standard (withCrc (now (bytes .entry)))) (now (out .entry)) ⌝ }
 {
-    let n = bytes.len();
-    if out.len() / 9 < n + 2 {
+    let m = bytes.len();
+    if out.len() / 9 < m + 2 {
         return Written::NotWritten(Refusal::Room);
     }
-    if n < 1 {
+    if m < 1 {
         return Written::NotWritten(Refusal::Length);
     }
-    if n + 2 > 256 {
+    if m + 2 > 256 {
         return Written::NotWritten(Refusal::Length);
     }
     let k = crc::crc_bytes(bytes);
     within::put_bytes(out, 0, bytes);
-    within::put_bytes(out, 9 * n, &k);
-    Written::Bits(9 * (n + 2))
+    within::put_bytes(out, 9 * m, &k);
+    Written::Bits(9 * (m + 2))
 }
 
 // Writes the seven low bits of a byte as a short frame.
@@ -124,7 +124,7 @@ pub fn read_short(row: &[u8]) -> ReceivedShort
 }
 
 // Is a row of n bits whole bytes with parity, least to most of them?
-pub fn is_whole(n: usize, least: usize, most: usize) -> bool
+fn is_whole(n: usize, least: usize, most: usize) -> bool
     ensures { λ r. ⌜ r ≡ wholeBytes least most n ⌝ }
 {
     if n % 9 != 0 {

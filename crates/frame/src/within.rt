@@ -23,7 +23,7 @@ pub fn put_bytes(out: &mut [u8], at: usize, bytes: &[u8])
 }
 
 // Has the byte at index at no collided data bit and wrong parity? A collided parity bit is wrong.
-pub fn is_wrong(row: &[u8], at: usize) -> bool
+fn is_wrong(row: &[u8], at: usize) -> bool
     requires { ⌜ at + 9 ≤ length (now row) ⌝ }
     ensures { λ r. ⌜ r ≡ (clean (take 8 (drop at (now (row .entry)))) && not (eqb (getD (now (row .entry)) (at + 8) 0) (odd (take 8 (drop at (now (row .entry))))))) ⌝ }
 {
@@ -34,7 +34,7 @@ pub fn is_wrong(row: &[u8], at: usize) -> bool
     row[at + 8] != parity::parity_of(d)
 }
 
-// Is one of the n bytes at index at so?
+// Has one of the n bytes at index at no collided data bit and wrong parity? A collided parity bit is wrong.
 pub fn is_faulty(row: &[u8], at: usize, n: usize) -> bool
     requires { ⌜ at + 9 * n ≤ length (now row) ⌝ }
     ensures { λ r. ⌜ r ≡ faulty n (drop at (now (row .entry))) ⌝ }

@@ -4,7 +4,8 @@ use native.Mathlib.Omega.{arith}
 use denote.Ref.{now}
 use Rattle.frame.specs.Frame.{readCrc}
 use Rattle.frame.specs.Calls.{readAnswer}
-use Rattle.frame.specs.FrameLaws.{read-size, read-room, refused-verdict, read-verdict}
+use Rattle.frame.specs.FrameLaws.{read-size}
+use Rattle.frame.specs.CallLaws.{read-room, refused-verdict, read-verdict}
 use borrow.Author.Needs.{needs}
 use Rattle.frame.proofs.within.read_crc_within.Statement.{statement}
 use Rattle.frame.proofs.within.read_crc_within.Tie as tie

@@ -1,4 +1,4 @@
-use Rattle.frame.specs.FrameLaws.{held-good}
+use Rattle.frame.specs.CallLaws.{held-good}
 use Prim.Native.Nat.{_-_}
 use mathlib.Core.Path.{_≡_, refl, sym, _∙_}
 use borrow.Author.Tests.{not-true, not-false}

@@ -1,3 +1,4 @@
+use lib.ListN.{length-take}
 use native.Mathlib.Omega.{arith}
 use mathlib.Core.Path.{_≡_, refl, sym, _∙_}
 use borrow.Author.Tests.{eq-eqb, ne-eqb}
@@ -32,7 +33,7 @@ returns-3 c = rw (nil-no _ (c .before .before .before .if1 .left), eq-eqb _ _ (c
 
 -- src/heard.rt:29:22
 slice-aggregate-is-same : tie.Need-slice-aggregate-is-same
-slice-aggregate-is-same c = omega arith
+slice-aggregate-is-same c = rw length-take (omega arith)
 
 -- src/heard.rt:29:33
 slice-aggregate-is-same-2 : tie.Need-slice-aggregate-is-same-2

@@ -74,10 +74,10 @@ put-bytes-requires-2 c κs = search needs
 returns : tie.Need-returns
 unfolding select
 returns c =
-    let n : length (c .before .before .before .before .before .before .before .before .before .before .before .args .five) ≡ 5 = search needs in
+    let n : length (c .before .before .before .before .before .before .before .before .before .before .before .args .t2) ≡ 5 = search needs in
     made-two _ _ (replicate 81 0) _ _ 63 (rw (c .before .before .before .before .before .before .before .before .crc-bytes .ensures) (crc-two _)) refl (c .before .before .before .before .before .put-bytes .ensures) (c .before .put-bytes2 .ensures)
     ∙ ap standard (with-crc-whole _ _ (c .before .before .before .before .before .before .before .before .crc-bytes .ensures))
-    ∙ rw (c .before .before .before .before .before .before .before .before .before .before .sel .ensures) (ap (λ f. standard (withCrc (sel (c .before .before .before .before .before .before .before .before .before .before .before .args .l) ∷ 0x70 ∷ f))) (five-list (c .before .before .before .before .before .before .before .before .before .before .before .args .five) n))
+    ∙ rw (c .before .before .before .before .before .before .before .before .before .before .sel .ensures) (ap (λ f. standard (withCrc (sel (c .before .before .before .before .before .before .before .before .before .before .before .args .l) ∷ 0x70 ∷ f))) (five-list (c .before .before .before .before .before .before .before .before .before .before .before .args .t2) n))
 
 pub select-spec : {M : Type 1} → statement M
 select-spec =

@@ -34,7 +34,7 @@ array-share-prefix-space c = search needs
 
 -- src/split.rt:35:24
 slice-aggregate-is-same : tie.Need-slice-aggregate-is-same
-slice-aggregate-is-same c = rw length-take (omega (arith, c .before .before .before .put-anticollision .kept .0))
+slice-aggregate-is-same c = rw length-take (omega (arith, c .before .before .before .put-anticollision .kept .1 .1 .1 .0))
 
 -- src/split.rt:35:5
 is-same-requires : tie.Need-is-same-requires
