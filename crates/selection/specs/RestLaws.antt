@@ -159,7 +159,7 @@ checked (x ∷ y ∷ z ∷ t ∷ u ∷ v ∷ l) b h e = absurd (omega arith)
 -- ---- SAK
 
 module _ (h bytes : List ℕ) (n : length h ≡ 27) (clear : clean h ≡ true) (sound : faulty 3 h ≡ false)
-  (is : bytes ≡ overlay (replicate 3 0) 0 (bytesOf 3 (dataOf 3 h))) where
+    (is : bytes ≡ overlay (replicate 3 0) 0 (bytesOf 3 (dataOf 3 h))) where
   three : bytes ≡ bytesOf 3 (dataOf 3 h)
   three = is ∙ overlay-all (replicate 3 0) (bytesOf 3 (dataOf 3 h)) (sym (length-bytes 3 (dataOf 3 h)))
 

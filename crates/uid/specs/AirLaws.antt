@@ -39,7 +39,7 @@ pub bits-turn : (d : List ℕ) (at : ℕ) (l : List ℕ) (i : ℕ) → at + 8 * 
 bits-turn d at l i h lt =
     let e : length (airBits (take i l)) ≡ 8 * i = length-airBits (take i l) ∙ ap (λ (n : ℕ). 8 * n) (length-take-le i l (omega arith)) in
     rw (add-one, airBits-next l i lt, ← e)
-      (overlay-next d at (airBits (take i l)) (bitsOf 8 (getD l i 0)) (omega (arith, e, length-bits 8 (getD l i 0))))
+    (overlay-next d at (airBits (take i l)) (bitsOf 8 (getD l i 0)) (omega (arith, e, length-bits 8 (getD l i 0))))
 
 -- ---- levels in air order
 

@@ -8,11 +8,11 @@ ghost use Rattle.parity.specs.Bits.{bitsOf};
 ghost use Rattle.frame.specs.Frame.{airBits};
 ghost use Rattle.uid.specs.Uid.{level, air};
 ghost use Rattle.uid.specs.Calls.{sized, checked, refusedUid};
-use refusal::Refusal;
 use super::Made;
 use super::NewUid;
 use super::Uid;
 use super::UidSize;
+use refusal::Refusal;
 
 // A level's five bytes, from its four.
 pub fn level_row(a: u8, b: u8, c: u8, d: u8) -> [u8; 5]
@@ -73,7 +73,16 @@ pub fn byte_bits(b: u8) -> [u8; 8]
     let x5 = x4 / 2;
     let x6 = x5 / 2;
     let x7 = x6 / 2;
-    [b % 2, x1 % 2, x2 % 2, x3 % 2, x4 % 2, x5 % 2, x6 % 2, x7 % 2]
+    [
+        b % 2,
+        x1 % 2,
+        x2 % 2,
+        x3 % 2,
+        x4 % 2,
+        x5 % 2,
+        x6 % 2,
+        x7 % 2,
+    ]
 }
 
 // A level in air order, parity left out, written into out from index at on.

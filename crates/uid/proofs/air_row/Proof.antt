@@ -29,7 +29,7 @@ levels-requires c κs = search needs
 
 -- src/lib.rt:160:5
 put-levels-requires : tie.Need-put-levels-requires
-put-levels-requires c κs = 
+put-levels-requires c κs =
     (omega (arith, levels-most (c .before .before .before .before .before .args .u .size), c .before .before .level-count .ensures), omega arith)
 
 -- src/lib.rt:161:18
@@ -43,7 +43,7 @@ same-length c = search needs
 -- src/lib.rt:150:1
 returns-2 : tie.Need-returns-2
 unfolding airRow
-returns-2 c = 
+returns-2 c =
     let u = c .before .before .before .before .before .before .before .before .args .u in
     let p = c .before .before .put-levels in
     let r = row-made u _ _ (c .before .before .before .before .before .level-count .ensures) (c .before .before .before .before .levels .ensures) in

@@ -46,9 +46,14 @@ checked-requires-3 c κs = search needs
 -- src/lib.rt:131:9
 returns-3 : tie.Need-returns-3
 unfolding newUid
-returns-3 c = 
-    rw (ne-eqb _ _ (c .before .before .before .before .if1 .left), ne-eqb _ _ (c .before .before .before .if2 .left),
-      eq-eqb _ _ (c .before .before .if3 .taken), c .checked3 .ensures, c .before .sized3 .ensures)
+returns-3 c =
+    rw (
+      ne-eqb _ _ (c .before .before .before .before .if1 .left),
+      ne-eqb _ _ (c .before .before .before .if2 .left),
+      eq-eqb _ _ (c .before .before .if3 .taken),
+      c .checked3 .ensures,
+      c .before .sized3 .ensures,
+    )
 
 -- src/lib.rt:133:5
 refused-uid-requires : tie.Need-refused-uid-requires
@@ -57,9 +62,13 @@ refused-uid-requires c κs = search needs
 -- src/lib.rt:118:1
 returns-4 : tie.Need-returns-4
 unfolding newUid
-returns-4 c = 
-    rw (ne-eqb _ _ (c .before .before .before .if1 .left), ne-eqb _ _ (c .before .before .if2 .left), ne-eqb _ _ (c .before .if3 .left),
-      c .refused-uid .ensures)
+returns-4 c =
+    rw (
+      ne-eqb _ _ (c .before .before .before .if1 .left),
+      ne-eqb _ _ (c .before .before .if2 .left),
+      ne-eqb _ _ (c .before .if3 .left),
+      c .refused-uid .ensures,
+    )
 
 pub new-uid-spec : {M : Type 1} → statement M
 new-uid-spec =

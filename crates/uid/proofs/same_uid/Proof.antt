@@ -22,28 +22,28 @@ byte-count-requires-2 c κs = search needs
 
 -- src/lib.rt:146:19
 array-share-prefix-x : tie.Need-array-share-prefix-x
-array-share-prefix-x c = 
+array-share-prefix-x c =
     let a = c .before .before .before .before .args .a in
     let e : length (a .bytes) ≡ 10 = search needs in
     omega (arith, bytes-most (a .size), c .before .before .before .byte-count .ensures)
 
 -- src/lib.rt:146:19
 slice-aggregate-is-same : tie.Need-slice-aggregate-is-same
-slice-aggregate-is-same c = 
+slice-aggregate-is-same c =
     let a = c .before .before .before .before .before .args .a in
     let e : length (a .bytes) ≡ 10 = search needs in
     sym (length-take-le _ (a .bytes) (omega (arith, bytes-most (a .size), c .before .before .before .before .byte-count .ensures)))
 
 -- src/lib.rt:146:28
 array-share-prefix-y : tie.Need-array-share-prefix-y
-array-share-prefix-y c = 
+array-share-prefix-y c =
     let b = c .before .before .before .before .before .args .b in
     let e : length (b .bytes) ≡ 10 = search needs in
     omega (arith, bytes-most (b .size), c .before .before .before .byte-count2 .ensures)
 
 -- src/lib.rt:146:28
 slice-aggregate-is-same-2 : tie.Need-slice-aggregate-is-same-2
-slice-aggregate-is-same-2 c = 
+slice-aggregate-is-same-2 c =
     let b = c .before .before .before .before .before .before .args .b in
     let e : length (b .bytes) ≡ 10 = search needs in
     sym (length-take-le _ (b .bytes) (omega (arith, bytes-most (b .size), c .before .before .before .before .byte-count2 .ensures)))

@@ -59,9 +59,14 @@ loop-less c = omega arith
 loop-again : tie.Need-loop-again Inv-loop μ-loop
 loop-again c =
     let l = c .before .before .before .loop in
-    let e = c .before .before .before .before .args .t1 in
-    (omega arith, simp length-set (omega arith), omega arith, l .inv .3,
-      rw (c .byte-at .ensures, l .inv .4) (bytes-turn (replicate 5 0) e (l .i) refl (omega arith)), refl)
+    let e = c .before .before .before .before .args .t1 in (
+      omega arith,
+      simp length-set (omega arith),
+      omega arith,
+      l .inv .3,
+      rw (c .byte-at .ensures, l .inv .4) (bytes-turn (replicate 5 0) e (l .i) refl (omega arith)),
+      refl,
+    )
 
 -- src/level.rt:47:1
 returns : tie.Need-returns Inv-loop μ-loop

@@ -62,13 +62,16 @@ loop-less c = omega arith
 
 -- src/within.rt:85:5
 loop-again : tie.Need-loop-again Inv-loop μ-loop
-loop-again c = 
+loop-again c =
     let p = c .before .before .put in
     let b = c .before .before .before .before .before in
     let l = b .before .before .loop in
-    let a = b .before .before .before .before .args in
-    (omega arith, omega arith, omega (arith, p .kept .0),
-      rw (p .ensures, b .byte-bits .ensures, l .inv .3) (bits-turn (now (a .out)) (a .at) (a .t3) (l .i) (omega arith) (omega arith)))
+    let a = b .before .before .before .before .args in (
+      omega arith,
+      omega arith,
+      omega (arith, p .kept .0),
+      rw (p .ensures, b .byte-bits .ensures, l .inv .3) (bits-turn (now (a .out)) (a .at) (a .t3) (l .i) (omega arith) (omega arith)),
+    )
 
 -- src/within.rt:80:1
 same-length : tie.Need-same-length Inv-loop μ-loop
@@ -76,7 +79,7 @@ same-length c = omega arith
 
 -- src/within.rt:80:1
 returns : tie.Need-returns Inv-loop μ-loop
-returns c = 
+returns c =
     let l = c .before .loop in
     let a = c .before .before .before .args in
     (l .inv .3 ∙ ap (λ s. overlay (now (a .out)) (a .at) (airBits s)) (take-all (l .i) (a .t3) (omega arith)), l .inv .1)

@@ -17,7 +17,7 @@ use Rattle.uid.proofs.within.put_levels.Lts as lts
 use Rattle.uid.proofs.within.put_level.Reads as put-level-reads
 
 abbrev Inv-loop : tie.InvT-loop
-Inv-loop out₀ n rows i₀ out i = 
+Inv-loop out₀ n rows i₀ out i =
     (i ≤ n) × (length rows ≡ 3) × (length out ≡ length out₀) × (length (air (map airBits (take i rows))) ≡ 40 * i)
     × (out ≡ overlay out₀ 0 (air (map airBits (take i rows))))
 
@@ -55,7 +55,7 @@ loop-less c = omega arith
 
 -- src/within.rt:96:5
 loop-again : tie.Need-loop-again Inv-loop μ-loop
-loop-again c = 
+loop-again c =
     let p = c .before .before .put-level in
     let l = c .before .before .before .before .before .before .loop in
     let a = c .before .before .before .before .before .before .before .before .args in
@@ -68,7 +68,7 @@ same-length c = omega arith
 
 -- src/within.rt:92:1
 returns : tie.Need-returns Inv-loop μ-loop
-returns c = 
+returns c =
     let l = c .before .loop in
     let a = c .before .before .before .args in
     let e : l .i ≡ a .n = omega arith in
