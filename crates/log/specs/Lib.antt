@@ -6,3 +6,6 @@ pub mod PackLaws
 pub mod RecordLaws
 pub mod EntryLaws
 pub mod UnpackLaws
+pub mod BitBackLaws
+pub mod ReadBackLaws
+pub mod OneRecordLaws
