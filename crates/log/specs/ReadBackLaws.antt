@@ -11,7 +11,7 @@ use borrow.Author.Tests.{ne-eqb, le-ltb, lt-leb}
 use Rattle.rows.specs.Rows.{overlay, Bits, clean, fill}
 use Rattle.log.specs.Log.{pack, header, plain, marks, sentRecord, heardRecord}
 use Rattle.log.specs.Calls.{mostBits, rowSize}
-use Rattle.log.specs.Reading.{unpacked, bitsFrom, rowAt, fillAt, zeros, clash, apart, goodRow, goodMarks, rowsSize, recordOf, kindOf, zeroBit, bitCount, afterHeader, recordAt}
+use Rattle.log.specs.Reading.{unpacked, bitsFrom, rowAt, fillAt, zeros, clash, apart, goodRow, goodMarks, rowsSize, collidedOf, recordOf, kindOf, zeroBit, bitCount, afterHeader, recordAt}
 use Rattle.log.specs.PackLaws.{length-packed, length-shown, shown-bits}
 use Rattle.log.specs.RecordLaws.{length-pack, heard-clean, heard-collided, plain-clean}
 use Rattle.log.specs.BitBackLaws.{unpack-back, unpacked-append}
@@ -178,7 +178,7 @@ pub collided-back : (l : List ℕ) (at : ℕ) (r q : List ℕ) → clean r ≡ f
     → (recordAt l at ≡ Collided (at + 2) (at + 2 + rowSize (length r)) (length r) (at + 2 + 2 * rowSize (length r)))
     × (rowAt l (at + 2) (length r) ≡ plain r)
     × (rowAt l (at + 2 + rowSize (length r)) (length r) ≡ marks r)
-unfolding recordOf goodMarks
+unfolding recordOf collidedOf goodMarks
 collided-back l at r q c n e =
     let k : ℕ = rowSize (length r) in
     let s : List ℕ = pack (marks r) ++ q in

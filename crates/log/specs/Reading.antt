@@ -63,14 +63,17 @@ goodMarks l at marks n =
 abbrev pub rowsSize : ℕ → ℕ → ℕ
 rowsSize kind n = cond (eqb kind 2) (2 * rowSize n) (rowSize n)
 
+-- an answer with a collision, whose row and marks start at a byte
+unfoldable pub collidedOf : List ℕ → ℕ → ℕ → Record
+collidedOf l at n =
+    cond (goodMarks l at (at + rowSize n) n) (Collided at (at + rowSize n) n (at + 2 * rowSize n)) Malformed
+
 -- a record of a kind, with n bits, whose rows start at a byte
 unfoldable pub recordOf : List ℕ → ℕ → ℕ → ℕ → Record
 recordOf l at kind n =
     cond (eqb kind 3) (cond (eqb n 0) (Silence at) Malformed)
     (cond (goodRow l at n)
-    (cond (eqb kind 2)
-    (cond (goodMarks l at (at + rowSize n) n) (Collided at (at + rowSize n) n (at + 2 * rowSize n)) Malformed)
-    (cond (eqb kind 1) (Clean at n (at + rowSize n)) (Sent at n (at + rowSize n))))
+    (cond (eqb kind 2) (collidedOf l at n) (cond (eqb kind 1) (Clean at n (at + rowSize n)) (Sent at n (at + rowSize n))))
     Malformed)
 
 -- a header's kind, its zero bit and its number of bits

@@ -1,10 +1,10 @@
 // Records read: the bits of bytes, the tests on rows, and the record behind a header. Some have a condition, and their callers' proofs
 // show that they meet it; only the crates of this repository call them.
 ghost use mathlib.Core.Path.{_≡_};
-ghost use Prim.Native.Nat.{_+_, _-_, _*_, _≤_, _<_};
+ghost use Prim.Native.Nat.{_+_, _-_, _*_, _≤_};
 ghost use lib.ListN.{length, take, drop};
 ghost use Rattle.log.specs.Calls.{mostBits, rowSize};
-ghost use Rattle.log.specs.Reading.{topBits, bitsFrom, rowAt, zeros, clash, apart, goodRow, goodMarks, rowsSize, recordOf, afterHeader};
+ghost use Rattle.log.specs.Reading.{topBits, bitsFrom, rowAt, zeros, clash, apart, goodRow, goodMarks, rowsSize, collidedOf, recordOf, afterHeader};
 use super::Record;
 
 // The bits of a byte, the top one first.
@@ -93,7 +93,26 @@ pub fn is_good_marks(log: &[u8], start: usize, marks: usize, n: usize) -> bool
     false
 }
 
-// The record of a kind, with n bits, whose rows start at a byte.
+// An answer with a collision, whose row and marks start at a byte.
+pub fn collided_of(log: &[u8], start: usize, n: usize) -> Record
+    requires { ⌜ (n ≤ mostBits) × (start + 2 * rowSize n ≤ length (now log)) ⌝ }
+    ensures { λ r. ⌜ r ≡ collidedOf (now (log .entry)) start n ⌝ }
+{
+    let size = (n + 7) / 8;
+    let marks = start + size;
+    if is_good_marks(log, start, marks, n) {
+        let next = start + 2 * size;
+        return Record::Collided {
+            start: start,
+            marks: marks,
+            bits: n,
+            next: next,
+        };
+    }
+    Record::Malformed
+}
+
+// A record of a kind, with n bits, whose rows start at a byte.
 pub fn record_of(log: &[u8], start: usize, kind: u8, n: usize) -> Record
     requires { ⌜ (n ≤ mostBits) × (start + rowsSize kind n ≤ length (now log)) ⌝ }
     ensures { λ r. ⌜ r ≡ recordOf (now (log .entry)) start kind n ⌝ }
@@ -104,22 +123,11 @@ pub fn record_of(log: &[u8], start: usize, kind: u8, n: usize) -> Record
         }
         return Record::Malformed;
     }
-    let size = (n + 7) / 8;
     if is_good_row(log, start, n) {
         if kind == 2 {
-            let marks = start + size;
-            if is_good_marks(log, start, marks, n) {
-                let next = start + 2 * size;
-                return Record::Collided {
-                    start: start,
-                    marks: marks,
-                    bits: n,
-                    next: next,
-                };
-            }
-            return Record::Malformed;
+            return collided_of(log, start, n);
         }
-        let next = start + size;
+        let next = start + (n + 7) / 8;
         if kind == 1 {
             return Record::Clean {
                 start: start,

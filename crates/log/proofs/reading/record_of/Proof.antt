@@ -16,50 +16,37 @@ returns-2 : tie.Need-returns-2
 unfolding recordOf
 returns-2 c = simp (eq-eqb _ _ (c .before .if1 .taken), ne-eqb _ _ (c .if2 .left))
 
-add-size : tie.Need-add-size
-add-size c = search needs
-
 is-good-row-requires : tie.Need-is-good-row-requires
 is-good-row-requires c κs =
     let a = c .before .before .args in
     omega (arith, size-one (a .kind) (a .n))
 
-add-marks : tie.Need-add-marks
-add-marks c = search needs
-
-is-good-marks-requires : tie.Need-is-good-marks-requires
-is-good-marks-requires c κs =
+collided-of-requires : tie.Need-collided-of-requires
+collided-of-requires c κs =
     let a = c .before .before .before .before .before .args in
     omega (arith, size-two (a .kind) (a .n) (c .if4 .taken))
 
-mul-next : tie.Need-mul-next
-mul-next c = search needs
+returns-3 : tie.Need-returns-3
+unfolding recordOf
+returns-3 c = rw (ne-eqb _ _ (c .before .before .before .before .if1 .left), sym (c .before .before .before .is-good-row .ensures) ∙ c .before .before .if3 .taken, eq-eqb _ _ (c .before .if4 .taken), c .collided-of .ensures)
 
 add-next : tie.Need-add-next
 add-next c = search needs
 
-returns-3 : tie.Need-returns-3
-unfolding recordOf
-returns-3 c = rw (ne-eqb _ _ (c .before .before .before .before .before .if1 .left), sym (c .before .before .before .before .is-good-row .ensures) ∙ c .before .before .before .if3 .taken, eq-eqb _ _ (c .before .before .if4 .taken), sym (c .before .is-good-marks .ensures) ∙ c .if5 .taken)
-
-returns-4 : tie.Need-returns-4
-unfolding recordOf
-returns-4 c = rw (ne-eqb _ _ (c .before .before .before .before .before .if1 .left), sym (c .before .before .before .before .is-good-row .ensures) ∙ c .before .before .before .if3 .taken, eq-eqb _ _ (c .before .before .if4 .taken), sym (c .before .is-good-marks .ensures) ∙ c .if5 .left)
-
 add-next-2 : tie.Need-add-next-2
 add-next-2 c = search needs
 
+returns-4 : tie.Need-returns-4
+unfolding recordOf
+returns-4 c = rw (ne-eqb _ _ (c .before .before .before .before .if1 .left), sym (c .before .before .before .is-good-row .ensures) ∙ c .before .before .if3 .taken, ne-eqb _ _ (c .before .if4 .left), eq-eqb _ _ (c .if5 .taken))
+
 returns-5 : tie.Need-returns-5
 unfolding recordOf
-returns-5 c = rw (ne-eqb _ _ (c .before .before .before .before .if1 .left), sym (c .before .before .before .is-good-row .ensures) ∙ c .before .before .if3 .taken, ne-eqb _ _ (c .before .if4 .left), eq-eqb _ _ (c .if6 .taken))
+returns-5 c = rw (ne-eqb _ _ (c .before .before .before .before .if1 .left), sym (c .before .before .before .is-good-row .ensures) ∙ c .before .before .if3 .taken, ne-eqb _ _ (c .before .if4 .left), ne-eqb _ _ (c .if5 .left))
 
 returns-6 : tie.Need-returns-6
 unfolding recordOf
-returns-6 c = rw (ne-eqb _ _ (c .before .before .before .before .if1 .left), sym (c .before .before .before .is-good-row .ensures) ∙ c .before .before .if3 .taken, ne-eqb _ _ (c .before .if4 .left), ne-eqb _ _ (c .if6 .left))
-
-returns-7 : tie.Need-returns-7
-unfolding recordOf
-returns-7 c = rw (ne-eqb _ _ (c .before .before .if1 .left), sym (c .before .is-good-row .ensures) ∙ c .if3 .left)
+returns-6 c = rw (ne-eqb _ _ (c .before .before .if1 .left), sym (c .before .is-good-row .ensures) ∙ c .if3 .left)
 
 pub record-of-spec : {M : Type 1} → statement M
 record-of-spec =
@@ -67,15 +54,11 @@ record-of-spec =
     (tie.spec
     returns
     returns-2
-    add-size
     is-good-row-requires
-    add-marks
-    is-good-marks-requires
-    mul-next
-    add-next
+    collided-of-requires
     returns-3
-    returns-4
+    add-next
     add-next-2
+    returns-4
     returns-5
-    returns-6
-    returns-7)
+    returns-6)
