@@ -4,7 +4,6 @@ ghost use mathlib.Core.List.{[], _∷_, map};
 ghost use Prim.Native.Nat.{_+_, _*_, _≤_};
 ghost use lib.ListN.{length, take};
 ghost use Rattle.rows.specs.Rows.{overlay};
-ghost use Rattle.parity.specs.Bits.{bitsOf};
 ghost use Rattle.frame.specs.Frame.{airBits};
 ghost use Rattle.uid.specs.Uid.{level, air};
 ghost use Rattle.uid.specs.Calls.{sized, checked, refusedUid};
@@ -62,6 +61,7 @@ pub fn checked(u: Uid) -> NewUid
     refused_uid()
 }
 
+<<<<<<< HEAD
 // A byte's bits in air order.
 pub fn byte_bits(b: u8) -> [u8; 8]
     ensures { λ r. ⌜ r ≡ bitsOf 8 b ⌝ }
@@ -85,6 +85,8 @@ pub fn byte_bits(b: u8) -> [u8; 8]
     ]
 }
 
+=======
+>>>>>>> 36b4e6167f68d762061d667e643252b1c0f04ec1
 // A level in air order, parity left out, written into out from index at on.
 pub fn put_level(out: &mut [u8], at: usize, five: [u8; 5])
     requires { ⌜ at + 40 ≤ length (now out) ⌝ }
@@ -92,7 +94,7 @@ pub fn put_level(out: &mut [u8], at: usize, five: [u8; 5])
     ensures { λ _. ⌜ length five ≡ 5 ⌝ }
 {
     for i in 0..5usize {
-        let bits = byte_bits(five[i]);
+        let bits = parity::bits_of(five[i]);
         rows::within::put(out, at + 8 * i, &bits);
     }
 }
