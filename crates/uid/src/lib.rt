@@ -1,5 +1,6 @@
 // Document 01, "UIDs and their levels".
 use refusal::Refusal;
+
 pub enum UidSize {
     Single,
     Double,
