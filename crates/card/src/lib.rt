@@ -1,8 +1,8 @@
 // Document 01, "The card": one card's states, by value. Blocks come on top of it (crate card_link).
 use refusal::Refusal;
 use uid::Level;
-use uid::Made;
 use uid::Uid;
+use uid::Made;
 
 // Protocol holds the reader's size index, from RATS.
 pub enum CardState {

@@ -29,16 +29,8 @@ overlay-next d at s t h =
     let p : List ℕ = take at d ++ s in
     let r : List ℕ = drop (at + length s) d in
     let e : length p ≡ at + length s = simp (length-append, length-take) (omega arith) in
-    rw (
-      ← append-assoc (take at d) s r,
-      take-at p r (at + length s) e,
-      drop-past p r (at + length s) (length t) e,
-      drop-drop,
-      length-append,
-      append-assoc,
-      append-assoc,
-      add-assoc,
-    )
+    rw (← append-assoc (take at d) s r, take-at p r (at + length s) e, drop-past p r (at + length s) (length t) e,
+      drop-drop, length-append, append-assoc, append-assoc, add-assoc)
 
 -- a store is a row of one element written
 pub overlay-one : (d : List ℕ) (at v : ℕ) → at < length d → set d at v ≡ overlay d at (v ∷ [])

@@ -1,6 +1,5 @@
 // Document 01, "UIDs and their levels".
 use refusal::Refusal;
-
 pub enum UidSize {
     Single,
     Double,

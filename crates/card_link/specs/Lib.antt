@@ -1,0 +1,2 @@
+pub mod CardRules
+pub mod CardFrames

@@ -1,0 +1,2 @@
+pub mod ReaderRules
+pub mod ReaderFrames
