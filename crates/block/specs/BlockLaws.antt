@@ -3,6 +3,7 @@ use mathlib.Core.Path.{_≡_, refl}
 use mathlib.Core.Bool.{Bool, true, false, cond}
 use mathlib.Core.List.{List, [], _∷_}
 use Prim.Native.Nat.{ℕ}
+use borrow.Author.Tests.{ne-eqb}
 use Rattle.frame.specs.Frame.{Good}
 use Rattle.block.specs.declared.Block.{Block}
 use Rattle.block.specs.declared.Block.the-variants.{I, Ack, Nak, Deselect, Wtx, Unknown, Nothing}
@@ -32,3 +33,9 @@ read-back Deselect p = refl
 read-back (Wtx v) p = refl
 read-back Unknown p = refl
 read-back Nothing p = refl
+
+-- every other first byte begins no block
+pub kind-other : (f : ℕ) → (f ≡ 0x02 → ⊥) → (f ≡ 0x03 → ⊥) → (f ≡ 0x12 → ⊥) → (f ≡ 0x13 → ⊥) → (f ≡ 0xA2 → ⊥) → (f ≡ 0xA3 → ⊥) → (f ≡ 0xB2 → ⊥) → (f ≡ 0xB3 → ⊥) → (f ≡ 0xC2 → ⊥) → (f ≡ 0xF2 → ⊥) → kind f ≡ Unknown
+unfolding kind
+kind-other f a b c d e g h i j k =
+    rw (ne-eqb f 0x02 a, ne-eqb f 0x03 b, ne-eqb f 0x12 c, ne-eqb f 0x13 d, ne-eqb f 0xA2 e, ne-eqb f 0xA3 g, ne-eqb f 0xB2 h, ne-eqb f 0xB3 i, ne-eqb f 0xC2 j, ne-eqb f 0xF2 k)

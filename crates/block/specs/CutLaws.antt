@@ -3,13 +3,22 @@ use mathlib.Core.Path.{_≡_, refl, sym}
 use mathlib.Core.Bool.{Bool, true, false}
 use mathlib.Core.List.{List, [], _∷_, _++_}
 use Prim.Native.Nat.{ℕ, zero, suc, _+_, _-_, _*_, _/_, _≤_, _<_, max, min}
-use native.Mathlib.Nat.{mul-suc}
+use native.Mathlib.Nat.{mul-suc, not-suc-le-zero, lt-of-not-le}
 use native.Mathlib.Omega.{arith}
-use lib.ListN.{length, take, length-append, length-take, length-drop}
+use lib.Dec.{leb, ltb}
+use lib.ListN.{length, take, getD, List·getD-eq-default, length-append, length-take, length-drop}
 use lib.Seq.{take-add}
-use borrow.Author.Tests.{lt-ltb, le-ltb, le-leb}
+use borrow.Author.Tests.{lt-ltb, le-ltb, le-leb, lt-leb, leb-true, leb-false}
 use Rattle.selection.specs.Selection.{size}
 use Rattle.block.specs.Cut.{payloadMax, follows, part, partBytes, fewest, fits, messageMax}
+
+-- two tests of numbers that hold together are equal
+pub leb-iff : (a b c d : ℕ) → (a ≤ b → c ≤ d) → (c ≤ d → a ≤ b) → leb a b ≡ leb c d
+leb-iff a b c d f g = go (leb c d) refl
+  where
+    go : (t : Bool) → leb c d ≡ t → leb a b ≡ t
+    go true e = le-leb a b (g (leb-true c d e))
+    go false e = let h : d < c = leb-false c d e in lt-leb a b (lt-of-not-le (λ k. let x : c ≤ d = f k in omega arith))
 
 -- what holds of the nine sizes holds of every index's
 pub each-size : (F : ℕ → Type 0) → F 16 → F 24 → F 32 → F 40 → F 48 → F 64 → F 96 → F 128 → F 256 → (i : ℕ) → F (size i)
@@ -34,6 +43,21 @@ payload-size i = omega (arith, size-least i)
 pub payload-least : (i : ℕ) → 13 ≤ payloadMax i
 unfolding payloadMax
 payload-least i = omega (arith, size-least i)
+
+-- what lies past a table's end is not read
+getD-in : (l : List ℕ) (i d e : ℕ) → i < length l → getD l i d ≡ getD l i e
+getD-in [] i d e h = absurd (not-suc-le-zero h)
+getD-in (x ∷ l) zero d e h = refl
+getD-in (x ∷ l) (suc i) d e h = getD-in l i d e (omega arith)
+
+-- the sizes as a table, and past it
+pub size-small : (i : ℕ) → i < 8 → getD (16 ∷ 24 ∷ 32 ∷ 40 ∷ 48 ∷ 64 ∷ 96 ∷ 128 ∷ []) i 0 ≡ size i
+unfolding size
+size-small i h = getD-in (16 ∷ 24 ∷ 32 ∷ 40 ∷ 48 ∷ 64 ∷ 96 ∷ 128 ∷ []) i 0 256 h
+
+pub size-large : (i : ℕ) → 8 ≤ i → 256 ≡ size i
+unfolding size
+size-large i h = sym (List·getD-eq-default (16 ∷ 24 ∷ 32 ∷ 40 ∷ 48 ∷ 64 ∷ 96 ∷ 128 ∷ []) 256 h)
 
 -- a message that one block holds takes one
 pub fewest-last : (i l : ℕ) → l ≤ payloadMax i → fewest i l ≡ 1
@@ -66,6 +90,20 @@ fewest-most i l h = each-size (λ s. (l : ℕ) → l ≤ 4096 → max 1 ((l + (s
 pub fits-both : (n room : ℕ) → n ≤ messageMax → n ≤ room → fits n room ≡ true
 unfolding fits
 fits-both n room h g = le-leb n (min messageMax room) (omega arith)
+
+-- n bytes that one message may have fit where there is room for them; more do not
+pub fits-room : (n room : ℕ) → n ≤ messageMax → leb n room ≡ fits n room
+unfolding fits
+fits-room n room h = leb-iff n room n (min messageMax room) (λ k. omega arith) (λ k. omega arith)
+
+pub fits-none : (n room : ℕ) → messageMax < n → false ≡ fits n room
+unfolding fits
+fits-none n room h = sym (lt-leb n (min messageMax room) (omega arith))
+
+-- the same without a sum
+pub follows-sub : (i at len : ℕ) → payloadMax i ≤ len → ltb at (len - payloadMax i) ≡ follows i at len
+unfolding follows
+follows-sub i at len h = leb-iff (suc at) (len - payloadMax i) (suc (at + payloadMax i)) len (λ k. omega arith) (λ k. omega arith)
 
 pub follows-more : (i at len : ℕ) → at + payloadMax i < len → follows i at len ≡ true
 unfolding follows
