@@ -2,11 +2,13 @@
 use Prim.Native.Nat.{ℕ, _+_, _*_}
 use mathlib.Core.Bool.{Bool, true, false, cond, _&&_}
 use mathlib.Core.List.{List, [], _∷_}
-use lib.ListN.{length, getD}
+use lib.ListN.{length, getD, replicate}
 use lib.Dec.{eqb, leb}
+use Rattle.rows.specs.Rows.{overlay}
 use Rattle.refusal.specs.declared.Refusal.the-variants.{Silence, Length}
 use Rattle.frame.specs.Frame.{Verdict, Good, Fault}
 use Rattle.selection.specs.Selection.{size}
+use Rattle.block.specs.declared.BlockBytes.{BlockBytes}
 use Rattle.block.specs.declared.Block.{Block}
 use Rattle.block.specs.declared.Block.the-variants.{I, Ack, Nak, Deselect, Wtx, Unknown, Nothing}
 
@@ -35,6 +37,10 @@ blockBytes (Wtx v) p = firstByte (Wtx v) ∷ v ∷ []
 blockBytes Unknown p = []
 blockBytes Nothing p = []
 
+-- those bytes at the front of 256, zeros behind
+unfoldable pub bytesIn : List ℕ → BlockBytes
+bytesIn l = record { bytes = overlay (replicate 256 0) 0 l; count = length l }
+
 -- the kind of block that a first byte begins; the value of a WTX is not read yet
 unfoldable pub kind : ℕ → Block
 kind f =
@@ -42,20 +48,20 @@ kind f =
     (cond (eqb f 0xA2) (Ack false) (cond (eqb f 0xA3) (Ack true) (cond (eqb f 0xB2) (Nak false) (cond (eqb f 0xB3) (Nak true)
     (cond (eqb f 0xC2) Deselect (cond (eqb f 0xF2) (Wtx 0) Unknown)))))))))
 
--- .. with what follows it: after an I any payload, after F2 one byte, after the others none
-abbrev pub whole : Block → List ℕ → Block
-whole (I n chained) p = I n chained
-whole (Ack n) p = cond (eqb (length p) 0) (Ack n) Unknown
-whole (Nak n) p = cond (eqb (length p) 0) (Nak n) Unknown
-whole Deselect p = cond (eqb (length p) 0) Deselect Unknown
-whole (Wtx v) p = cond (eqb (length p) 1) (Wtx (getD p 0 0)) Unknown
-whole Unknown p = Unknown
-whole Nothing p = Nothing
+-- .. with what follows it: none, or one byte v, or more. After an I comes any payload, after F2 one byte, after the others none
+abbrev pub whole : Block → Bool → Bool → ℕ → Block
+whole (I n chained) none one v = I n chained
+whole (Ack n) none one v = cond none (Ack n) Unknown
+whole (Nak n) none one v = cond none (Nak n) Unknown
+whole Deselect none one v = cond none Deselect Unknown
+whole (Wtx w) none one v = cond one (Wtx v) Unknown
+whole Unknown none one v = Unknown
+whole Nothing none one v = Nothing
 
 -- the block of a good frame's bytes
 abbrev pub blockOf : List ℕ → Block
 blockOf [] = Nothing
-blockOf (f ∷ p) = whole (kind f) p
+blockOf (f ∷ p) = whole (kind f) (eqb (length p) 0) (eqb (length p) 1) (getD p 0 0)
 
 -- what an end makes of a frame: "Under blocks, 7, 2, 3, 4 and 8 are 'damaged or silent'"
 abbrev pub heardBlock : Verdict → Block

@@ -1,14 +1,16 @@
 -- Laws of sizes and of cutting a message. Assumes nothing.
-use mathlib.Core.Path.{_≡_, refl, sym}
+use mathlib.Core.Path.{_≡_, refl, sym, _∙_}
 use mathlib.Core.Bool.{Bool, true, false}
-use mathlib.Core.List.{List, [], _∷_, _++_}
+use mathlib.Core.List.{List, [], _∷_, _++_, append-nil}
 use Prim.Native.Nat.{ℕ, zero, suc, _+_, _-_, _*_, _/_, _≤_, _<_, max, min}
-use native.Mathlib.Nat.{mul-suc, not-suc-le-zero, lt-of-not-le}
+use native.Mathlib.Nat.{mul-suc, zero-add, not-suc-le-zero, lt-of-not-le}
 use native.Mathlib.Omega.{arith}
 use lib.Dec.{leb, ltb}
-use lib.ListN.{length, take, getD, List·getD-eq-default, length-append, length-take, length-drop}
-use lib.Seq.{take-add}
+use lib.ListN.{length, take, drop, getD, List·getD-eq-default, drop-of-length-le, length-append, length-take, length-drop}
+use lib.Seq.{take-add, take-all, drop-drop}
 use borrow.Author.Tests.{lt-ltb, le-ltb, le-leb, lt-leb, leb-true, leb-false}
+use Rattle.rows.specs.Rows.{overlay}
+use Rattle.rows.specs.ListLaws.{is-nil}
 use Rattle.selection.specs.Selection.{size}
 use Rattle.block.specs.Cut.{payloadMax, follows, part, partBytes, fewest, fits, messageMax}
 
@@ -39,6 +41,10 @@ size-least = each-size (λ s. 16 ≤ s) (omega arith) (omega arith) (omega arith
 pub payload-size : (i : ℕ) → payloadMax i + 3 ≡ size i
 unfolding payloadMax
 payload-size i = omega (arith, size-least i)
+
+pub payload-most : (i : ℕ) → payloadMax i ≤ 253
+unfolding payloadMax
+payload-most = each-size (λ s. s - 3 ≤ 253) (omega arith) (omega arith) (omega arith) (omega arith) (omega arith) (omega arith) (omega arith) (omega arith) (omega arith)
 
 pub payload-least : (i : ℕ) → 13 ≤ payloadMax i
 unfolding payloadMax
@@ -100,6 +106,10 @@ pub fits-none : (n room : ℕ) → messageMax < n → false ≡ fits n room
 unfolding fits
 fits-none n room h = sym (lt-leb n (min messageMax room) (omega arith))
 
+pub fits-true : (n room : ℕ) → true ≡ fits n room → (n ≤ messageMax) × (n ≤ room)
+unfolding fits
+fits-true n room e = let h : n ≤ min messageMax room = leb-true n (min messageMax room) (sym e) in (omega arith, omega arith)
+
 -- the same without a sum
 pub follows-sub : (i at len : ℕ) → payloadMax i ≤ len → ltb at (len - payloadMax i) ≡ follows i at len
 unfolding follows
@@ -127,6 +137,27 @@ pub part-rest : (i at : ℕ) (m : List ℕ) → at ≤ length m → length m ≤
 unfolding part
 part-rest i at m h g = simp (length-take, length-drop) (omega arith)
 
+-- a payload by its number of bytes
+pub part-length : (i at : ℕ) (m : List ℕ) → length (part i at m) ≡ partBytes i at (length m)
+unfolding part partBytes
+part-length i at m = simp (length-take, length-drop)
+
+pub part-none : (i at : ℕ) (m : List ℕ) → 0 ≡ partBytes i at (length m) → part i at m ≡ []
+part-none i at m e = is-nil (part i at m) (part-length i at m ∙ sym e)
+
+pub part-cut : (i at n : ℕ) (m : List ℕ) → n ≡ partBytes i at (length m) → take (at + n - at) (drop at m) ≡ part i at m
+unfolding part partBytes
+part-cut i at n m e = go (leb (payloadMax i) (length m - at)) refl
+  where
+    go : (t : Bool) → leb (payloadMax i) (length m - at) ≡ t → take (at + n - at) (drop at m) ≡ take (payloadMax i) (drop at m)
+    go true h =
+        let g : payloadMax i ≤ length m - at = leb-true (payloadMax i) (length m - at) h in
+        let f : at + n - at ≡ payloadMax i = omega arith in
+        rw f
+    go false h =
+        let g : length m - at < payloadMax i = leb-false (payloadMax i) (length m - at) h in
+        rw (take-all (at + n - at) (drop at m) (simp length-drop (omega arith)), take-all (payloadMax i) (drop at m) (simp length-drop (omega arith)))
+
 -- the bytes before a place and the payload from there on
 pub take-part : (i at : ℕ) (m : List ℕ) → take at m ++ part i at m ≡ take (at + payloadMax i) m
 unfolding part
@@ -152,3 +183,11 @@ small-length i (p ∷ ps) h = rw (length-append, mul-suc) (omega (arith, h .0, s
 -- `fewest` is the fewest: no list of payloads that makes up the message is shorter
 pub no-fewer : (i : ℕ) (ps : List (List ℕ)) → Small i ps → 1 ≤ length ps → fewest i (length (joined ps)) ≤ length ps
 no-fewer i ps h g = fewest-least i (length (joined ps)) (length ps) g (small-length i ps h)
+
+-- a row written at the front of the part from k on is written at k
+pub overlay-part : (d : List ℕ) (k : ℕ) (s : List ℕ) → k ≤ length d
+    → take k d ++ (overlay (take (length d - k) (drop k d)) 0 s ++ drop (length d - k) (drop k d)) ≡ overlay d k s
+unfolding overlay
+overlay-part d k s h =
+    let e : length (drop k d) ≤ length d - k = simp length-drop (omega arith) in
+    rw (take-all (length d - k) (drop k d) e, drop-of-length-le (drop k d) e, append-nil, zero-add, drop-drop)

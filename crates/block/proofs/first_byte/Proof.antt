@@ -1,75 +1,55 @@
 use borrow.Author.Needs.{needs}
 use Rattle.block.proofs.first_byte.Statement.{statement}
 use Rattle.block.proofs.first_byte.Tie as tie
-use Rattle.block.proofs.first_byte.Reads as reads
-use Rattle.block.proofs.first_byte.Lts as lts
-use Rattle.block.proofs.first_of_i.Reads as first-of-i-reads
 
--- src/lib.rt:117:18
 enum-known-b : tie.Need-enum-known-b
 enum-known-b c = search needs
 
--- src/lib.rt:117:33
 first-of-i-requires : tie.Need-first-of-i-requires
 first-of-i-requires c κs = search needs
 
--- src/lib.rt:118:20
 enum-known-b-2 : tie.Need-enum-known-b-2
 enum-known-b-2 c = search needs
 
--- src/lib.rt:119:20
 enum-known-b-3 : tie.Need-enum-known-b-3
 enum-known-b-3 c = search needs
 
--- src/lib.rt:120:28
 enum-told : tie.Need-enum-told
 enum-told c = search needs
 
--- src/lib.rt:121:26
 enum-told-2 : tie.Need-enum-told-2
 enum-told-2 c = search needs
 
--- src/lib.rt:122:27
 enum-told-3 : tie.Need-enum-told-3
 enum-told-3 c = search needs
 
--- src/lib.rt:123:27
 enum-told-4 : tie.Need-enum-told-4
 enum-told-4 c = search needs
 
--- src/lib.rt:113:1
 returns : tie.Need-returns
 returns c = cc
 
--- src/lib.rt:113:1
 returns-2 : tie.Need-returns-2
 returns-2 c = search needs
 
--- src/lib.rt:113:1
 returns-3 : tie.Need-returns-3
 returns-3 c = search needs
 
--- src/lib.rt:113:1
 returns-4 : tie.Need-returns-4
 returns-4 c = search needs
 
--- src/lib.rt:113:1
 returns-5 : tie.Need-returns-5
 returns-5 c = search needs
 
--- src/lib.rt:113:1
 returns-6 : tie.Need-returns-6
 returns-6 c = search needs
 
--- src/lib.rt:113:1
 returns-7 : tie.Need-returns-7
 returns-7 c = search needs
 
--- src/lib.rt:113:1
 returns-8 : tie.Need-returns-8
 returns-8 c = search needs
 
--- src/lib.rt:113:1
 returns-9 : tie.Need-returns-9
 returns-9 c = search needs
 

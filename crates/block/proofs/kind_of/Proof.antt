@@ -1,63 +1,49 @@
-use native.Mathlib.Omega.{arith}
 use mathlib.Core.Path.{sym}
 use Rattle.block.specs.Block.{kind}
 use Rattle.block.specs.BlockLaws.{kind-other}
 use Rattle.block.proofs.kind_of.Statement.{statement}
 use Rattle.block.proofs.kind_of.Tie as tie
-use Rattle.block.proofs.kind_of.Reads as reads
-use Rattle.block.proofs.kind_of.Lts as lts
 
--- src/lib.rt:129:1
 returns : tie.Need-returns
 unfolding kind
 returns c = rw (c .match .keys1)
 
--- src/lib.rt:129:1
 returns-2 : tie.Need-returns-2
 unfolding kind
 returns-2 c = rw (c .match .keys2)
 
--- src/lib.rt:129:1
 returns-3 : tie.Need-returns-3
 unfolding kind
 returns-3 c = rw (c .match .keys3)
 
--- src/lib.rt:129:1
 returns-4 : tie.Need-returns-4
 unfolding kind
 returns-4 c = rw (c .match .keys4)
 
--- src/lib.rt:129:1
 returns-5 : tie.Need-returns-5
 unfolding kind
 returns-5 c = rw (c .match .keys5)
 
--- src/lib.rt:129:1
 returns-6 : tie.Need-returns-6
 unfolding kind
 returns-6 c = rw (c .match .keys6)
 
--- src/lib.rt:129:1
 returns-7 : tie.Need-returns-7
 unfolding kind
 returns-7 c = rw (c .match .keys7)
 
--- src/lib.rt:129:1
 returns-8 : tie.Need-returns-8
 unfolding kind
 returns-8 c = rw (c .match .keys8)
 
--- src/lib.rt:129:1
 returns-9 : tie.Need-returns-9
 unfolding kind
 returns-9 c = rw (c .match .keys9)
 
--- src/lib.rt:129:1
 returns-10 : tie.Need-returns-10
 unfolding kind
 returns-10 c = rw (c .match .keys10)
 
--- src/lib.rt:129:1
 returns-11 : tie.Need-returns-11
 returns-11 c =
     let r = c .match .rest in

@@ -3,15 +3,11 @@ use borrow.Author.Tests.{lt-leb, le-leb}
 use Rattle.block.specs.Block.{wtxOk}
 use Rattle.block.proofs.wtx_ok.Statement.{statement}
 use Rattle.block.proofs.wtx_ok.Tie as tie
-use Rattle.block.proofs.wtx_ok.Reads as reads
-use Rattle.block.proofs.wtx_ok.Lts as lts
 
--- src/lib.rt:101:9
 returns : tie.Need-returns
 unfolding wtxOk
 returns c = rw (lt-leb 1 (c .before .args .v) (omega arith))
 
--- src/lib.rt:97:1
 returns-2 : tie.Need-returns-2
 unfolding wtxOk
 returns-2 c = rw (le-leb 1 (c .before .args .v) (omega arith))
