@@ -69,7 +69,7 @@ pub fn has_more(index: u8, at: usize, len: usize) -> bool
 }
 
 // How many bytes that I has as its payload.
-pub fn part_bytes(index: u8, at: usize, len: usize) -> usize
+fn part_bytes(index: u8, at: usize, len: usize) -> usize
     ensures { λ r. ⌜ r ≡ partBytes index at len ⌝ }
 {
     let most = payload_max(index);
@@ -116,7 +116,7 @@ fn first_of_i(n: bool, chained: bool) -> u8
 }
 
 // A block's first byte; 0 for what is no block.
-pub fn first_byte(b: Block) -> u8
+fn first_byte(b: Block) -> u8
     ensures { λ r. ⌜ r ≡ firstByte b ⌝ }
 {
     match b {
@@ -131,7 +131,7 @@ pub fn first_byte(b: Block) -> u8
 }
 
 // The kind of block that a first byte begins.
-pub fn kind_of(first: u8) -> Block
+fn kind_of(first: u8) -> Block
     ensures { λ r. ⌜ r ≡ kind first ⌝ }
 {
     match first {

@@ -59,14 +59,26 @@ cardGranted c Receiving w = cardSilent c Quiet
 cardGranted c Owing w = cardSilent c Quiet
 cardGranted c Answering w = cardSilent c Quiet
 
--- The rules, by the block: its payload has so many bytes, the buffer room, the answer len. I as above, or 10; "R of equal number: last
--- block again"; "R(NAK) of the other number: R(ACK)"; "DESELECT: its answer, then Halt", with all else dropped; others get silence
-abbrev pub cardRules : CardLink → Block → ℕ → ℕ → ℕ → CardStep
-cardRules c (I n chained) bytes room len =
+-- an I whose payload has so many bytes, with a buffer of room bytes: joined, or 10
+unfoldable pub cardTakesI : CardLink → Bool → ℕ → ℕ → CardStep
+cardTakesI c chained bytes room =
     cond (fits (c .joined + bytes) room) (cardJoins c (not (c .number)) chained (c .joined + bytes)) (cardSilent c (Refused TooLong))
-cardRules c (Ack n) bytes room len = cond (same n (c .number)) (cardSends c) (cardNext c (c .phase) len)
-cardRules c (Nak n) bytes room len =
+
+-- "R of equal number: last block again; with none sent yet, silent"; R(ACK) of the other number as above
+unfoldable pub cardTakesAck : CardLink → Bool → ℕ → CardStep
+cardTakesAck c n len = cond (same n (c .number)) (cardSends c) (cardNext c (c .phase) len)
+
+-- "R(NAK) of the other number: R(ACK)", which then is the last block
+unfoldable pub cardTakesNak : CardLink → Bool → CardStep
+cardTakesNak c n =
     cond (same n (c .number)) (cardSends c) (cardSends (cardAt c (c .number) (c .phase) (Ack (c .number)) (c .joined) (c .at)))
+
+-- The rules, by the block: its payload has so many bytes, the buffer room, the answer len. "DESELECT: its answer, then Halt", with all
+-- else dropped; other blocks get silence
+abbrev pub cardRules : CardLink → Block → ℕ → ℕ → ℕ → CardStep
+cardRules c (I n chained) bytes room len = cardTakesI c chained bytes room
+cardRules c (Ack n) bytes room len = cardTakesAck c n len
+cardRules c (Nak n) bytes room len = cardTakesNak c n
 cardRules c Deselect bytes room len = record { link = cardOpen (c .own) (c .reader); send = Deselect; told = Deselected; joins = false }
 cardRules c (Wtx w) bytes room len = cardGranted c (c .phase) w
 cardRules c Unknown bytes room len = cardSilent c Quiet

@@ -22,9 +22,9 @@ use Rattle.selection.specs.Selection.{size}
 use Rattle.block.specs.Cut.{payloadMax, follows, part, messageMax}
 use Rattle.block.specs.Block.{kind, verdict, blockBytes}
 use Rattle.block.specs.CutLaws.{payload-size, fits-both}
-use Rattle.card_link.specs.CardRules.{cardI, cardTakes, cardReplies}
+use Rattle.card_link.specs.CardRules.{cardI, cardTakes, cardTakesI, cardTakesAck, cardReplies}
 use Rattle.card_link.specs.CardFrames.{cardOut, cardBlock, cardReply}
-use Rattle.reader_link.specs.ReaderRules.{lastIsOut, readerI, readerStarts, readerOpen}
+use Rattle.reader_link.specs.ReaderRules.{lastIsOut, readerTakesI, readerTakesAck, readerI, readerStarts, readerOpen}
 use Rattle.reader_link.specs.ReaderFrames.{readerOut, readerBlock, readerSend}
 
 -- a card and a reader by their parts
@@ -46,14 +46,14 @@ module _ (j i : ℕ) (last : Block) (k at : ℕ) (p lent d : List ℕ) (h : k �
   -- a chained I
   pub card-chained : (n : Bool) → cardBlock (card j i (not n) Receiving last at k) (verdict j (blockBytes (I n true) p)) lent d
       ≡ record { link = card j i n Receiving (Ack n) (at + length p) 0; sent = blockBytes (Ack n) []; told = Quiet; buffer = overlay d at p }
-  unfolding cardBlock cardTakes cardOut kind
+  unfolding cardBlock cardTakes cardTakesI cardTakesAck cardOut kind
   card-chained true = rw (room-for j p hp, le-ltb (length lent) k h, fits-both (at + length p) (length d) hm hd)
   card-chained false = rw (room-for j p hp, le-ltb (length lent) k h, fits-both (at + length p) (length d) hm hd)
 
   -- the last I
   pub card-last : (n : Bool) → cardBlock (card j i (not n) Receiving last at k) (verdict j (blockBytes (I n false) p)) lent d
       ≡ record { link = card j i n Owing Nothing 0 0; sent = []; told = Message (at + length p); buffer = overlay d at p }
-  unfolding cardBlock cardTakes cardOut kind
+  unfolding cardBlock cardTakes cardTakesI cardTakesAck cardOut kind
   card-last true = rw (room-for j p hp, le-ltb (length lent) k h, fits-both (at + length p) (length d) hm hd)
   card-last false = rw (room-for j p hp, le-ltb (length lent) k h, fits-both (at + length p) (length d) hm hd)
 
@@ -76,7 +76,7 @@ pub card-acked : (j i : ℕ) (last : Block) (joined k : ℕ) (n : Bool) (a d : L
       told = Quiet;
       buffer = d;
     }
-unfolding cardBlock cardTakes cardOut cardI kind
+unfolding cardBlock cardTakes cardTakesI cardTakesAck cardOut cardI kind
 card-acked j i last joined k true a d h = rw (room-for-r j, le-ltb (length a) k h)
 card-acked j i last joined k false a d h = rw (room-for-r j, le-ltb (length a) k h)
 
@@ -94,7 +94,7 @@ pub reader-acked : (i j at again rep : ℕ) (n : Bool) (m u : List ℕ) → at �
       told = Quiet;
       buffer = u;
     }
-unfolding readerBlock readerOut readerI kind
+unfolding readerBlock readerTakesI readerTakesAck readerOut readerI kind
 reader-acked i j at again rep true m u h = rw (room-for-r i, le-ltb (length m) at h)
 reader-acked i j at again rep false m u h = rw (room-for-r i, le-ltb (length m) at h)
 
@@ -102,13 +102,13 @@ module _ (i j at joined again rep : ℕ) (p m u : List ℕ) (h : at ≤ length m
   -- a chained I of the answer
   pub reader-chained : (t : Turn) (n : Bool) → lastIsOut t ≡ true → readerBlock (reader i j n t at joined again rep) (verdict i (blockBytes (I n true) p)) m u
       ≡ record { link = reader i j (not n) Joining 0 (joined + length p) 0 0; sent = blockBytes (Ack (not n)) []; told = Quiet; buffer = overlay u joined p }
-  unfolding readerBlock readerOut kind
+  unfolding readerBlock readerTakesI readerTakesAck readerOut kind
   reader-chained t true e = rw (room-for i p hp, le-ltb (length m) at h, e, fits-both (joined + length p) (length u) hm hu)
   reader-chained t false e = rw (room-for i p hp, le-ltb (length m) at h, e, fits-both (joined + length p) (length u) hm hu)
 
   -- its last I
   pub reader-last : (t : Turn) (n : Bool) → lastIsOut t ≡ true → readerBlock (reader i j n t at joined again rep) (verdict i (blockBytes (I n false) p)) m u
       ≡ record { link = readerOpen i j (not n); sent = []; told = Message (joined + length p); buffer = overlay u joined p }
-  unfolding readerBlock readerOut kind
+  unfolding readerBlock readerTakesI readerTakesAck readerOut kind
   reader-last t true e = rw (room-for i p hp, le-ltb (length m) at h, e, fits-both (joined + length p) (length u) hm hu)
   reader-last t false e = rw (room-for i p hp, le-ltb (length m) at h, e, fits-both (joined + length p) (length u) hm hu)

@@ -96,13 +96,24 @@ readerEchoes r t v =
     cond (wtxOk (v % 64)) (readerSends (readerAt r (r .number) (Talking t) (r .at) (r .joined) (r .again) 0) (Wtx (v % 64)))
     (stops Forbidden)
 
--- The rules, by the block: its payload has so many bytes, the buffer room, the message len. "Any other block or block length ..: 9"
-abbrev pub readerRules : ReaderLink → Turn → Block → ℕ → ℕ → ℕ → ReaderStep
-readerRules r t (I n chained) bytes room len =
-    cond (same n (r .number) && lastIsOut t)
+-- an I is due: "I of the own number once its last I is out"
+abbrev pub awaitsI : ReaderLink → Turn → Bool → Bool
+awaitsI r t n = same n (r .number) && lastIsOut t
+
+-- an I whose payload has so many bytes, with a buffer of room bytes: joined, or 10; not due: 9
+unfoldable pub readerTakesI : ReaderLink → Turn → Bool → Bool → ℕ → ℕ → ReaderStep
+readerTakesI r t n chained bytes room =
+    cond (awaitsI r t n)
     (cond (fits (r .joined + bytes) room) (readerJoins r (not (r .number)) chained (r .joined + bytes)) (stops TooLong))
     (stops Forbidden)
-readerRules r t (Ack n) bytes room len = cond (same n (r .number)) (ackOwn r t len) (ackOther r t)
+
+unfoldable pub readerTakesAck : ReaderLink → Turn → Bool → ℕ → ReaderStep
+readerTakesAck r t n len = cond (same n (r .number)) (ackOwn r t len) (ackOther r t)
+
+-- The rules, by the block: its payload has so many bytes, the buffer room, the message len. "Any other block or block length ..: 9"
+abbrev pub readerRules : ReaderLink → Turn → Block → ℕ → ℕ → ℕ → ReaderStep
+readerRules r t (I n chained) bytes room len = readerTakesI r t n chained bytes room
+readerRules r t (Ack n) bytes room len = readerTakesAck r t n len
 readerRules r t (Nak n) bytes room len = stops Forbidden
 readerRules r t Deselect bytes room len = stops Forbidden
 readerRules r t (Wtx v) bytes room len = readerEchoes r t v

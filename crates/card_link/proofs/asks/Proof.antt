@@ -1,0 +1,60 @@
+use borrow.Author.Needs.{needs}
+use Rattle.card_link.proofs.asks.Statement.{statement}
+use Rattle.card_link.proofs.asks.Tie as tie
+use Rattle.card_link.proofs.asks.Reads as reads
+use Rattle.card_link.proofs.asks.Lts as lts
+use Rattle.block.proofs.wtx_ok.Reads as wtx-ok-reads
+use Rattle.card_link.proofs.card_at.Reads as card-at-reads
+use Rattle.card_link.proofs.owes_answer.Reads as owes-answer-reads
+use Rattle.card_link.proofs.sends.Reads as sends-reads
+use Rattle.card_link.proofs.silent.Reads as silent-reads
+
+-- src/lib.rt:217:8
+owes-answer-requires : tie.Need-owes-answer-requires
+owes-answer-requires c κs = search needs
+
+-- src/lib.rt:218:12
+wtx-ok-requires : tie.Need-wtx-ok-requires
+wtx-ok-requires c κs = search needs
+
+-- src/lib.rt:219:26
+card-at-requires : tie.Need-card-at-requires
+card-at-requires c κs = search needs
+
+-- src/lib.rt:219:13
+sends-requires : tie.Need-sends-requires
+sends-requires c κs = search needs
+
+-- src/lib.rt:219:13
+returns : tie.Need-returns
+returns c = ?
+
+-- src/lib.rt:221:9
+silent-requires : tie.Need-silent-requires
+silent-requires c κs = search needs
+
+-- src/lib.rt:221:9
+returns-2 : tie.Need-returns-2
+returns-2 c = ?
+
+-- src/lib.rt:223:5
+silent-requires-2 : tie.Need-silent-requires-2
+silent-requires-2 c κs = search needs
+
+-- src/lib.rt:213:1
+returns-3 : tie.Need-returns-3
+returns-3 c = ?
+
+pub asks-spec : {M : Type 1} → statement M
+asks-spec =
+    tie.close
+    (tie.spec
+    owes-answer-requires
+    wtx-ok-requires
+    card-at-requires
+    sends-requires
+    returns
+    silent-requires
+    returns-2
+    silent-requires-2
+    returns-3)

@@ -1,0 +1,87 @@
+use borrow.Author.Needs.{needs}
+use Rattle.card_link.proofs.granted.Statement.{statement}
+use Rattle.card_link.proofs.granted.Tie as tie
+use Rattle.card_link.proofs.granted.Reads as reads
+use Rattle.card_link.proofs.granted.Lts as lts
+use Rattle.card_link.proofs.card_at.Reads as card-at-reads
+use Rattle.card_link.proofs.silent.Reads as silent-reads
+
+-- src/lib.rt:137:28
+enum-known-phase : tie.Need-enum-known-phase
+enum-known-phase c = search needs
+
+-- src/lib.rt:139:31
+card-at-requires : tie.Need-card-at-requires
+card-at-requires c κs = search needs
+
+-- src/lib.rt:139:17
+silent-requires : tie.Need-silent-requires
+silent-requires c κs = search needs
+
+-- src/lib.rt:139:17
+returns : tie.Need-returns
+returns c = ?
+
+-- src/lib.rt:141:13
+silent-requires-2 : tie.Need-silent-requires-2
+silent-requires-2 c κs = search needs
+
+-- src/lib.rt:143:43
+enum-told : tie.Need-enum-told
+enum-told c = search needs
+
+-- src/lib.rt:143:33
+silent-requires-3 : tie.Need-silent-requires-3
+silent-requires-3 c κs = search needs
+
+-- src/lib.rt:144:39
+enum-told-2 : tie.Need-enum-told-2
+enum-told-2 c = search needs
+
+-- src/lib.rt:144:29
+silent-requires-4 : tie.Need-silent-requires-4
+silent-requires-4 c κs = search needs
+
+-- src/lib.rt:145:43
+enum-told-3 : tie.Need-enum-told-3
+enum-told-3 c = search needs
+
+-- src/lib.rt:145:33
+silent-requires-5 : tie.Need-silent-requires-5
+silent-requires-5 c κs = search needs
+
+-- src/lib.rt:133:1
+returns-2 : tie.Need-returns-2
+returns-2 c = ?
+
+-- src/lib.rt:133:1
+returns-3 : tie.Need-returns-3
+returns-3 c = ?
+
+-- src/lib.rt:133:1
+returns-4 : tie.Need-returns-4
+returns-4 c = ?
+
+-- src/lib.rt:133:1
+returns-5 : tie.Need-returns-5
+returns-5 c = ?
+
+pub granted-spec : {M : Type 1} → statement M
+granted-spec =
+    tie.close
+    (tie.spec
+    enum-known-phase
+    card-at-requires
+    silent-requires
+    returns
+    silent-requires-2
+    enum-told
+    silent-requires-3
+    enum-told-2
+    silent-requires-4
+    enum-told-3
+    silent-requires-5
+    returns-2
+    returns-3
+    returns-4
+    returns-5)

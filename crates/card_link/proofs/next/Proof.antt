@@ -1,0 +1,83 @@
+use borrow.Author.Needs.{needs}
+use Rattle.card_link.proofs.next.Statement.{statement}
+use Rattle.card_link.proofs.next.Tie as tie
+use Rattle.card_link.proofs.next.Reads as reads
+use Rattle.card_link.proofs.next.Lts as lts
+use Rattle.block.proofs.payload_max.Reads as payload-max-reads
+use Rattle.card_link.proofs.sends_i.Reads as sends-i-reads
+use Rattle.card_link.proofs.silent.Reads as silent-reads
+
+-- src/lib.rt:104:44
+enum-told : tie.Need-enum-told
+enum-told c = search needs
+
+-- src/lib.rt:104:62
+payload-max-requires : tie.Need-payload-max-requires
+payload-max-requires c κs = search needs
+
+-- src/lib.rt:104:55
+add-sends-i : tie.Need-add-sends-i
+add-sends-i c = ?
+
+-- src/lib.rt:104:33
+sends-i-requires : tie.Need-sends-i-requires
+sends-i-requires c κs = search needs
+
+-- src/lib.rt:105:43
+enum-told-2 : tie.Need-enum-told-2
+enum-told-2 c = search needs
+
+-- src/lib.rt:105:33
+silent-requires : tie.Need-silent-requires
+silent-requires c κs = search needs
+
+-- src/lib.rt:106:39
+enum-told-3 : tie.Need-enum-told-3
+enum-told-3 c = search needs
+
+-- src/lib.rt:106:29
+silent-requires-2 : tie.Need-silent-requires-2
+silent-requires-2 c κs = search needs
+
+-- src/lib.rt:107:44
+enum-told-4 : tie.Need-enum-told-4
+enum-told-4 c = search needs
+
+-- src/lib.rt:107:34
+silent-requires-3 : tie.Need-silent-requires-3
+silent-requires-3 c κs = search needs
+
+-- src/lib.rt:99:1
+returns : tie.Need-returns
+returns c = ?
+
+-- src/lib.rt:99:1
+returns-2 : tie.Need-returns-2
+returns-2 c = ?
+
+-- src/lib.rt:99:1
+returns-3 : tie.Need-returns-3
+returns-3 c = ?
+
+-- src/lib.rt:99:1
+returns-4 : tie.Need-returns-4
+returns-4 c = ?
+
+pub next-spec : {M : Type 1} → statement M
+next-spec =
+    tie.close
+    (tie.spec
+    enum-told
+    payload-max-requires
+    add-sends-i
+    sends-i-requires
+    enum-told-2
+    silent-requires
+    enum-told-3
+    silent-requires-2
+    enum-told-4
+    silent-requires-3
+    returns
+    returns-2
+    returns-3
+    returns-4)

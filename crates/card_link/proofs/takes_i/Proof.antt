@@ -1,0 +1,37 @@
+use borrow.Author.Needs.{needs}
+use Rattle.card_link.proofs.takes_i.Statement.{statement}
+use Rattle.card_link.proofs.takes_i.Tie as tie
+use Rattle.card_link.proofs.takes_i.Reads as reads
+use Rattle.card_link.proofs.takes_i.Lts as lts
+use Rattle.block.proofs.joins_in.Reads as joins-in-reads
+use Rattle.card_link.proofs.joins.Reads as joins-reads
+use Rattle.card_link.proofs.silent.Reads as silent-reads
+
+-- src/lib.rt:92:8
+joins-in-requires : tie.Need-joins-in-requires
+joins-in-requires c κs = search needs
+
+-- src/lib.rt:93:45
+add-joins : tie.Need-add-joins
+add-joins c = ?
+
+-- src/lib.rt:93:9
+joins-requires : tie.Need-joins-requires
+joins-requires c κs = search needs
+
+-- src/lib.rt:93:9
+returns : tie.Need-returns
+returns c = ?
+
+-- src/lib.rt:95:5
+silent-requires : tie.Need-silent-requires
+silent-requires c κs = search needs
+
+-- src/lib.rt:89:1
+returns-2 : tie.Need-returns-2
+returns-2 c = ?
+
+pub takes-i-spec : {M : Type 1} → statement M
+takes-i-spec =
+    tie.close
+    (tie.spec joins-in-requires add-joins joins-requires returns silent-requires returns-2)
