@@ -1,3 +1,5 @@
+use Rattle.card_link.specs.CardRules.{cardAsks}
+use mathlib.Core.Path.{sym, _∙_}
 use borrow.Author.Needs.{needs}
 use Rattle.card_link.proofs.asks.Statement.{statement}
 use Rattle.card_link.proofs.asks.Tie as tie
@@ -27,7 +29,8 @@ sends-requires c κs = search needs
 
 -- src/lib.rt:219:13
 returns : tie.Need-returns
-returns c = ?
+unfolding cardAsks
+returns c = rw (c .sends .ensures, c .before .card-at .ensures, sym (c .before .before .before .before .before .owes-answer .ensures) ∙ c .before .before .before .before .if1 .taken, sym (c .before .before .before .wtx-ok .ensures) ∙ c .before .before .if2 .taken)
 
 -- src/lib.rt:221:9
 silent-requires : tie.Need-silent-requires
@@ -35,7 +38,8 @@ silent-requires c κs = search needs
 
 -- src/lib.rt:221:9
 returns-2 : tie.Need-returns-2
-returns-2 c = ?
+unfolding cardAsks
+returns-2 c = rw (c .silent .ensures, sym (c .before .before .before .before .owes-answer .ensures) ∙ c .before .before .before .if1 .taken, sym (c .before .before .wtx-ok .ensures) ∙ c .before .if2 .left)
 
 -- src/lib.rt:223:5
 silent-requires-2 : tie.Need-silent-requires-2
@@ -43,7 +47,8 @@ silent-requires-2 c κs = search needs
 
 -- src/lib.rt:213:1
 returns-3 : tie.Need-returns-3
-returns-3 c = ?
+unfolding cardAsks
+returns-3 c = rw (c .silent2 .ensures, sym (c .before .before .owes-answer .ensures) ∙ c .before .if1 .left)
 
 pub asks-spec : {M : Type 1} → statement M
 asks-spec =

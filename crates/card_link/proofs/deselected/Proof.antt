@@ -11,7 +11,7 @@ open-requires c κs = search needs
 
 -- src/lib.rt:149:1
 returns : tie.Need-returns
-returns c = ?
+returns c = rw (c .open .ensures)
 
 pub deselected-spec : {M : Type 1} → statement M
 deselected-spec = tie.close (tie.spec open-requires returns)

@@ -1,3 +1,5 @@
+use borrow.Author.Tests.{ne-eqb}
+use borrow.Author.Tests.{eq-eqb}
 use borrow.Author.Needs.{needs}
 use Rattle.card_link.proofs.granted.Statement.{statement}
 use Rattle.card_link.proofs.granted.Tie as tie
@@ -20,7 +22,7 @@ silent-requires c κs = search needs
 
 -- src/lib.rt:139:17
 returns : tie.Need-returns
-returns c = ?
+returns c = rw (c .silent .ensures, c .before .card-at .ensures, c .before .before .before .before .phase .given .1, eq-eqb _ _ (c .before .before .if1 .taken))
 
 -- src/lib.rt:141:13
 silent-requires-2 : tie.Need-silent-requires-2
@@ -52,19 +54,19 @@ silent-requires-5 c κs = search needs
 
 -- src/lib.rt:133:1
 returns-2 : tie.Need-returns-2
-returns-2 c = ?
+returns-2 c = rw (c .silent2 .ensures, c .before .before .before .phase .given .1, ne-eqb _ _ (c .before .if1 .left))
 
 -- src/lib.rt:133:1
 returns-3 : tie.Need-returns-3
-returns-3 c = ?
+returns-3 c = rw (c .silent3 .ensures, c .before .enum-told .given .1)
 
 -- src/lib.rt:133:1
 returns-4 : tie.Need-returns-4
-returns-4 c = ?
+returns-4 c = rw (c .silent4 .ensures, c .before .enum-told2 .given .1)
 
 -- src/lib.rt:133:1
 returns-5 : tie.Need-returns-5
-returns-5 c = ?
+returns-5 c = rw (c .silent5 .ensures, c .before .enum-told3 .given .1)
 
 pub granted-spec : {M : Type 1} → statement M
 granted-spec =

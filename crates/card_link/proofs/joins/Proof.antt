@@ -11,7 +11,7 @@ card-at-requires c κs = search needs
 
 -- src/lib.rt:83:9
 returns : tie.Need-returns
-returns c = ?
+returns c = rw (c .card-at .ensures, c .before .if1 .taken)
 
 -- src/lib.rt:85:9
 card-at-requires-2 : tie.Need-card-at-requires-2
@@ -19,7 +19,7 @@ card-at-requires-2 c κs = search needs
 
 -- src/lib.rt:78:1
 returns-2 : tie.Need-returns-2
-returns-2 c = ?
+returns-2 c = rw (c .card-at2 .ensures, c .before .if1 .left)
 
 pub joins-spec : {M : Type 1} → statement M
 joins-spec = tie.close (tie.spec card-at-requires returns card-at-requires-2 returns-2)

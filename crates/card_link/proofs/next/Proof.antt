@@ -1,3 +1,5 @@
+use Rattle.block.specs.CutLaws.{payload-most}
+use native.Mathlib.Omega.{arith}
 use borrow.Author.Needs.{needs}
 use Rattle.card_link.proofs.next.Statement.{statement}
 use Rattle.card_link.proofs.next.Tie as tie
@@ -17,7 +19,7 @@ payload-max-requires c κs = search needs
 
 -- src/lib.rt:104:55
 add-sends-i : tie.Need-add-sends-i
-add-sends-i c = ?
+add-sends-i c = omega (arith, c .before .payload-max .ensures, payload-most (c .before .before .before .before .before .args .c .reader))
 
 -- src/lib.rt:104:33
 sends-i-requires : tie.Need-sends-i-requires
@@ -49,19 +51,19 @@ silent-requires-3 c κs = search needs
 
 -- src/lib.rt:99:1
 returns : tie.Need-returns
-returns c = ?
+returns c = rw (c .sends-i .ensures, c .before .before .payload-max .ensures, c .before .before .before .before .enum-told .given .1)
 
 -- src/lib.rt:99:1
 returns-2 : tie.Need-returns-2
-returns-2 c = ?
+returns-2 c = rw (c .silent .ensures, c .before .enum-told2 .given .1)
 
 -- src/lib.rt:99:1
 returns-3 : tie.Need-returns-3
-returns-3 c = ?
+returns-3 c = rw (c .silent2 .ensures, c .before .enum-told3 .given .1)
 
 -- src/lib.rt:99:1
 returns-4 : tie.Need-returns-4
-returns-4 c = ?
+returns-4 c = rw (c .silent3 .ensures, c .before .enum-told4 .given .1)
 
 pub next-spec : {M : Type 1} → statement M
 next-spec =

@@ -1,3 +1,8 @@
+use borrow.Author.Tests.{lt-leb}
+use Rattle.card_link.specs.CardRules.{cardReplies}
+use native.Mathlib.Omega.{arith}
+use borrow.Author.Tests.{le-leb}
+use mathlib.Core.Path.{sym, _∙_}
 use borrow.Author.Needs.{needs}
 use Rattle.card_link.proofs.replies.Statement.{statement}
 use Rattle.card_link.proofs.replies.Tie as tie
@@ -17,7 +22,8 @@ sends-i-requires c κs = search needs
 
 -- src/lib.rt:205:13
 returns : tie.Need-returns
-returns c = ?
+unfolding cardReplies
+returns c = rw (c .sends-i .ensures, sym (c .before .before .before .owes-answer .ensures) ∙ c .before .before .if1 .taken, le-leb (c .before .before .before .before .args .len) 4096 (omega arith))
 
 -- src/lib.rt:207:9
 silent-requires : tie.Need-silent-requires
@@ -25,7 +31,8 @@ silent-requires c κs = search needs
 
 -- src/lib.rt:207:9
 returns-2 : tie.Need-returns-2
-returns-2 c = ?
+unfolding cardReplies
+returns-2 c = rw (c .silent .ensures, sym (c .before .before .before .owes-answer .ensures) ∙ c .before .before .if1 .taken, lt-leb (c .before .before .before .before .args .len) 4096 (omega arith))
 
 -- src/lib.rt:209:5
 silent-requires-2 : tie.Need-silent-requires-2
@@ -33,7 +40,8 @@ silent-requires-2 c κs = search needs
 
 -- src/lib.rt:199:1
 returns-3 : tie.Need-returns-3
-returns-3 c = ?
+unfolding cardReplies
+returns-3 c = rw (c .silent2 .ensures, sym (c .before .before .owes-answer .ensures) ∙ c .before .if1 .left)
 
 pub replies-spec : {M : Type 1} → statement M
 replies-spec =

@@ -68,31 +68,31 @@ silent-requires-2 c κs = search needs
 
 -- src/lib.rt:156:1
 returns : tie.Need-returns
-returns c = ?
+returns c = rw (c .takes-i .ensures, c .before .before .b .given .1)
 
 -- src/lib.rt:156:1
 returns-2 : tie.Need-returns-2
-returns-2 c = ?
+returns-2 c = rw (c .takes-ack .ensures, c .before .before .b2 .given .1)
 
 -- src/lib.rt:156:1
 returns-3 : tie.Need-returns-3
-returns-3 c = ?
+returns-3 c = rw (c .takes-nak .ensures, c .before .before .b3 .given .1)
 
 -- src/lib.rt:156:1
 returns-4 : tie.Need-returns-4
-returns-4 c = ?
+returns-4 c = rw (c .deselected .ensures, c .before .enum-told .given .1)
 
 -- src/lib.rt:156:1
 returns-5 : tie.Need-returns-5
-returns-5 c = ?
+returns-5 c = rw (c .granted .ensures, c .before .before .b4 .given .1)
 
 -- src/lib.rt:156:1
 returns-6 : tie.Need-returns-6
-returns-6 c = ?
+returns-6 c = rw (c .silent .ensures, c .before .enum-told2 .given .1)
 
 -- src/lib.rt:156:1
 returns-7 : tie.Need-returns-7
-returns-7 c = ?
+returns-7 c = rw (c .silent2 .ensures, c .before .enum-told3 .given .1)
 
 pub rules-spec : {M : Type 1} → statement M
 rules-spec =

@@ -1,3 +1,5 @@
+use Rattle.card_link.specs.CardRules.{cardI}
+use mathlib.Core.Path.{sym, _∙_}
 use borrow.Author.Needs.{needs}
 use Rattle.card_link.proofs.sends_i.Statement.{statement}
 use Rattle.card_link.proofs.sends_i.Tie as tie
@@ -21,7 +23,8 @@ sends-requires c κs = search needs
 
 -- src/lib.rt:72:9
 returns : tie.Need-returns
-returns c = ?
+unfolding cardI
+returns c = rw (c .sends .ensures, c .before .card-at .ensures, sym (c .before .before .before .has-more .ensures) ∙ c .before .before .if1 .taken)
 
 -- src/lib.rt:74:11
 card-at-requires-2 : tie.Need-card-at-requires-2
@@ -33,7 +36,8 @@ sends-requires-2 c κs = search needs
 
 -- src/lib.rt:68:1
 returns-2 : tie.Need-returns-2
-returns-2 c = ?
+unfolding cardI
+returns-2 c = rw (c .sends2 .ensures, c .before .card-at2 .ensures, sym (c .before .before .before .has-more .ensures) ∙ c .before .before .if1 .left)
 
 pub sends-i-spec : {M : Type 1} → statement M
 sends-i-spec =

@@ -1,3 +1,7 @@
+use borrow.Author.Tests.{le-ltb}
+use borrow.Author.Tests.{lt-ltb}
+use Rattle.card_link.specs.CardRules.{cardTakes}
+use mathlib.Core.Path.{sym, _∙_}
 use borrow.Author.Needs.{needs}
 use Rattle.card_link.proofs.takes.Statement.{statement}
 use Rattle.card_link.proofs.takes.Tie as tie
@@ -17,7 +21,8 @@ silent-requires c κs = search needs
 
 -- src/lib.rt:190:9
 returns : tie.Need-returns
-returns c = ?
+unfolding cardTakes
+returns c = rw (c .silent .ensures, sym (c .before .before .owes-answer .ensures) ∙ c .before .if1 .taken)
 
 -- src/lib.rt:193:9
 silent-requires-2 : tie.Need-silent-requires-2
@@ -25,7 +30,8 @@ silent-requires-2 c κs = search needs
 
 -- src/lib.rt:193:9
 returns-2 : tie.Need-returns-2
-returns-2 c = ?
+unfolding cardTakes
+returns-2 c = rw (c .silent2 .ensures, sym (c .before .before .before .before .owes-answer .ensures) ∙ c .before .before .before .if1 .left, lt-ltb (c .before .before .before .before .before .args .len) (c .before .before .before .before .before .args .c .at) (c .before .if2 .taken))
 
 -- src/lib.rt:195:5
 rules-requires : tie.Need-rules-requires
@@ -33,7 +39,8 @@ rules-requires c κs = search needs
 
 -- src/lib.rt:184:1
 returns-3 : tie.Need-returns-3
-returns-3 c = ?
+unfolding cardTakes
+returns-3 c = rw (c .rules .ensures, sym (c .before .before .before .before .owes-answer .ensures) ∙ c .before .before .before .if1 .left, le-ltb (c .before .before .before .before .before .args .len) (c .before .before .before .before .before .args .c .at) (c .before .if2 .left))
 
 pub takes-spec : {M : Type 1} → statement M
 takes-spec =

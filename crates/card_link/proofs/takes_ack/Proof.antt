@@ -1,3 +1,4 @@
+use Rattle.card_link.specs.CardRules.{cardTakesAck}
 use borrow.Author.Needs.{needs}
 use Rattle.card_link.proofs.takes_ack.Statement.{statement}
 use Rattle.card_link.proofs.takes_ack.Tie as tie
@@ -12,7 +13,8 @@ sends-requires c κs = search needs
 
 -- src/lib.rt:116:9
 returns : tie.Need-returns
-returns c = ?
+unfolding cardTakesAck
+returns c = rw (c .sends .ensures, c .before .if1 .taken)
 
 -- src/lib.rt:119:5
 next-requires : tie.Need-next-requires
@@ -20,7 +22,8 @@ next-requires c κs = search needs
 
 -- src/lib.rt:111:1
 returns-2 : tie.Need-returns-2
-returns-2 c = ?
+unfolding cardTakesAck
+returns-2 c = rw (c .next .ensures, c .before .if1 .left)
 
 pub takes-ack-spec : {M : Type 1} → statement M
 takes-ack-spec = tie.close (tie.spec sends-requires returns next-requires returns-2)

@@ -1,3 +1,8 @@
+use Rattle.block.specs.CutLaws.{fits-true}
+use Prim.Native.Nat.{_+_}
+use native.Mathlib.Omega.{arith}
+use Rattle.card_link.specs.CardRules.{cardTakesI}
+use mathlib.Core.Path.{sym, _∙_}
 use borrow.Author.Needs.{needs}
 use Rattle.card_link.proofs.takes_i.Statement.{statement}
 use Rattle.card_link.proofs.takes_i.Tie as tie
@@ -13,7 +18,10 @@ joins-in-requires c κs = search needs
 
 -- src/lib.rt:93:45
 add-joins : tie.Need-add-joins
-add-joins c = ?
+add-joins c =
+    let a = c .before .before .before .before .args in
+    let h = fits-true (a .c .joined + a .bytes) (a .room) (sym (c .before .before .if1 .taken) ∙ c .before .before .before .joins-in .ensures) in
+    omega (arith, h .0)
 
 -- src/lib.rt:93:9
 joins-requires : tie.Need-joins-requires
@@ -21,7 +29,8 @@ joins-requires c κs = search needs
 
 -- src/lib.rt:93:9
 returns : tie.Need-returns
-returns c = ?
+unfolding cardTakesI
+returns c = rw (c .joins .ensures, sym (c .before .before .before .before .joins-in .ensures) ∙ c .before .before .before .if1 .taken)
 
 -- src/lib.rt:95:5
 silent-requires : tie.Need-silent-requires
@@ -29,7 +38,8 @@ silent-requires c κs = search needs
 
 -- src/lib.rt:89:1
 returns-2 : tie.Need-returns-2
-returns-2 c = ?
+unfolding cardTakesI
+returns-2 c = rw (c .silent .ensures, sym (c .before .before .joins-in .ensures) ∙ c .before .if1 .left)
 
 pub takes-i-spec : {M : Type 1} → statement M
 takes-i-spec =

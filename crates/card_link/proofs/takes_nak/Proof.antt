@@ -1,3 +1,4 @@
+use Rattle.card_link.specs.CardRules.{cardTakesNak}
 use borrow.Author.Needs.{needs}
 use Rattle.card_link.proofs.takes_nak.Statement.{statement}
 use Rattle.card_link.proofs.takes_nak.Tie as tie
@@ -12,7 +13,8 @@ sends-requires c κs = search needs
 
 -- src/lib.rt:126:9
 returns : tie.Need-returns
-returns c = ?
+unfolding cardTakesNak
+returns c = rw (c .sends .ensures, c .before .if1 .taken)
 
 -- src/lib.rt:129:11
 card-at-requires : tie.Need-card-at-requires
@@ -24,7 +26,8 @@ sends-requires-2 c κs = search needs
 
 -- src/lib.rt:122:1
 returns-2 : tie.Need-returns-2
-returns-2 c = ?
+unfolding cardTakesNak
+returns-2 c = rw (c .sends2 .ensures, c .before .card-at .ensures, c .before .before .if1 .left)
 
 pub takes-nak-spec : {M : Type 1} → statement M
 takes-nak-spec =
