@@ -1,51 +1,35 @@
-use Rattle.card_link.specs.CardRules.{cardAsks}
 use mathlib.Core.Path.{sym, _∙_}
 use borrow.Author.Needs.{needs}
+use Rattle.card_link.specs.CardRules.{cardAsks}
 use Rattle.card_link.proofs.asks.Statement.{statement}
 use Rattle.card_link.proofs.asks.Tie as tie
-use Rattle.card_link.proofs.asks.Reads as reads
-use Rattle.card_link.proofs.asks.Lts as lts
-use Rattle.block.proofs.wtx_ok.Reads as wtx-ok-reads
-use Rattle.card_link.proofs.card_at.Reads as card-at-reads
-use Rattle.card_link.proofs.owes_answer.Reads as owes-answer-reads
-use Rattle.card_link.proofs.sends.Reads as sends-reads
-use Rattle.card_link.proofs.silent.Reads as silent-reads
 
--- src/lib.rt:217:8
 owes-answer-requires : tie.Need-owes-answer-requires
 owes-answer-requires c κs = search needs
 
--- src/lib.rt:218:12
 wtx-ok-requires : tie.Need-wtx-ok-requires
 wtx-ok-requires c κs = search needs
 
--- src/lib.rt:219:26
 card-at-requires : tie.Need-card-at-requires
 card-at-requires c κs = search needs
 
--- src/lib.rt:219:13
 sends-requires : tie.Need-sends-requires
 sends-requires c κs = search needs
 
--- src/lib.rt:219:13
 returns : tie.Need-returns
 unfolding cardAsks
 returns c = rw (c .sends .ensures, c .before .card-at .ensures, sym (c .before .before .before .before .before .owes-answer .ensures) ∙ c .before .before .before .before .if1 .taken, sym (c .before .before .before .wtx-ok .ensures) ∙ c .before .before .if2 .taken)
 
--- src/lib.rt:221:9
 silent-requires : tie.Need-silent-requires
 silent-requires c κs = search needs
 
--- src/lib.rt:221:9
 returns-2 : tie.Need-returns-2
 unfolding cardAsks
 returns-2 c = rw (c .silent .ensures, sym (c .before .before .before .before .owes-answer .ensures) ∙ c .before .before .before .if1 .taken, sym (c .before .before .wtx-ok .ensures) ∙ c .before .if2 .left)
 
--- src/lib.rt:223:5
 silent-requires-2 : tie.Need-silent-requires-2
 silent-requires-2 c κs = search needs
 
--- src/lib.rt:213:1
 returns-3 : tie.Need-returns-3
 unfolding cardAsks
 returns-3 c = rw (c .silent2 .ensures, sym (c .before .before .owes-answer .ensures) ∙ c .before .if1 .left)

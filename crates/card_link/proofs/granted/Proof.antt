@@ -1,70 +1,50 @@
-use borrow.Author.Tests.{ne-eqb}
-use borrow.Author.Tests.{eq-eqb}
+use borrow.Author.Tests.{ne-eqb, eq-eqb}
 use borrow.Author.Needs.{needs}
 use Rattle.card_link.proofs.granted.Statement.{statement}
 use Rattle.card_link.proofs.granted.Tie as tie
-use Rattle.card_link.proofs.granted.Reads as reads
-use Rattle.card_link.proofs.granted.Lts as lts
-use Rattle.card_link.proofs.card_at.Reads as card-at-reads
-use Rattle.card_link.proofs.silent.Reads as silent-reads
 
--- src/lib.rt:137:28
 enum-known-phase : tie.Need-enum-known-phase
 enum-known-phase c = search needs
 
--- src/lib.rt:139:31
 card-at-requires : tie.Need-card-at-requires
 card-at-requires c κs = search needs
 
--- src/lib.rt:139:17
 silent-requires : tie.Need-silent-requires
 silent-requires c κs = search needs
 
--- src/lib.rt:139:17
 returns : tie.Need-returns
 returns c = rw (c .silent .ensures, c .before .card-at .ensures, c .before .before .before .before .phase .given .1, eq-eqb _ _ (c .before .before .if1 .taken))
 
--- src/lib.rt:141:13
 silent-requires-2 : tie.Need-silent-requires-2
 silent-requires-2 c κs = search needs
 
--- src/lib.rt:143:43
 enum-told : tie.Need-enum-told
 enum-told c = search needs
 
--- src/lib.rt:143:33
 silent-requires-3 : tie.Need-silent-requires-3
 silent-requires-3 c κs = search needs
 
--- src/lib.rt:144:39
 enum-told-2 : tie.Need-enum-told-2
 enum-told-2 c = search needs
 
--- src/lib.rt:144:29
 silent-requires-4 : tie.Need-silent-requires-4
 silent-requires-4 c κs = search needs
 
--- src/lib.rt:145:43
 enum-told-3 : tie.Need-enum-told-3
 enum-told-3 c = search needs
 
--- src/lib.rt:145:33
 silent-requires-5 : tie.Need-silent-requires-5
 silent-requires-5 c κs = search needs
 
--- src/lib.rt:133:1
 returns-2 : tie.Need-returns-2
 returns-2 c = rw (c .silent2 .ensures, c .before .before .before .phase .given .1, ne-eqb _ _ (c .before .if1 .left))
 
--- src/lib.rt:133:1
 returns-3 : tie.Need-returns-3
 returns-3 c = rw (c .silent3 .ensures, c .before .enum-told .given .1)
 
--- src/lib.rt:133:1
 returns-4 : tie.Need-returns-4
 returns-4 c = rw (c .silent4 .ensures, c .before .enum-told2 .given .1)
 
--- src/lib.rt:133:1
 returns-5 : tie.Need-returns-5
 returns-5 c = rw (c .silent5 .ensures, c .before .enum-told3 .given .1)
 

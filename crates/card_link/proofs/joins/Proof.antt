@@ -1,23 +1,16 @@
 use borrow.Author.Needs.{needs}
 use Rattle.card_link.proofs.joins.Statement.{statement}
 use Rattle.card_link.proofs.joins.Tie as tie
-use Rattle.card_link.proofs.joins.Reads as reads
-use Rattle.card_link.proofs.joins.Lts as lts
-use Rattle.card_link.proofs.card_at.Reads as card-at-reads
 
--- src/lib.rt:82:13
 card-at-requires : tie.Need-card-at-requires
 card-at-requires c κs = search needs
 
--- src/lib.rt:83:9
 returns : tie.Need-returns
 returns c = rw (c .card-at .ensures, c .before .if1 .taken)
 
--- src/lib.rt:85:9
 card-at-requires-2 : tie.Need-card-at-requires-2
 card-at-requires-2 c κs = search needs
 
--- src/lib.rt:78:1
 returns-2 : tie.Need-returns-2
 returns-2 c = rw (c .card-at2 .ensures, c .before .if1 .left)
 

@@ -1,67 +1,48 @@
-use Rattle.block.specs.CutLaws.{payload-most}
 use native.Mathlib.Omega.{arith}
 use borrow.Author.Needs.{needs}
+use Rattle.block.specs.CutLaws.{payload-most}
 use Rattle.card_link.proofs.next.Statement.{statement}
 use Rattle.card_link.proofs.next.Tie as tie
-use Rattle.card_link.proofs.next.Reads as reads
-use Rattle.card_link.proofs.next.Lts as lts
-use Rattle.block.proofs.payload_max.Reads as payload-max-reads
-use Rattle.card_link.proofs.sends_i.Reads as sends-i-reads
-use Rattle.card_link.proofs.silent.Reads as silent-reads
 
--- src/lib.rt:104:44
 enum-told : tie.Need-enum-told
 enum-told c = search needs
 
--- src/lib.rt:104:62
 payload-max-requires : tie.Need-payload-max-requires
 payload-max-requires c κs = search needs
 
--- src/lib.rt:104:55
 add-sends-i : tie.Need-add-sends-i
 add-sends-i c = omega (arith, c .before .payload-max .ensures, payload-most (c .before .before .before .before .before .args .c .reader))
 
--- src/lib.rt:104:33
 sends-i-requires : tie.Need-sends-i-requires
 sends-i-requires c κs = search needs
 
--- src/lib.rt:105:43
 enum-told-2 : tie.Need-enum-told-2
 enum-told-2 c = search needs
 
--- src/lib.rt:105:33
 silent-requires : tie.Need-silent-requires
 silent-requires c κs = search needs
 
--- src/lib.rt:106:39
 enum-told-3 : tie.Need-enum-told-3
 enum-told-3 c = search needs
 
--- src/lib.rt:106:29
 silent-requires-2 : tie.Need-silent-requires-2
 silent-requires-2 c κs = search needs
 
--- src/lib.rt:107:44
 enum-told-4 : tie.Need-enum-told-4
 enum-told-4 c = search needs
 
--- src/lib.rt:107:34
 silent-requires-3 : tie.Need-silent-requires-3
 silent-requires-3 c κs = search needs
 
--- src/lib.rt:99:1
 returns : tie.Need-returns
 returns c = rw (c .sends-i .ensures, c .before .before .payload-max .ensures, c .before .before .before .before .enum-told .given .1)
 
--- src/lib.rt:99:1
 returns-2 : tie.Need-returns-2
 returns-2 c = rw (c .silent .ensures, c .before .enum-told2 .given .1)
 
--- src/lib.rt:99:1
 returns-3 : tie.Need-returns-3
 returns-3 c = rw (c .silent2 .ensures, c .before .enum-told3 .given .1)
 
--- src/lib.rt:99:1
 returns-4 : tie.Need-returns-4
 returns-4 c = rw (c .silent3 .ensures, c .before .enum-told4 .given .1)
 

@@ -1,44 +1,31 @@
-use borrow.Author.Tests.{lt-leb}
-use Rattle.card_link.specs.CardRules.{cardReplies}
+use borrow.Author.Tests.{lt-leb, le-leb}
 use native.Mathlib.Omega.{arith}
-use borrow.Author.Tests.{le-leb}
 use mathlib.Core.Path.{sym, _∙_}
 use borrow.Author.Needs.{needs}
+use Rattle.card_link.specs.CardRules.{cardReplies}
 use Rattle.card_link.proofs.replies.Statement.{statement}
 use Rattle.card_link.proofs.replies.Tie as tie
-use Rattle.card_link.proofs.replies.Reads as reads
-use Rattle.card_link.proofs.replies.Lts as lts
-use Rattle.card_link.proofs.owes_answer.Reads as owes-answer-reads
-use Rattle.card_link.proofs.sends_i.Reads as sends-i-reads
-use Rattle.card_link.proofs.silent.Reads as silent-reads
 
--- src/lib.rt:203:8
 owes-answer-requires : tie.Need-owes-answer-requires
 owes-answer-requires c κs = search needs
 
--- src/lib.rt:205:13
 sends-i-requires : tie.Need-sends-i-requires
 sends-i-requires c κs = search needs
 
--- src/lib.rt:205:13
 returns : tie.Need-returns
 unfolding cardReplies
 returns c = rw (c .sends-i .ensures, sym (c .before .before .before .owes-answer .ensures) ∙ c .before .before .if1 .taken, le-leb (c .before .before .before .before .args .len) 4096 (omega arith))
 
--- src/lib.rt:207:9
 silent-requires : tie.Need-silent-requires
 silent-requires c κs = search needs
 
--- src/lib.rt:207:9
 returns-2 : tie.Need-returns-2
 unfolding cardReplies
 returns-2 c = rw (c .silent .ensures, sym (c .before .before .before .owes-answer .ensures) ∙ c .before .before .if1 .taken, lt-leb (c .before .before .before .before .args .len) 4096 (omega arith))
 
--- src/lib.rt:209:5
 silent-requires-2 : tie.Need-silent-requires-2
 silent-requires-2 c κs = search needs
 
--- src/lib.rt:199:1
 returns-3 : tie.Need-returns-3
 unfolding cardReplies
 returns-3 c = rw (c .silent2 .ensures, sym (c .before .before .owes-answer .ensures) ∙ c .before .if1 .left)

@@ -1,96 +1,67 @@
 use borrow.Author.Needs.{needs}
 use Rattle.card_link.proofs.rules.Statement.{statement}
 use Rattle.card_link.proofs.rules.Tie as tie
-use Rattle.card_link.proofs.rules.Reads as reads
-use Rattle.card_link.proofs.rules.Lts as lts
-use Rattle.card_link.proofs.deselected.Reads as deselected-reads
-use Rattle.card_link.proofs.granted.Reads as granted-reads
-use Rattle.card_link.proofs.silent.Reads as silent-reads
-use Rattle.card_link.proofs.takes_ack.Reads as takes-ack-reads
-use Rattle.card_link.proofs.takes_i.Reads as takes-i-reads
-use Rattle.card_link.proofs.takes_nak.Reads as takes-nak-reads
 
--- src/lib.rt:162:21
 enum-known-b : tie.Need-enum-known-b
 enum-known-b c = search needs
 
--- src/lib.rt:162:33
 takes-i-requires : tie.Need-takes-i-requires
 takes-i-requires c κs = search needs
 
--- src/lib.rt:163:20
 enum-known-b-2 : tie.Need-enum-known-b-2
 enum-known-b-2 c = search needs
 
--- src/lib.rt:163:26
 takes-ack-requires : tie.Need-takes-ack-requires
 takes-ack-requires c κs = search needs
 
--- src/lib.rt:164:20
 enum-known-b-3 : tie.Need-enum-known-b-3
 enum-known-b-3 c = search needs
 
--- src/lib.rt:164:26
 takes-nak-requires : tie.Need-takes-nak-requires
 takes-nak-requires c κs = search needs
 
--- src/lib.rt:165:28
 enum-told : tie.Need-enum-told
 enum-told c = search needs
 
--- src/lib.rt:165:28
 deselected-requires : tie.Need-deselected-requires
 deselected-requires c κs = search needs
 
--- src/lib.rt:166:20
 enum-known-b-4 : tie.Need-enum-known-b-4
 enum-known-b-4 c = search needs
 
--- src/lib.rt:166:26
 granted-requires : tie.Need-granted-requires
 granted-requires c κs = search needs
 
--- src/lib.rt:167:37
 enum-told-2 : tie.Need-enum-told-2
 enum-told-2 c = search needs
 
--- src/lib.rt:167:27
 silent-requires : tie.Need-silent-requires
 silent-requires c κs = search needs
 
--- src/lib.rt:168:37
 enum-told-3 : tie.Need-enum-told-3
 enum-told-3 c = search needs
 
--- src/lib.rt:168:27
 silent-requires-2 : tie.Need-silent-requires-2
 silent-requires-2 c κs = search needs
 
--- src/lib.rt:156:1
 returns : tie.Need-returns
 returns c = rw (c .takes-i .ensures, c .before .before .b .given .1)
 
--- src/lib.rt:156:1
 returns-2 : tie.Need-returns-2
 returns-2 c = rw (c .takes-ack .ensures, c .before .before .b2 .given .1)
 
--- src/lib.rt:156:1
 returns-3 : tie.Need-returns-3
 returns-3 c = rw (c .takes-nak .ensures, c .before .before .b3 .given .1)
 
--- src/lib.rt:156:1
 returns-4 : tie.Need-returns-4
 returns-4 c = rw (c .deselected .ensures, c .before .enum-told .given .1)
 
--- src/lib.rt:156:1
 returns-5 : tie.Need-returns-5
 returns-5 c = rw (c .granted .ensures, c .before .before .b4 .given .1)
 
--- src/lib.rt:156:1
 returns-6 : tie.Need-returns-6
 returns-6 c = rw (c .silent .ensures, c .before .enum-told2 .given .1)
 
--- src/lib.rt:156:1
 returns-7 : tie.Need-returns-7
 returns-7 c = rw (c .silent2 .ensures, c .before .enum-told3 .given .1)
 

@@ -1,43 +1,30 @@
-use borrow.Author.Tests.{le-ltb}
-use borrow.Author.Tests.{lt-ltb}
-use Rattle.card_link.specs.CardRules.{cardTakes}
+use borrow.Author.Tests.{le-ltb, lt-ltb}
 use mathlib.Core.Path.{sym, _∙_}
 use borrow.Author.Needs.{needs}
+use Rattle.card_link.specs.CardRules.{cardTakes}
 use Rattle.card_link.proofs.takes.Statement.{statement}
 use Rattle.card_link.proofs.takes.Tie as tie
-use Rattle.card_link.proofs.takes.Reads as reads
-use Rattle.card_link.proofs.takes.Lts as lts
-use Rattle.card_link.proofs.owes_answer.Reads as owes-answer-reads
-use Rattle.card_link.proofs.rules.Reads as rules-reads
-use Rattle.card_link.proofs.silent.Reads as silent-reads
 
--- src/lib.rt:189:8
 owes-answer-requires : tie.Need-owes-answer-requires
 owes-answer-requires c κs = search needs
 
--- src/lib.rt:190:9
 silent-requires : tie.Need-silent-requires
 silent-requires c κs = search needs
 
--- src/lib.rt:190:9
 returns : tie.Need-returns
 unfolding cardTakes
 returns c = rw (c .silent .ensures, sym (c .before .before .owes-answer .ensures) ∙ c .before .if1 .taken)
 
--- src/lib.rt:193:9
 silent-requires-2 : tie.Need-silent-requires-2
 silent-requires-2 c κs = search needs
 
--- src/lib.rt:193:9
 returns-2 : tie.Need-returns-2
 unfolding cardTakes
 returns-2 c = rw (c .silent2 .ensures, sym (c .before .before .before .before .owes-answer .ensures) ∙ c .before .before .before .if1 .left, lt-ltb (c .before .before .before .before .before .args .len) (c .before .before .before .before .before .args .c .at) (c .before .if2 .taken))
 
--- src/lib.rt:195:5
 rules-requires : tie.Need-rules-requires
 rules-requires c κs = search needs
 
--- src/lib.rt:184:1
 returns-3 : tie.Need-returns-3
 unfolding cardTakes
 returns-3 c = rw (c .rules .ensures, sym (c .before .before .before .before .owes-answer .ensures) ∙ c .before .before .before .if1 .left, le-ltb (c .before .before .before .before .before .args .len) (c .before .before .before .before .before .args .c .at) (c .before .if2 .left))

@@ -1,42 +1,31 @@
-use Rattle.block.specs.CutLaws.{fits-true}
 use Prim.Native.Nat.{_+_}
 use native.Mathlib.Omega.{arith}
-use Rattle.card_link.specs.CardRules.{cardTakesI}
 use mathlib.Core.Path.{sym, _∙_}
 use borrow.Author.Needs.{needs}
+use Rattle.block.specs.CutLaws.{fits-true}
+use Rattle.card_link.specs.CardRules.{cardTakesI}
 use Rattle.card_link.proofs.takes_i.Statement.{statement}
 use Rattle.card_link.proofs.takes_i.Tie as tie
-use Rattle.card_link.proofs.takes_i.Reads as reads
-use Rattle.card_link.proofs.takes_i.Lts as lts
-use Rattle.block.proofs.joins_in.Reads as joins-in-reads
-use Rattle.card_link.proofs.joins.Reads as joins-reads
-use Rattle.card_link.proofs.silent.Reads as silent-reads
 
--- src/lib.rt:92:8
 joins-in-requires : tie.Need-joins-in-requires
 joins-in-requires c κs = search needs
 
--- src/lib.rt:93:45
 add-joins : tie.Need-add-joins
 add-joins c =
     let a = c .before .before .before .before .args in
     let h = fits-true (a .c .joined + a .bytes) (a .room) (sym (c .before .before .if1 .taken) ∙ c .before .before .before .joins-in .ensures) in
     omega (arith, h .0)
 
--- src/lib.rt:93:9
 joins-requires : tie.Need-joins-requires
 joins-requires c κs = search needs
 
--- src/lib.rt:93:9
 returns : tie.Need-returns
 unfolding cardTakesI
 returns c = rw (c .joins .ensures, sym (c .before .before .before .before .joins-in .ensures) ∙ c .before .before .before .if1 .taken)
 
--- src/lib.rt:95:5
 silent-requires : tie.Need-silent-requires
 silent-requires c κs = search needs
 
--- src/lib.rt:89:1
 returns-2 : tie.Need-returns-2
 unfolding cardTakesI
 returns-2 c = rw (c .silent .ensures, sym (c .before .before .joins-in .ensures) ∙ c .before .if1 .left)
