@@ -1,2 +1,3 @@
 pub mod CardRules
 pub mod CardFrames
+pub mod CardCalls

@@ -6,6 +6,7 @@ ghost use Prim.Native.Nat.{_<_, _≤_, _^_};
 ghost use Rattle.card_link.specs.CardRules.{cardOpen, cardAt, cardSilent, cardSends, cardI, cardJoins, cardNext, cardGranted, cardTakesI, cardTakesAck, cardTakesNak, cardRules, owes, cardTakes, cardReplies, cardAsks};
 use block::Block;
 use block::Told;
+use card::Card;
 use refusal::Refusal;
 
 // Where a card in Protocol stands: Waiting for the reply to the WTX that it asked, Answering while a chained I of its answer is out.
@@ -33,6 +34,19 @@ pub struct CardStep {
     pub send: Block,
     pub told: Told,
     pub joins: bool,
+}
+
+// A card with its end of the block protocol. Outside Protocol the link is that of no card, the same value always.
+pub struct LinkCard {
+    pub card: Card,
+    pub link: CardLink,
+}
+
+// What comes of a frame or a host call: so many air bits at the front of the lent row (none: silence), and what the host is told.
+pub struct CardTurn {
+    pub card: LinkCard,
+    pub bits: usize,
+    pub told: Told,
 }
 
 // After RATS.

@@ -6,6 +6,8 @@ ghost use Prim.Native.Nat.{_<_, _≤_, _^_};
 ghost use Rattle.reader_link.specs.ReaderRules.{readerOpen, readerDone, readerAt, readerKeeps, stops, readerSends, readerI, readerAgain, ackOwn, ackOther, readerJoins, lastIsOut, asksAgain, readerRepeats, readerEchoes, awaitsI, readerTakesI, readerTakesAck, readerRules, readerLeaves, readerTakes, isOpen, readerStarts, readerParts};
 use block::Block;
 use block::Told;
+use reader::Answer;
+use reader::Reader;
 use refusal::Refusal;
 
 // How far one message and its answer are: more to send; the last I out and nothing come; a chained I of the answer come.
@@ -43,6 +45,32 @@ pub struct ReaderStep {
     pub send: Block,
     pub told: Told,
     pub joins: bool,
+}
+
+// How far a reader is on the way to blocks: selecting or selected; RATS sent with its own size index; linked.
+pub enum Link {
+    NoLink,
+    RatsSent(u8),
+    Linked(ReaderLink),
+}
+
+// A reader with its end of the block protocol. Once a link is there the reader in it is the selected one.
+pub struct LinkReader {
+    pub reader: Reader,
+    pub link: Link,
+}
+
+// What a reader answers to a call or a row. Selection: as crate reader has it. Opens: a good ATS, the card's size index.
+// Blocks: so many air bits of the next frame at the front of the lent row (none: no frame), and what the host is told.
+pub enum LinkAnswer {
+    Selection(Answer),
+    Opens(u8),
+    Blocks(usize, Told),
+}
+
+pub struct LinkTurn {
+    pub reader: LinkReader,
+    pub answer: LinkAnswer,
 }
 
 // Between messages, with block number n.
