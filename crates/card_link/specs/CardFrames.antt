@@ -9,7 +9,7 @@ use Rattle.rows.specs.Rows.{overlay}
 use Rattle.frame.specs.Frame.{Verdict}
 use Rattle.block.specs.Cut.{part}
 use Rattle.block.specs.Out.{Out}
-use Rattle.block.specs.Block.{heardBlock, payload, blockBytes}
+use Rattle.block.specs.Block.{blockOf, behind, heardBlock, payload, blockBytes}
 use Rattle.card_link.specs.CardRules.{cardAsks, cardReplies, cardTakes}
 
 -- a step with the answer m and the buffer that are lent; p is the payload that goes behind the joined bytes
@@ -21,6 +21,10 @@ cardOut s m buffer joined p =
       sent = blockBytes (s .send) (part (s .link .reader) (s .link .at) m);
       buffer = cond (s .joins) (overlay buffer joined p) buffer;
     }
+
+-- a frame's bytes l are heard, none where it is silence or damaged, with a buffer of room bytes and an answer of len bytes
+unfoldable pub cardHears : CardLink → List ℕ → ℕ → ℕ → CardStep
+cardHears c l room len = cardTakes c (blockOf l) (length (behind l)) room len
 
 -- The card hears a frame:
 unfoldable pub cardBlock : CardLink → Verdict → List ℕ → List ℕ → Out CardLink

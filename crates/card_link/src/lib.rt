@@ -1,10 +1,16 @@
 // Document 01, "RATS, ATS and blocks": the card's end of the block protocol. No type holds bytes: payloads stay in the lent frame and in
 // the lent messages, and a link holds places and counts.
 ghost use mathlib.Core.Path.{_≡_};
-ghost use mathlib.Core.Bool.{Bool·beq as same};
+ghost use mathlib.Core.Bool.{cond};
+ghost use lib.ListN.{length};
+ghost use Rattle.rows.specs.Rows.{overlay};
+ghost use Rattle.block.specs.Cut.{part};
+ghost use Rattle.block.specs.Block.{behind, blockBytes, bytesIn};
+ghost use Rattle.card_link.specs.CardFrames.{cardHears};
 ghost use Prim.Native.Nat.{_<_, _≤_, _^_};
 ghost use Rattle.card_link.specs.CardRules.{cardOpen, cardAt, cardSilent, cardSends, cardI, cardJoins, cardNext, cardGranted, cardTakesI, cardTakesAck, cardTakesNak, cardRules, owes, cardTakes, cardReplies, cardAsks};
 use block::Block;
+use block::BlockBytes;
 use block::Told;
 use card::Card;
 use refusal::Refusal;
@@ -285,4 +291,30 @@ fn asks(c: CardLink, v: u8) -> CardStep
         return silent(c, Told::Refused(Refusal::Argument));
     }
     silent(c, Told::Refused(Refusal::NotDue))
+}
+
+// What a card does with a frame's bytes, none where it is silence or damaged. An accepted payload goes straight behind those joined.
+fn hears(c: CardLink, bytes: &[u8], answer: &[u8], buffer: &mut [u8]) -> CardStep
+    ensures { λ r. ⌜ r ≡ cardHears c (now (bytes .entry)) (length (now (buffer .entry))) (length (now (answer .entry))) ⌝ }
+    ensures { λ r. ⌜ now (buffer .exit) ≡ cond (r .joins) (overlay (now (buffer .entry)) (c .joined) (behind (now (bytes .entry)))) (now (buffer .entry)) ⌝ }
+{
+    let b = block::read_block(bytes);
+    if bytes.len() == 0 {
+        return takes(c, Block::Nothing, 0, buffer.len(), answer.len());
+    }
+    let step = takes(c, b, bytes.len() - 1, buffer.len(), answer.len());
+    if step.joins {
+        block::join(buffer, c.joined, &bytes[1..]);
+        return step;
+    }
+    step
+}
+
+// The bytes of the block that a step sends.
+fn sent(step: CardStep, answer: &[u8]) -> BlockBytes
+    ensures { λ r. ⌜ r ≡ bytesIn (blockBytes (step .send) (part (step .link .reader) (step .link .at) (now (answer .entry)))) ⌝ }
+{
+    let send = step.send;
+    let link = step.link;
+    block::block_bytes(send, link.reader, link.at, answer)
 }
