@@ -1,3 +1,4 @@
 pub mod Rows
 pub mod RowLaws
+pub mod HeardLaws
 pub mod ListLaws

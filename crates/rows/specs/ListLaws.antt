@@ -45,6 +45,12 @@ same-ne r s n = go (same r s) refl
 pub same-length : (r s : List ℕ) → length r ≢ length s → same r s ≡ false
 same-length r s n = same-ne r s (λ e. n (ap length e))
 
+-- rows that begin alike are equal exactly where their rests are
+pub same-append : (p r s : List ℕ) → same (p ++ r) (p ++ s) ≡ same r s
+unfolding same
+same-append [] r s = refl
+same-append (x ∷ p) r s = rw (eq-eqb x x refl) (same-append p r s)
+
 -- ---- every element
 
 pub all-take : {A : Type 0} (F : A → Type 0) (n : ℕ) (l : List A) → All F l → All F (take n l)

@@ -1,12 +1,12 @@
--- Laws of rows written into rows.
+-- Laws of rows written into rows. Assumes nothing.
 use mathlib.Core.Path.{_≡_, refl, sym, ap, _∙_}
 use mathlib.Core.List.{List, [], _∷_, _++_, append-assoc, append-nil}
 use Prim.Native.Nat.{ℕ, suc, _+_, _-_, _≤_, _<_}
 use native.Mathlib.Numerals.{add-one}
-use native.Mathlib.Nat.{add-zero, add-assoc}
+use native.Mathlib.Nat.{add-zero, zero-add, add-assoc}
 use native.Mathlib.Omega.{arith}
-use lib.ListN.{length, take, drop, getD, set, length-append, length-take, length-drop, length-set, take-append-drop}
-use lib.Seq.{take-at, drop-at, take-suc, drop-drop, set-split, drop-append-add, take-append-le, length-take-le, drop-append-le, take-all, drop-set-lt, take-suc-set, set-at, drop-cons}
+use lib.ListN.{length, take, drop, getD, set, length-append, length-take, length-drop, take-append-drop, drop-of-length-le}
+use lib.Seq.{take-at, take-suc, drop-drop, set-split, drop-append-add, length-take-le, take-all, take-append-seam}
 use Rattle.rows.specs.Rows.{overlay}
 
 pub length-overlay : (d : List ℕ) (at : ℕ) (s : List ℕ) → at + length s ≤ length d → length (overlay d at s) ≡ length d
@@ -29,8 +29,16 @@ overlay-next d at s t h =
     let p : List ℕ = take at d ++ s in
     let r : List ℕ = drop (at + length s) d in
     let e : length p ≡ at + length s = simp (length-append, length-take) (omega arith) in
-    rw (← append-assoc (take at d) s r, take-at p r (at + length s) e, drop-past p r (at + length s) (length t) e,
-      drop-drop, length-append, append-assoc, append-assoc, add-assoc)
+    rw (
+      ← append-assoc (take at d) s r,
+      take-at p r (at + length s) e,
+      drop-past p r (at + length s) (length t) e,
+      drop-drop,
+      length-append,
+      append-assoc,
+      append-assoc,
+      add-assoc,
+    )
 
 -- a store is a row of one element written
 pub overlay-one : (d : List ℕ) (at v : ℕ) → at < length d → set d at v ≡ overlay d at (v ∷ [])
@@ -50,3 +58,21 @@ pub overlay-copy : (d : List ℕ) (at : ℕ) (s : List ℕ) (i : ℕ) → at + i
 overlay-copy d at s i h l =
     let e : length (take i s) ≡ i = length-take-le i s (omega arith) in
     rw (add-one, take-suc s i 0) (rw e at (overlay-set d at (take i s) (getD s i 0) (rw e h)))
+
+-- a row written at the start of the part from k on is written at k: the rest of a `&mut` slice, lent on
+pub overlay-part : (d : List ℕ) (k : ℕ) (s : List ℕ) → k ≤ length d
+    → take k d ++ (overlay (take (length d - k) (drop k d)) 0 s ++ drop (length d - k) (drop k d)) ≡ overlay d k s
+unfolding overlay
+overlay-part d k s h =
+    let e : length (drop k d) ≤ length d - k = simp length-drop (omega arith) in
+    rw (take-all (length d - k) (drop k d) e, drop-of-length-le (drop k d) e, append-nil, zero-add, drop-drop)
+
+-- what stands at the front of a row after a row was written there
+pub overlay-front : (d s : List ℕ) → take (length s) (overlay d 0 s) ≡ s
+unfolding overlay
+overlay-front d s = take-append-seam s (drop (0 + length s) d)
+
+-- a row written over one that is as long takes its place
+pub overlay-all : (d s : List ℕ) → length d ≡ length s → overlay d 0 s ≡ s
+unfolding overlay
+overlay-all d s e = rw (zero-add, ← e, drop-of-length-le d {i = length d} (omega arith), append-nil)

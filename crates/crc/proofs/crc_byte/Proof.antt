@@ -1,0 +1,43 @@
+-- `crc::crc_byte` meets its contract. The loop's invariant: the bits that are left lead from x to the answer. Assumes nothing.
+use Prim.Native.Nat.{_≤_, _-_}
+use mathlib.Core.Path.{_≡_, refl, sym, _∙_}
+use borrow.Author.Needs.{needs}
+use native.Mathlib.Omega.{arith}
+use Rattle.crc.specs.Crc.{shifts, crcByte}
+use Rattle.crc.specs.CrcLaws.{shifts-next, shifts-done}
+use Rattle.crc.proofs.crc_byte.Statement.{statement}
+use Rattle.crc.proofs.crc_byte.Tie as tie
+
+abbrev Inv-loop : tie.InvT-loop
+Inv-loop c b x₀ i₀ x i = (i ≤ 8) × (shifts (8 - i) x ≡ crcByte c b)
+
+abbrev μ-loop : tie.MeasureT-loop
+μ-loop c b x₀ i₀ x i = 8 - i
+
+loop-holds : tie.Need-loop-holds Inv-loop μ-loop
+unfolding crcByte
+loop-holds c = (omega arith, refl)
+
+shift-one-requires : tie.Need-shift-one-requires Inv-loop μ-loop
+shift-one-requires c κs = search needs
+
+add-i : tie.Need-add-i Inv-loop μ-loop
+add-i c = omega arith
+
+loop-less : tie.Need-loop-less Inv-loop μ-loop
+loop-less c = omega arith
+
+loop-again : tie.Need-loop-again Inv-loop μ-loop
+loop-again c =
+    let l = c .before .before .loop in
+    (omega arith, rw (c .shift-one .ensures) (sym (shifts-next 8 (l .i) (l .x) (omega arith)) ∙ l .inv .1))
+
+returns : tie.Need-returns Inv-loop μ-loop
+returns c =
+    let l = c .before .loop in
+    sym (shifts-done 8 (l .i) (l .x) (omega arith)) ∙ l .inv .1
+
+pub crc-byte-spec : {M : Type 1} → statement M
+crc-byte-spec =
+    tie.close
+    (tie.spec Inv-loop μ-loop loop-holds shift-one-requires add-i loop-less loop-again returns)
