@@ -1,0 +1,82 @@
+-- Laws for the loops over the bytes of a frame: one turn, and the end. Assumes nothing.
+use mathlib.Core.Path.{_≡_, refl, sym, ap, _∙_}
+use mathlib.Core.Bool.{Bool, true, false, not, _&&_, _||_}
+use mathlib.Core.List.{List, [], _∷_, _++_, append-assoc, append-nil}
+use Prim.Native.Nat.{ℕ, zero, suc, _+_, _*_, _-_, _≤_, _<_}
+use native.Mathlib.Numerals.{add-one}
+use native.Mathlib.Nat.{zero-add}
+use native.Mathlib.Omega.{arith}
+use lib.ListN.{length, take, drop, getD, set, length-append, length-drop}
+use lib.Seq.{take-suc, length-take-le, drop-drop, getD-drop}
+use lib.Dec.{eqb}
+use Rattle.rows.specs.Rows.{overlay, clean}
+use Rattle.rows.specs.RowLaws.{overlay-next, overlay-set}
+use Rattle.parity.specs.Bits.{bitsOf, unbits, odd}
+use Rattle.crc.specs.Crc.{crcBytes, withCrc}
+use Rattle.crc.specs.CrcLaws.{length-crc}
+use Rattle.frame.specs.Frame.{airByte, standard, dataOf, bytesOf, faulty}
+use Rattle.frame.specs.FrameLaws.{length-airByte, length-standard, standard-append, length-bytesOf, bytes-first}
+
+-- ---- writing
+
+-- one byte more
+standard-next : (l : List ℕ) (i : ℕ) → i < length l → standard (take (suc i) l) ≡ standard (take i l) ++ airByte (getD l i 0)
+unfolding standard
+standard-next l i h = rw (take-suc l i 0, standard-append, append-nil)
+
+pub standard-turn : (d : List ℕ) (at : ℕ) (l : List ℕ) (i : ℕ) → at + 9 * length l ≤ length d → i < length l
+    → overlay (overlay d at (standard (take i l))) (at + 9 * i) (airByte (getD l i 0)) ≡ overlay d at (standard (take (i + 1) l))
+standard-turn d at l i h k =
+    let e : length (standard (take i l)) ≡ 9 * i = length-standard (take i l) ∙ ap (λ (n : ℕ). 9 * n) (length-take-le i l (omega arith)) in
+    rw (add-one, standard-next l i k, ← e)
+    (overlay-next d at (standard (take i l)) (airByte (getD l i 0)) (omega (arith, e, length-airByte (getD l i 0))))
+
+-- CRC_A behind the bytes
+pub standard-crc : (d l k : List ℕ) → k ≡ crcBytes l → 9 * (length l + 2) ≤ length d
+    → overlay (overlay d 0 (standard l)) (9 * length l) (standard k) ≡ overlay d 0 (standard (withCrc l))
+unfolding withCrc
+standard-crc d l k e h =
+    rw (e, standard-append, ← length-standard l)
+    (rw zero-add at (overlay-next d 0 (standard l) (standard (crcBytes l)) (omega (arith, length-standard l, length-standard (crcBytes l), length-crc l))))
+
+-- ---- parity
+
+pub faulty-next : (k i : ℕ) (r : List ℕ) (at : ℕ) → i < k
+    → (clean (take 8 (drop (at + 9 * i) r)) && not (eqb (getD r (at + 9 * i + 8) 0) (odd (take 8 (drop (at + 9 * i) r))))) ≡ false
+    → faulty (k - i) (drop (at + 9 * i) r) ≡ faulty (k - (i + 1)) (drop (at + 9 * (i + 1)) r)
+unfolding faulty
+faulty-next k i r at h w =
+    let e : k - i ≡ suc (k - (i + 1)) = omega arith in
+    let f : at + 9 * (i + 1) ≡ at + 9 * i + 9 = omega arith in
+    rw (e, f, ← drop-drop 9 (at + 9 * i) r, getD-drop (at + 9 * i) r 8 0) (rw w)
+
+pub faulty-here : (k i : ℕ) (r : List ℕ) (at : ℕ) → i < k
+    → (clean (take 8 (drop (at + 9 * i) r)) && not (eqb (getD r (at + 9 * i + 8) 0) (odd (take 8 (drop (at + 9 * i) r))))) ≡ true
+    → faulty (k - i) (drop (at + 9 * i) r) ≡ true
+unfolding faulty
+faulty-here k i r at h w =
+    let e : k - i ≡ suc (k - (i + 1)) = omega arith in
+    rw (e, getD-drop (at + 9 * i) r 8 0) (rw w)
+
+pub faulty-done : (k i : ℕ) (r : List ℕ) → k ≤ i → faulty (k - i) r ≡ false
+unfolding faulty
+faulty-done k i r h = let e : k - i ≡ 0 = omega arith in rw e
+
+-- ---- reading
+
+-- one byte more, at the end
+bytes-last : (n : ℕ) (r : List ℕ) → 9 * suc n ≤ length r
+    → bytesOf (suc n) (dataOf (suc n) r) ≡ bytesOf n (dataOf n r) ++ (unbits (take 8 (drop (9 * n) r)) ∷ [])
+bytes-last zero r h = unfold bytesOf dataOf in bytes-first zero r (omega arith)
+bytes-last (suc n) r h =
+    let e : 9 * suc n ≡ 9 + 9 * n = omega arith in
+    rw (bytes-first (suc n) r (omega arith), bytes-first n r (omega arith), e, ← drop-drop (9 * n) 9 r)
+    (ap (λ (l : List ℕ). unbits (take 8 r) ∷ l) (bytes-last n (drop 9 r) (rw length-drop (omega arith))))
+
+pub bytes-turn : (d r : List ℕ) (i : ℕ) → i < length d → 9 * (i + 1) ≤ length r
+    → set (overlay d 0 (bytesOf i (dataOf i r))) i (unbits (take 8 (drop (9 * i) r))) ≡ overlay d 0 (bytesOf (i + 1) (dataOf (i + 1) r))
+bytes-turn d r i h k =
+    let l : List ℕ = bytesOf i (dataOf i r) in
+    let e : length l ≡ i = length-bytesOf i (dataOf i r) in
+    rw (add-one, bytes-last i r (omega arith))
+    (rw (zero-add, e) at (overlay-set d 0 l (unbits (take 8 (drop (9 * i) r))) (rw (zero-add, e) h)))
