@@ -1,18 +1,19 @@
--- The calls of this crate: a UID from bytes.
+-- The calls of this crate: a UID from bytes, and its on-air row written into a lent row.
 use Prim.Native.Nat.{ℕ}
-use mathlib.Core.Bool.{cond, _&&_, not}
+use mathlib.Core.Bool.{cond}
 use mathlib.Core.List.{List, []}
-use lib.ListN.{length, replicate}
-use lib.Dec.{eqb}
-use Rattle.rows.specs.Rows.{fill}
-use Rattle.uid.specs.Uid.{valid}
-use Rattle.refusal.specs.declared.Refusal.the-variants.{Argument}
+use lib.ListN.{length}
+use lib.Dec.{eqb, ltb}
+use Rattle.rows.specs.Rows.{fill, overlay}
+use Rattle.uid.specs.Uid.{valid, rowOf}
+use Rattle.refusal.specs.declared.Refusal.the-variants.{Argument, Room}
 use Rattle.uid.specs.declared.Uid.{Uid}
 use Rattle.uid.specs.declared.UidSize.{UidSize}
 use Rattle.uid.specs.declared.UidSize.the-variants.{Single, Double, Triple}
-use Rattle.uid.specs.declared.Made.{Made}
 use Rattle.uid.specs.declared.Made.the-variants.{Good, NotMade}
 use Rattle.uid.specs.declared.NewUid.{NewUid}
+use Rattle.uid.specs.declared.AirRow.{AirRow}
+use Rattle.uid.specs.declared.AirRow.the-variants.{Bits, NoRoom}
 
 -- bytes as a UID of a size, zeros behind
 abbrev pub sized : UidSize → List ℕ → Uid
@@ -32,3 +33,15 @@ newUid l =
     (cond (eqb (length l) 7) (checked (sized Double l))
     (cond (eqb (length l) 10) (checked (sized Triple l))
     refusedUid))
+
+-- the on-air row into a lent row, which has room for the longest: 1 where it is shorter
+abbrev pub airRoom : ℕ
+airRoom = 120
+
+unfoldable pub airRow : ℕ → Uid → AirRow
+airRow room u = cond (ltb room airRoom) (NoRoom Room) (Bits (length (rowOf u)))
+
+-- the lent row afterwards: the on-air row at its front, or unchanged
+abbrev pub airRowAfter : AirRow → Uid → List ℕ → List ℕ
+airRowAfter (Bits n) u out = overlay out 0 (rowOf u)
+airRowAfter (NoRoom e) u out = out
