@@ -1,7 +1,7 @@
 // The script language's lines and words.
 ghost use mathlib.Core.Path.{_≡_};
 ghost use Prim.Native.Nat.{ℕ};
-ghost use lib.ListN.{length};
+ghost use lib.ListN.{length, take};
 ghost use Rattle.bench.specs.Lines.{noLine, fed, fedBytes};
 ghost use Rattle.bench.specs.Words.{wordAt, withoutReturn, kindOf};
 
@@ -105,4 +105,14 @@ pub fn word(text: &[u8], k: usize) -> &[u8]
     let start = within::skip(text, at);
     let end = within::stop(text, start);
     &text[start..end]
+}
+
+// The first n bytes of a slice; all of it where it has no more.
+pub fn front(s: &[u8], n: usize) -> &[u8]
+    ensures { λ r. ⌜ now r ≡ take n (now (s .entry)) ⌝ }
+{
+    if s.len() <= n {
+        return s;
+    }
+    &s[..n]
 }
