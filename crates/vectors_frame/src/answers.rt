@@ -85,7 +85,7 @@ fn levels(u: uid::Uid, out: &mut [u8]) -> usize {
     on_air(u, out, c)
 }
 
-fn spaced_hex(out: &mut [u8], at: usize, bytes: &[u8]) -> usize {
+fn spaced_hex(out: &mut [u8], at: usize, bytes: &[u8; 5]) -> usize {
     let p = bench_text::put(out, at, b" ");
     bench_text::put_hex(out, p, bytes)
 }
