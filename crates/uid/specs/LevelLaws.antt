@@ -1,4 +1,3 @@
-<<<<<<< HEAD
 -- Rows of one to three levels of 40 bits, and what makes levels valid: then no row is the head of another's. Assumes nothing.
 use mathlib.Core.Path.{_≡_, sym, ap, _∙_, refl, ap₂}
 use mathlib.Core.Logic.{_≢_}
@@ -8,14 +7,6 @@ use mathlib.Core.Option.{some}
 use mathlib.Core.List.{List, [], _∷_, _++_, append-assoc}
 use lib.ListN.{length, take, getD, length-append, drop, length-drop}
 use lib.Seq.{take-at, drop-append-add, drop-at, take-all, take-append-le, drop-append-le}
-=======
--- Laws of a UID's levels. Assumes nothing.
-use mathlib.Core.Path.{_≡_}
-use Prim.Native.Nat.{ℕ, suc, _+_, _≤_, _<_}
-use mathlib.Core.List.{List, [], _∷_}
-use lib.ListN.{length, take, drop, getD}
-use lib.Seq.{drop-cons}
->>>>>>> 36b4e6167f68d762061d667e643252b1c0f04ec1
 use native.Mathlib.Omega.{arith}
 use Rattle.rows.specs.EachLaws.{parts-equal}
 use Rattle.rows.specs.ListLaws.{all-append}

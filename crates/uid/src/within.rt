@@ -61,32 +61,6 @@ pub fn checked(u: Uid) -> NewUid
     refused_uid()
 }
 
-<<<<<<< HEAD
-// A byte's bits in air order.
-pub fn byte_bits(b: u8) -> [u8; 8]
-    ensures { λ r. ⌜ r ≡ bitsOf 8 b ⌝ }
-{
-    let x1 = b / 2;
-    let x2 = x1 / 2;
-    let x3 = x2 / 2;
-    let x4 = x3 / 2;
-    let x5 = x4 / 2;
-    let x6 = x5 / 2;
-    let x7 = x6 / 2;
-    [
-        b % 2,
-        x1 % 2,
-        x2 % 2,
-        x3 % 2,
-        x4 % 2,
-        x5 % 2,
-        x6 % 2,
-        x7 % 2,
-    ]
-}
-
-=======
->>>>>>> 36b4e6167f68d762061d667e643252b1c0f04ec1
 // A level in air order, parity left out, written into out from index at on.
 pub fn put_level(out: &mut [u8], at: usize, five: [u8; 5])
     requires { ⌜ at + 40 ≤ length (now out) ⌝ }

@@ -57,11 +57,7 @@ loop-again c =
       omega arith,
       omega arith,
       omega (arith, p .kept .0),
-<<<<<<< HEAD
-      rw (p .ensures, b .byte-bits .ensures, l .inv .3) (bits-turn (now (a .out)) (a .at) (a .t3) (l .i) (omega arith) (omega arith)),
-=======
       rw (p .ensures, b .bits-of .ensures, l .inv .3) (bits-turn (now (a .out)) (a .at) (a .t3) (l .i) (omega arith) (omega arith)),
->>>>>>> 36b4e6167f68d762061d667e643252b1c0f04ec1
     )
 
 same-length : tie.Need-same-length Inv-loop μ-loop
