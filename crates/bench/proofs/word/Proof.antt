@@ -40,8 +40,7 @@ loop-less c = omega arith
 loop-again : tie.Need-loop-again Inv-loop μ-loop
 loop-again c =
     let l = c .before .before .loop in
-    let a = c .before .before .before .before .args in
-    (
+    let a = c .before .before .before .before .args in (
       omega arith,
       c .after-word .ensures .0,
       rw (c .after-word .ensures .1) (sym (word-next (a .k) (l .i) (drop (l .at) (now (a .text))) (omega arith)) ∙ l .inv .2),

@@ -11,7 +11,7 @@ use Rattle.bench.proofs.within.first.Lts as lts
 
 -- src/within.rt:12:9
 returns : tie.Need-returns
-returns c =     sym (ap (λ l. getD l 0 0) (is-nil (now (c .before .args .text)) (c .if1 .taken)))
+returns c = sym (ap (λ l. getD l 0 0) (is-nil (now (c .before .args .text)) (c .if1 .taken)))
 
 -- src/within.rt:14:5
 shared-slice-read-result : tie.Need-shared-slice-read-result

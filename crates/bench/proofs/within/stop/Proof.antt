@@ -35,7 +35,7 @@ returns c =
       low = omega arith;
       high = omega arith;
       rest = sym (run-here t (l .i) (omega arith) (c .if1 .taken)) ∙ l .inv .2;
-      run = rw (letters-here t (l .i) (omega arith) (c .if1 .taken), append-nil) at (l .inv .3)
+      run = rw (letters-here t (l .i) (omega arith) (c .if1 .taken), append-nil) at (l .inv .3);
     }
 
 -- src/within.rt:35:9
@@ -51,8 +51,7 @@ loop-again : tie.Need-loop-again Inv-loop μ-loop
 loop-again c =
     let l = c .before .before .before .loop in
     let a = c .before .before .before .before .args in
-    let t = now (a .text) in
-    (
+    let t = now (a .text) in (
       omega arith,
       omega arith,
       sym (run-next t (l .i) (omega arith) (c .if1 .left)) ∙ l .inv .2,
@@ -69,7 +68,7 @@ returns-2 c =
       low = omega arith;
       high = omega arith;
       rest = rw e at (sym (run-done t (l .i) (omega arith)) ∙ l .inv .2);
-      run = rw e at (rw (letters-done t (l .i) (omega arith), append-nil) at (l .inv .3))
+      run = rw e at (rw (letters-done t (l .i) (omega arith), append-nil) at (l .inv .3));
     }
 
 pub stop-spec : {M : Type 1} → statement M

@@ -65,8 +65,7 @@ loop-again : tie.Need-loop-again Inv-loop μ-loop
 loop-again c =
     let l = c .before .before .before .before .loop in
     let a = c .before .before .before .before .before .before .before .args in
-    let w = now (a .word) in
-    (
+    let w = now (a .word) in (
       omega arith,
       refl,
       simp length-set (omega arith),

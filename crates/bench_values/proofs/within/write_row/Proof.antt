@@ -49,8 +49,7 @@ loop-again : tie.Need-loop-again Inv-loop μ-loop
 loop-again c =
     let l = c .before .before .before .loop in
     let a = c .before .before .before .before .before .before .args in
-    let w = now (a .word) in
-    (
+    let w = now (a .word) in (
       omega arith,
       simp length-set (omega arith),
       rw (c .bit-value .ensures, ← row-at w (l .i) (omega arith), l .inv .2) (copy-front (now (a .out)) (rowBits w) (l .i) (omega arith) (omega (arith, length-rowBits w))),
