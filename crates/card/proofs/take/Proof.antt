@@ -1,0 +1,25 @@
+use borrow.Author.Needs.{needs}
+use Rattle.card.proofs.take.Statement.{statement}
+use Rattle.card.proofs.take.Tie as tie
+use Rattle.card.proofs.take.Reads as reads
+use Rattle.card.proofs.take.Lts as lts
+use Rattle.card.proofs.within.take_rules.Reads as take-rules-reads
+
+-- src/lib.rt:131:9
+returns : tie.Need-returns
+returns c = ?
+
+-- src/lib.rt:136:5
+take-rules-requires : tie.Need-take-rules-requires
+take-rules-requires c κs = search needs
+
+-- src/lib.rt:126:1
+same-length : tie.Need-same-length
+same-length c = search needs
+
+-- src/lib.rt:126:1
+returns-2 : tie.Need-returns-2
+returns-2 c = ?
+
+pub take-spec : {M : Type 1} → statement M
+take-spec = tie.close (tie.spec returns take-rules-requires same-length returns-2)
