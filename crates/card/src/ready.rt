@@ -1,13 +1,12 @@
 // A card in Ready: ANTICOLLISION and SELECT of its level.
 ghost use mathlib.Core.Path.{_≡_};
-ghost use mathlib.Core.Bool.{_&&_};
 ghost use Prim.Native.Nat.{_-_, _/_, _≤_, _<_};
-ghost use lib.Dec.{ltb};
 ghost use lib.ListN.{length};
-ghost use Rattle.rows.specs.Rows.{overlay, same};
-ghost use Rattle.selection.specs.Selection.{anticollision, others, sakFrame};
+ghost use Rattle.rows.specs.Rows.{overlay};
+ghost use Rattle.selection.specs.Selection.{others, sakFrame};
 ghost use Rattle.card.specs.declared.CardState.the-variants.{Ready};
-ghost use Rattle.card.specs.Card.{bitsSent, remain, sak, chosen, up, ready, rules};
+ghost use Rattle.card.specs.Card.{remain, sak, chosen, up, ready, rules};
+ghost use Rattle.card.specs.ReadyLaws.{matching};
 ghost use Rattle.card.specs.Calls.{taken};
 use crate::Card;
 use crate::CardState;
@@ -66,7 +65,7 @@ fn bits_sent(n: usize) -> usize
 
 // Is it an ANTICOLLISION of level l, whose bytes are five, that matches?
 fn is_matching(row: &[u8], l: Level, five: [u8; 5]) -> bool
-    ensures { λ r. ⌜ r ≡ (ltb (bitsSent (now (row .entry))) 40 && same (now (row .entry)) (anticollision l (bitsSent (now (row .entry))) five)) ⌝ }
+    ensures { λ r. ⌜ r ≡ matching l five (now (row .entry)) ⌝ }
 {
     let k = bits_sent(row.len());
     if k < 40 {

@@ -1,3 +1,5 @@
+use borrow.Author.Tests.{lt-ltb, le-ltb}
+use Rattle.card.specs.Calls.{newCard}
 use borrow.Author.Needs.{needs}
 use Rattle.card.proofs.new_card.Statement.{statement}
 use Rattle.card.proofs.new_card.Tie as tie
@@ -12,7 +14,8 @@ refused-card-requires c κs = search needs
 
 -- src/lib.rt:78:9
 returns : tie.Need-returns
-returns c = ?
+unfolding newCard
+returns c = rw (lt-ltb _ _ (c .before .if1 .taken), c .refused-card .ensures)
 
 -- src/lib.rt:80:9
 new-uid-requires : tie.Need-new-uid-requires
@@ -32,11 +35,13 @@ refused-card-requires-2 c κs = search needs
 
 -- src/lib.rt:74:1
 returns-2 : tie.Need-returns-2
-returns-2 c = ?
+unfolding newCard
+returns-2 c = rw (le-ltb _ _ (c .before .before .before .before .if1 .left), ← c .before .before .before .new-uid .ensures, c .enum-told .given .1)
 
 -- src/lib.rt:74:1
 returns-3 : tie.Need-returns-3
-returns-3 c = ?
+unfolding newCard
+returns-3 c = rw (le-ltb _ _ (c .before .before .before .before .before .if1 .left), ← c .before .before .before .before .new-uid .ensures, c .before .enum-told2 .given .1, c .refused-card2 .ensures)
 
 pub new-card-spec : {M : Type 1} → statement M
 new-card-spec =

@@ -1,3 +1,5 @@
+use mathlib.Core.Path.{ap, _∙_}
+use Rattle.card.specs.Card.{withState}
 use borrow.Author.Needs.{needs}
 use Rattle.card.proofs.power_on.Statement.{statement}
 use Rattle.card.proofs.power_on.Tie as tie
@@ -16,7 +18,7 @@ with-state-requires c κs = search needs
 
 -- src/lib.rt:111:1
 returns : tie.Need-returns
-returns c = ?
+returns c = c .with-state .ensures ∙ ap (withState (c .before .before .args .c)) (c .before .powered .ensures)
 
 pub power-on-spec : {M : Type 1} → statement M
 power-on-spec = tie.close (tie.spec powered-requires with-state-requires returns)

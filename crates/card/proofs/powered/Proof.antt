@@ -38,7 +38,7 @@ returns-2 c = search needs
 
 -- src/lib.rt:97:1
 returns-3 : tie.Need-returns-3
-returns-3 c = ?
+returns-3 c = rw (c .before .s .given .1)
 
 -- src/lib.rt:97:1
 returns-4 : tie.Need-returns-4
@@ -50,7 +50,7 @@ returns-5 c = search needs
 
 -- src/lib.rt:97:1
 returns-6 : tie.Need-returns-6
-returns-6 c = ?
+returns-6 c = rw (c .before .s2 .given .1)
 
 pub powered-spec : {M : Type 1} → statement M
 powered-spec =

@@ -1,3 +1,6 @@
+use mathlib.Core.Path.{_∙_}
+use denote.Ref.{now}
+use Rattle.card.specs.TakenLaws.{sends-none, sends-some}
 use borrow.Author.Needs.{needs}
 use Rattle.card.proofs.answer.send.Statement.{statement}
 use Rattle.card.proofs.answer.send.Tie as tie
@@ -21,7 +24,9 @@ same-length c = search needs
 
 -- src/answer.rt:45:9
 returns : tie.Need-returns
-returns c = ?
+returns c =
+    let a = c .before .before .before .before .before .before .before .before .args in
+    (c .silent .ensures ∙ sends-none (a .c) (a .s) (now (a .row)) (c .before .if1 .taken), c .before .before .before .before .put .ensures)
 
 -- src/answer.rt:47:9
 with-state-requires : tie.Need-with-state-requires
@@ -33,7 +38,9 @@ same-length-2 c = search needs
 
 -- src/answer.rt:38:1
 returns-2 : tie.Need-returns-2
-returns-2 c = ?
+returns-2 c =
+    let a = c .before .before .before .before .before .before .before .before .args in
+    (sends-some (a .c) _ (a .s) (now (a .row)) (c .with-state .ensures) (c .before .if1 .left), c .before .before .before .before .put .ensures)
 
 pub send-spec : {M : Type 1} → statement M
 send-spec =

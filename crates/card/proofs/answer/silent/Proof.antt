@@ -11,7 +11,7 @@ with-state-requires c κs = search needs
 
 -- src/answer.rt:27:1
 returns : tie.Need-returns
-returns c = ?
+returns c = rw (c .with-state .ensures)
 
 pub silent-spec : {M : Type 1} → statement M
 silent-spec = tie.close (tie.spec with-state-requires returns)

@@ -1,3 +1,11 @@
+use mathlib.Core.Path.{_≡_, sym, ap, _∙_}
+use Prim.Native.Nat.{_%_}
+use native.Mathlib.Omega.{arith}
+use denote.Ref.{now}
+use Rattle.rows.specs.Rows.{same}
+use Rattle.selection.specs.Selection.{rats}
+use Rattle.card.specs.Card.{fsdi}
+use Rattle.card.specs.RatsLaws.{not-rats, not-fsdi}
 use borrow.Author.Needs.{needs}
 use Rattle.card.proofs.rats.is_rats.Statement.{statement}
 use Rattle.card.proofs.rats.is_rats.Tie as tie
@@ -9,7 +17,7 @@ use Rattle.selection.proofs.sent.rats.Reads as rats-reads
 
 -- src/rats.rt:21:9
 returns : tie.Need-returns
-returns c = ?
+returns c = sym (not-rats (now (c .before .before .args .row)) (c .if1 .taken))
 
 -- src/rats.rt:23:9
 fsdi-requires : tie.Need-fsdi-requires
@@ -17,7 +25,7 @@ fsdi-requires c κs = search needs
 
 -- src/rats.rt:25:9
 returns-2 : tie.Need-returns-2
-returns-2 c = ?
+returns-2 c = sym (not-fsdi (now (c .before .before .before .before .args .row)) (omega (arith, c .before .fsdi .ensures)))
 
 -- src/rats.rt:27:38
 cast-rats : tie.Need-cast-rats
@@ -37,7 +45,10 @@ is-same-requires c κs = search needs
 
 -- src/rats.rt:17:1
 returns-3 : tie.Need-returns-3
-returns-3 c = ?
+returns-3 c =
+    let f = now (c .before .before .before .before .before .before .before .args .row) in
+    let e : c .before .before .before .before .fsdi .result % 16 ≡ fsdi f = omega (arith, c .before .before .before .before .fsdi .ensures) in
+    c .is-same .ensures ∙ ap (same f) (c .before .before .rats .ensures ∙ ap rats e)
 
 pub is-rats-spec : {M : Type 1} → statement M
 is-rats-spec =

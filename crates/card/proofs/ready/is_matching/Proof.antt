@@ -1,3 +1,6 @@
+use mathlib.Core.Path.{_∙_}
+use denote.Ref.{now}
+use Rattle.card.specs.ReadyLaws.{match-told, match-none}
 use borrow.Author.Needs.{needs}
 use Rattle.card.proofs.ready.is_matching.Statement.{statement}
 use Rattle.card.proofs.ready.is_matching.Tie as tie
@@ -20,11 +23,11 @@ is-anticollision-requires c κs = search needs
 
 -- src/ready.rt:73:9
 returns : tie.Need-returns
-returns c = ?
+returns c = c .is-anticollision .ensures ∙ match-told (c .before .before .before .before .args .l) (c .before .before .before .before .args .five) (now (c .before .before .before .before .args .row)) _ (c .before .before .bits-sent .ensures) (c .before .if1 .taken)
 
 -- src/ready.rt:68:1
 returns-2 : tie.Need-returns-2
-returns-2 c = ?
+returns-2 c = match-none (c .before .before .before .args .l) (c .before .before .before .args .five) (now (c .before .before .before .args .row)) _ (c .before .bits-sent .ensures) (c .if1 .left)
 
 pub is-matching-spec : {M : Type 1} → statement M
 is-matching-spec =

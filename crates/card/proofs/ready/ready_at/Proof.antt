@@ -1,3 +1,11 @@
+use mathlib.Core.Path.{refl, ap, _∙_}
+use mathlib.Core.Bool.{true, false}
+use native.Mathlib.Omega.{arith}
+use denote.Ref.{now}
+use Rattle.selection.specs.Selection.{others}
+use Rattle.card.specs.declared.CardState.the-variants.{Ready}
+use Rattle.card.specs.ReadyLaws.{match-few, ready-step}
+use Rattle.card.specs.TakenLaws.{handed, unmoved, told}
 use borrow.Author.Needs.{needs}
 use Rattle.card.proofs.ready.ready_at.Statement.{statement}
 use Rattle.card.proofs.ready.ready_at.Tie as tie
@@ -21,11 +29,15 @@ bits-sent-requires c κs = search needs
 
 -- src/ready.rt:107:32
 cast-send-rest : tie.Need-cast-send-rest
-cast-send-rest c = ?
+cast-send-rest c =
+    let a = c .before .before .before .before .before .args in
+    omega (arith, match-few (a .l) (a .five) (now (a .row)) _ (c .bits-sent .ensures) _ (c .before .before .is-matching .ensures) (c .before .if1 .taken))
 
 -- src/ready.rt:107:9
 send-rest-requires : tie.Need-send-rest-requires
-send-rest-requires c κs = ?
+send-rest-requires c κs =
+    let a = c .before .before .before .before .before .before .args in
+    (match-few (a .l) (a .five) (now (a .row)) _ (c .before .bits-sent .ensures) _ (c .before .before .before .is-matching .ensures) (c .before .before .if1 .taken), search needs)
 
 -- src/ready.rt:107:9
 same-length : tie.Need-same-length
@@ -33,7 +45,10 @@ same-length c = search needs
 
 -- src/ready.rt:107:9
 returns : tie.Need-returns
-returns c = ?
+returns c =
+    let a = c .before .before .before .before .before .before .before .before .before .args in
+    let e = ready-step (a .c) (a .l) (a .five) (now (a .row)) true _ (c .before .before .before .before .before .before .is-matching .ensures) (c .before .before .before .before .before .if1 .taken) refl in
+    handed (a .c) (now (a .out)) (ap (λ k. (Ready (a .l), others k (a .five))) (c .before .before .before .before .bits-sent .ensures) ∙ e) (c .before .before .send-rest .ensures)
 
 -- src/ready.rt:109:18
 select-requires : tie.Need-select-requires
@@ -57,7 +72,11 @@ same-length-2 c = search needs
 
 -- src/ready.rt:111:9
 returns-2 : tie.Need-returns-2
-returns-2 c = ?
+returns-2 c =
+    let a = c .before .before .before .before .before .before .before .before .before .before .before .before .args in
+    let s = told (now (a .row)) (c .before .before .before .before .before .is-same .ensures) (c .before .before .before .before .before .before .before .select .ensures) (c .before .before .before .before .if2 .taken) in
+    let e = ready-step (a .c) (a .l) (a .five) (now (a .row)) false true (c .before .before .before .before .before .before .before .before .before .is-matching .ensures) (c .before .before .before .before .before .before .before .before .if1 .left) s in
+    handed (a .c) (now (a .out)) e (c .before .before .send-sak .ensures)
 
 -- src/ready.rt:113:5
 silent-requires : tie.Need-silent-requires
@@ -65,7 +84,11 @@ silent-requires c κs = search needs
 
 -- src/ready.rt:100:1
 returns-3 : tie.Need-returns-3
-returns-3 c = ?
+returns-3 c =
+    let a = c .before .before .before .before .before .before .before .before .before .args in
+    let s = told (now (a .row)) (c .before .before .is-same .ensures) (c .before .before .before .before .select .ensures) (c .before .if2 .left) in
+    let e = ready-step (a .c) (a .l) (a .five) (now (a .row)) false false (c .before .before .before .before .before .before .is-matching .ensures) (c .before .before .before .before .before .if1 .left) s in
+    unmoved (a .c) (now (a .out)) e (c .silent .ensures)
 
 pub ready-at-spec : {M : Type 1} → statement M
 ready-at-spec =

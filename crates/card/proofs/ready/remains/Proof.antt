@@ -1,3 +1,5 @@
+use native.Mathlib.Omega.{arith}
+use Rattle.card.specs.ReadyLaws.{place-most, remain-is}
 use borrow.Author.Needs.{needs}
 use Rattle.card.proofs.ready.remains.Statement.{statement}
 use Rattle.card.proofs.ready.remains.Tie as tie
@@ -12,7 +14,7 @@ place-requires c κs = search needs
 
 -- src/ready.rt:23:5
 add-result : tie.Need-add-result
-add-result c = ?
+add-result c = omega (arith, c .place .ensures, place-most (c .before .before .args .l))
 
 -- src/ready.rt:23:40
 level-count-requires : tie.Need-level-count-requires
@@ -20,7 +22,7 @@ level-count-requires c κs = search needs
 
 -- src/ready.rt:18:1
 returns : tie.Need-returns
-returns c = ?
+returns c = remain-is (c .before .before .before .args .c) (c .before .before .before .args .l) _ _ (c .before .place .ensures) (c .level-count .ensures)
 
 pub remains-spec : {M : Type 1} → statement M
 remains-spec = tie.close (tie.spec place-requires add-result level-count-requires returns)

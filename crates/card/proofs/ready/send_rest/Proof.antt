@@ -1,3 +1,8 @@
+use mathlib.Core.Path.{ap}
+use denote.Ref.{now}
+use Rattle.card.specs.declared.CardState.the-variants.{Ready}
+use Rattle.card.specs.ReadyLaws.{rest-made}
+use Rattle.card.specs.TakenLaws.{handed}
 use borrow.Author.Needs.{needs}
 use Rattle.card.proofs.ready.send_rest.Statement.{statement}
 use Rattle.card.proofs.ready.send_rest.Tie as tie
@@ -37,7 +42,9 @@ same-length c = search needs
 
 -- src/ready.rt:79:1
 returns : tie.Need-returns
-returns c = ?
+returns c =
+    let a = c .before .before .before .before .before .before .before .before .before .args in
+    handed (a .c) (now (a .out)) (ap (λ r. (Ready (a .l), r)) (rest-made (a .k) _ (a .five) _ (c .before .before .before .before .before .before .before .before .before .pre .0) (search needs) (c .before .before .before .before .before .before .cut .ensures) (c .before .before .before .before .before .before .before .level-row .ensures))) (c .before .before .send .ensures)
 
 pub send-rest-spec : {M : Type 1} → statement M
 send-rest-spec =

@@ -1,3 +1,7 @@
+use mathlib.Core.Path.{ap, ap₂, _∙_}
+use denote.Ref.{now}
+use Rattle.selection.specs.Selection.{sakFrame}
+use Rattle.card.specs.TakenLaws.{handed}
 use borrow.Author.Needs.{needs}
 use Rattle.card.proofs.ready.send_sak.Statement.{statement}
 use Rattle.card.proofs.ready.send_sak.Tie as tie
@@ -34,7 +38,9 @@ same-length c = search needs
 
 -- src/ready.rt:90:1
 returns : tie.Need-returns
-returns c = ?
+returns c =
+    let a = c .before .before .before .before .before .before .before .before .before .args in
+    handed (a .c) (now (a .out)) (ap₂ (λ s r. (s, r)) (c .before .before .before .before .before .chosen .ensures) (c .before .before .before .before .before .before .sak-frame .ensures ∙ ap sakFrame (c .before .before .before .before .before .before .before .sak-of .ensures))) (c .before .before .send .ensures)
 
 pub send-sak-spec : {M : Type 1} → statement M
 send-sak-spec =

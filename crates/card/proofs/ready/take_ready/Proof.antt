@@ -1,3 +1,8 @@
+use native.Mathlib.Omega.{arith}
+use denote.Ref.{now}
+use Rattle.uid.specs.BytesAtLaws.{levels-most}
+use Rattle.card.specs.ReadyLaws.{place-most, level-step, level-none}
+use Rattle.card.specs.TakenLaws.{handed, unmoved}
 use borrow.Author.Needs.{needs}
 use Rattle.card.proofs.ready.take_ready.Statement.{statement}
 use Rattle.card.proofs.ready.take_ready.Tie as tie
@@ -23,11 +28,11 @@ levels-requires c κs = search needs
 
 -- src/ready.rt:126:20
 mul-five : tie.Need-mul-five
-mul-five c = ?
+mul-five c = omega (arith, c .before .before .before .place .ensures, place-most (c .before .before .before .before .before .before .before .args .l))
 
 -- src/ready.rt:126:20
 array-copy-out-five : tie.Need-array-copy-out-five
-array-copy-out-five c = ?
+array-copy-out-five c = omega (arith, c .before .before .before .place .ensures, place-most (c .before .before .before .before .before .before .before .args .l))
 
 -- src/ready.rt:127:9
 ready-at-requires : tie.Need-ready-at-requires
@@ -39,7 +44,9 @@ same-length c = search needs
 
 -- src/ready.rt:127:9
 returns : tie.Need-returns
-returns c = ?
+returns c =
+    let a = c .before .before .before .before .before .before .before .before .before .before .before .before .args in
+    handed (a .c) (now (a .out)) (level-step (a .c) (a .l) (now (a .row)) _ _ (c .before .before .before .before .before .before .before .before .place .ensures) (c .before .before .before .before .before .before .before .level-count .ensures) _ (c .before .before .before .before .before .levels .ensures) (c .before .before .before .before .before .before .if1 .taken)) (c .before .before .ready-at .ensures)
 
 -- src/ready.rt:129:5
 silent-requires : tie.Need-silent-requires
@@ -47,7 +54,9 @@ silent-requires c κs = search needs
 
 -- src/ready.rt:116:1
 returns-2 : tie.Need-returns-2
-returns-2 c = ?
+returns-2 c =
+    let a = c .before .before .before .before .before .before .before .args in
+    unmoved (a .c) (now (a .out)) (level-none (a .c) (a .l) (now (a .row)) _ _ (c .before .before .before .place .ensures) (c .before .before .level-count .ensures) (c .before .if1 .left)) (c .silent .ensures)
 
 pub take-ready-spec : {M : Type 1} → statement M
 take-ready-spec =

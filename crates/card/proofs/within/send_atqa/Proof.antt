@@ -1,3 +1,8 @@
+use mathlib.Core.Path.{ap}
+use denote.Ref.{now}
+use Rattle.uid.specs.declared.Level.the-variants.{One}
+use Rattle.card.specs.declared.CardState.the-variants.{Ready}
+use Rattle.card.specs.TakenLaws.{handed}
 use borrow.Author.Needs.{needs}
 use Rattle.card.proofs.within.send_atqa.Statement.{statement}
 use Rattle.card.proofs.within.send_atqa.Tie as tie
@@ -24,7 +29,9 @@ same-length c = search needs
 
 -- src/within.rt:18:1
 returns : tie.Need-returns
-returns c = ?
+returns c =
+    let a = c .before .before .before .before .before .before .before .before .args in
+    handed (a .c) (now (a .out)) (ap (λ r. (Ready One, r)) (c .before .before .before .before .before .atqa .ensures)) (c .before .before .send .ensures)
 
 pub send-atqa-spec : {M : Type 1} → statement M
 send-atqa-spec =

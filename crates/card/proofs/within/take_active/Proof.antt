@@ -1,3 +1,13 @@
+use mathlib.Core.Path.{refl, sym, ap, ap₂, _∙_}
+use mathlib.Core.Bool.{true, false}
+use native.Mathlib.Omega.{arith}
+use borrow.Author.Tests.{not-true, not-false}
+use denote.Ref.{now}
+use Rattle.selection.specs.Selection.{ats, atMost8}
+use Rattle.card.specs.declared.CardState.the-variants.{Protocol}
+use Rattle.card.specs.RatsLaws.{rats-is}
+use Rattle.card.specs.RulesLaws.{active-step}
+use Rattle.card.specs.TakenLaws.{handed, unmoved, told}
 use borrow.Author.Needs.{needs}
 use Rattle.card.proofs.within.take_active.Statement.{statement}
 use Rattle.card.proofs.within.take_active.Tie as tie
@@ -30,7 +40,10 @@ silent-requires c κs = search needs
 
 -- src/within.rt:64:9
 returns : tie.Need-returns
-returns c = ?
+returns c =
+    let a = c .before .before .before .before .before .before .before .args in
+    let x = told (now (a .row)) (c .before .before .is-same .ensures) (c .before .before .before .before .hlta .ensures) (c .before .if1 .taken) in
+    unmoved (a .c) (now (a .out)) (active-step (a .c) (now (a .row)) true _ _ x refl refl) (c .silent .ensures)
 
 -- src/within.rt:67:9
 silent-requires-2 : tie.Need-silent-requires-2
@@ -38,7 +51,10 @@ silent-requires-2 c κs = search needs
 
 -- src/within.rt:67:9
 returns-2 : tie.Need-returns-2
-returns-2 c = ?
+returns-2 c =
+    let a = c .before .before .before .before .before .before .before .before .before .args in
+    let x = told (now (a .row)) (c .before .before .before .before .is-same .ensures) (c .before .before .before .before .before .before .hlta .ensures) (c .before .before .before .if1 .left) in
+    unmoved (a .c) (now (a .out)) (active-step (a .c) (now (a .row)) false false _ x (not-true _ (c .before .if2 .taken)) refl) (c .silent2 .ensures)
 
 -- src/within.rt:69:8
 is-rats-requires : tie.Need-is-rats-requires
@@ -46,11 +62,11 @@ is-rats-requires c κs = search needs
 
 -- src/within.rt:70:13
 fsdi-requires : tie.Need-fsdi-requires
-fsdi-requires c κs = ?
+fsdi-requires c κs = omega (arith, rats-is (now (c .before .before .before .before .before .before .before .before .before .before .args .row)) (sym (c .before .is-rats .ensures) ∙ c .if3 .taken) .0)
 
 -- src/within.rt:71:52
 cast-at-most-8 : tie.Need-cast-at-most-8
-cast-at-most-8 c = ?
+cast-at-most-8 c = omega (arith, c .fsdi .ensures, rats-is (now (c .before .before .before .before .before .before .before .before .before .before .before .args .row)) (sym (c .before .before .is-rats .ensures) ∙ c .before .if3 .taken) .1)
 
 -- src/within.rt:71:13
 at-most-8-requires : tie.Need-at-most-8-requires
@@ -78,7 +94,13 @@ same-length c = search needs
 
 -- src/within.rt:74:9
 returns-3 : tie.Need-returns-3
-returns-3 c = ?
+returns-3 c =
+    let a = c .before .before .before .before .before .before .before .before .before .before .before .before .before .before .before .before .before .before .before .args in
+    let x = told (now (a .row)) (c .before .before .before .before .before .before .before .before .before .before .before .before .before .before .is-same .ensures) (c .before .before .before .before .before .before .before .before .before .before .before .before .before .before .before .before .hlta .ensures) (c .before .before .before .before .before .before .before .before .before .before .before .before .before .if1 .left) in
+    let y = sym (c .before .before .before .before .before .before .before .before .before .before .is-rats .ensures) ∙ c .before .before .before .before .before .before .before .before .before .if3 .taken in
+    let i = c .before .before .before .before .before .before .before .at-most-8 .ensures ∙ ap atMost8 (c .before .before .before .before .before .before .before .before .fsdi .ensures) in
+    let r = c .before .before .before .before .before .ats .ensures ∙ ap ats (c .before .before .before .before .before .before .at-most-82 .ensures) in
+    handed (a .c) (now (a .out)) (ap₂ (λ i r. (Protocol i, r)) i r ∙ active-step (a .c) (now (a .row)) false true true x (not-false _ (c .before .before .before .before .before .before .before .before .before .before .before .if2 .left)) y) (c .before .before .send .ensures)
 
 -- src/within.rt:76:5
 silent-requires-3 : tie.Need-silent-requires-3
@@ -86,7 +108,11 @@ silent-requires-3 c κs = search needs
 
 -- src/within.rt:57:1
 returns-4 : tie.Need-returns-4
-returns-4 c = ?
+returns-4 c =
+    let a = c .before .before .before .before .before .before .before .before .before .before .before .args in
+    let x = told (now (a .row)) (c .before .before .before .before .before .before .is-same .ensures) (c .before .before .before .before .before .before .before .before .hlta .ensures) (c .before .before .before .before .before .if1 .left) in
+    let y = sym (c .before .before .is-rats .ensures) ∙ c .before .if3 .left in
+    unmoved (a .c) (now (a .out)) (active-step (a .c) (now (a .row)) false true false x (not-false _ (c .before .before .before .if2 .left)) y) (c .silent3 .ensures)
 
 pub take-active-spec : {M : Type 1} → statement M
 take-active-spec =

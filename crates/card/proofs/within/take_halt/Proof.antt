@@ -1,3 +1,7 @@
+use mathlib.Core.Bool.{true, false}
+use denote.Ref.{now}
+use Rattle.card.specs.RulesLaws.{halt-step}
+use Rattle.card.specs.TakenLaws.{handed, unmoved, told}
 use borrow.Author.Needs.{needs}
 use Rattle.card.proofs.within.take_halt.Statement.{statement}
 use Rattle.card.proofs.within.take_halt.Tie as tie
@@ -30,7 +34,10 @@ same-length c = search needs
 
 -- src/within.rt:52:9
 returns : tie.Need-returns
-returns c = ?
+returns c =
+    let a = c .before .before .before .before .before .before .before .before .before .before .args in
+    let x = told (now (a .row)) (c .before .before .before .before .before .is-same .ensures) (c .before .before .before .before .before .before .before .wupa .ensures) (c .before .before .before .before .if1 .taken) in
+    handed (a .c) (now (a .out)) (halt-step (a .c) (now (a .row)) true x) (c .before .before .send-atqa .ensures)
 
 -- src/within.rt:54:5
 silent-requires : tie.Need-silent-requires
@@ -38,7 +45,10 @@ silent-requires c κs = search needs
 
 -- src/within.rt:45:1
 returns-2 : tie.Need-returns-2
-returns-2 c = ?
+returns-2 c =
+    let a = c .before .before .before .before .before .before .before .args in
+    let x = told (now (a .row)) (c .before .before .is-same .ensures) (c .before .before .before .before .wupa .ensures) (c .before .if1 .left) in
+    unmoved (a .c) (now (a .out)) (halt-step (a .c) (now (a .row)) false x) (c .silent .ensures)
 
 pub take-halt-spec : {M : Type 1} → statement M
 take-halt-spec =

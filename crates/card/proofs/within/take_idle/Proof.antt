@@ -1,3 +1,8 @@
+use mathlib.Core.Path.{refl}
+use mathlib.Core.Bool.{true, false}
+use denote.Ref.{now}
+use Rattle.card.specs.RulesLaws.{idle-step}
+use Rattle.card.specs.TakenLaws.{handed, unmoved, told}
 use borrow.Author.Needs.{needs}
 use Rattle.card.proofs.within.take_idle.Statement.{statement}
 use Rattle.card.proofs.within.take_idle.Tie as tie
@@ -31,7 +36,10 @@ same-length c = search needs
 
 -- src/within.rt:36:9
 returns : tie.Need-returns
-returns c = ?
+returns c =
+    let a = c .before .before .before .before .before .before .before .before .before .before .args in
+    let x = told (now (a .row)) (c .before .before .before .before .before .is-same .ensures) (c .before .before .before .before .before .before .before .reqa .ensures) (c .before .before .before .before .if1 .taken) in
+    handed (a .c) (now (a .out)) (idle-step (a .c) (now (a .row)) true _ x refl) (c .before .before .send-atqa .ensures)
 
 -- src/within.rt:38:16
 wupa-requires : tie.Need-wupa-requires
@@ -55,7 +63,11 @@ same-length-2 c = search needs
 
 -- src/within.rt:40:9
 returns-2 : tie.Need-returns-2
-returns-2 c = ?
+returns-2 c =
+    let a = c .before .before .before .before .before .before .before .before .before .before .before .before .before .before .args in
+    let x = told (now (a .row)) (c .before .before .before .before .before .before .before .before .before .is-same .ensures) (c .before .before .before .before .before .before .before .before .before .before .before .reqa .ensures) (c .before .before .before .before .before .before .before .before .if1 .left) in
+    let y = told (now (a .row)) (c .before .before .before .before .before .is-same2 .ensures) (c .before .before .before .before .before .before .before .wupa .ensures) (c .before .before .before .before .if2 .taken) in
+    handed (a .c) (now (a .out)) (idle-step (a .c) (now (a .row)) false true x y) (c .before .before .send-atqa2 .ensures)
 
 -- src/within.rt:42:5
 silent-requires : tie.Need-silent-requires
@@ -63,7 +75,11 @@ silent-requires c κs = search needs
 
 -- src/within.rt:29:1
 returns-3 : tie.Need-returns-3
-returns-3 c = ?
+returns-3 c =
+    let a = c .before .before .before .before .before .before .before .before .before .before .before .args in
+    let x = told (now (a .row)) (c .before .before .before .before .before .before .is-same .ensures) (c .before .before .before .before .before .before .before .before .reqa .ensures) (c .before .before .before .before .before .if1 .left) in
+    let y = told (now (a .row)) (c .before .before .is-same2 .ensures) (c .before .before .before .before .wupa .ensures) (c .before .if2 .left) in
+    unmoved (a .c) (now (a .out)) (idle-step (a .c) (now (a .row)) false false x y) (c .silent .ensures)
 
 pub take-idle-spec : {M : Type 1} → statement M
 take-idle-spec =

@@ -1,3 +1,7 @@
+use mathlib.Core.Path.{sym, ap, _∙_}
+use denote.Ref.{now}
+use Rattle.card.specs.Card.{rules}
+use Rattle.card.specs.TakenLaws.{handed, unmoved}
 use borrow.Author.Needs.{needs}
 use Rattle.card.proofs.within.take_rules.Statement.{statement}
 use Rattle.card.proofs.within.take_rules.Tie as tie
@@ -59,7 +63,10 @@ silent-requires-2 c κs = search needs
 
 -- src/within.rt:80:1
 returns : tie.Need-returns
-returns c = ?
+unfolding rules
+returns c =
+    let a = c .before .before .before .before .before .args in
+    unmoved (a .c) (now (a .out)) (ap (λ s. rules (a .c) s (now (a .row))) (sym (c .before .enum-told .given .1))) (c .silent .ensures)
 
 -- src/within.rt:80:1
 same-length : tie.Need-same-length
@@ -67,7 +74,9 @@ same-length c = search needs
 
 -- src/within.rt:80:1
 returns-2 : tie.Need-returns-2
-returns-2 c = ?
+returns-2 c =
+    let a = c .before .before .before .before .before .before .before .before .args in
+    handed (a .c) (now (a .out)) (ap (λ s. rules (a .c) s (now (a .row))) (sym (c .before .before .before .before .enum-told2 .given .1))) (c .before .before .take-idle .ensures)
 
 -- src/within.rt:80:1
 same-length-2 : tie.Need-same-length-2
@@ -75,7 +84,9 @@ same-length-2 c = search needs
 
 -- src/within.rt:80:1
 returns-3 : tie.Need-returns-3
-returns-3 c = ?
+returns-3 c =
+    let a = c .before .before .before .before .before .before .before .before .before .args in
+    handed (a .c) (now (a .out)) (ap (λ s. rules (a .c) s (now (a .row))) (sym (c .before .before .before .before .before .s .given .1))) (c .before .before .take-ready .ensures)
 
 -- src/within.rt:80:1
 same-length-3 : tie.Need-same-length-3
@@ -83,7 +94,9 @@ same-length-3 c = search needs
 
 -- src/within.rt:80:1
 returns-4 : tie.Need-returns-4
-returns-4 c = ?
+returns-4 c =
+    let a = c .before .before .before .before .before .before .before .before .args in
+    handed (a .c) (now (a .out)) (ap (λ s. rules (a .c) s (now (a .row))) (sym (c .before .before .before .before .enum-told3 .given .1))) (c .before .before .take-active .ensures)
 
 -- src/within.rt:80:1
 same-length-4 : tie.Need-same-length-4
@@ -91,11 +104,16 @@ same-length-4 c = search needs
 
 -- src/within.rt:80:1
 returns-5 : tie.Need-returns-5
-returns-5 c = ?
+returns-5 c =
+    let a = c .before .before .before .before .before .before .before .before .args in
+    handed (a .c) (now (a .out)) (ap (λ s. rules (a .c) s (now (a .row))) (sym (c .before .before .before .before .enum-told4 .given .1))) (c .before .before .take-halt .ensures)
 
 -- src/within.rt:80:1
 returns-6 : tie.Need-returns-6
-returns-6 c = ?
+unfolding rules
+returns-6 c =
+    let a = c .before .before .before .before .before .before .args in
+    unmoved (a .c) (now (a .out)) (ap (λ s. rules (a .c) s (now (a .row))) (sym (c .before .before .s2 .given .1))) (c .silent2 .ensures)
 
 pub take-rules-spec : {M : Type 1} → statement M
 take-rules-spec =
