@@ -1,0 +1,14 @@
+use mathlib.Core.Path.{refl}
+use Rattle.rows.specs.Rows.{fill}
+use Rattle.card.proofs.refused_card.Statement.{statement}
+use Rattle.card.proofs.refused_card.Tie as tie
+use Rattle.card.proofs.refused_card.Reads as reads
+use Rattle.card.proofs.refused_card.Lts as lts
+
+-- src/lib.rt:54:1
+returns : tie.Need-returns
+unfolding fill
+returns c = refl
+
+pub refused-card-spec : {M : Type 1} → statement M
+refused-card-spec = tie.close (tie.spec returns)
