@@ -2,3 +2,4 @@ pub mod ReaderRules
 pub mod ReaderFrames
 pub mod ReaderCalls
 pub mod ReaderLaws
+pub mod ReaderRowLaws

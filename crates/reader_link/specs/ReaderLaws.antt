@@ -8,6 +8,8 @@ use lib.ListN.{length, take, drop}
 use lib.Seq.{take-all}
 use lib.Dec.{ltb}
 use Rattle.rows.specs.Rows.{overlay}
+use Rattle.frame.specs.Frame.{Verdict, Good, Fault}
+use Rattle.frame.specs.Calls.{goodBytes}
 use Rattle.refusal.specs.declared.Refusal.the-variants.{Room, Forbidden, TooLong}
 use Rattle.block.specs.declared.Block.{Block}
 use Rattle.block.specs.declared.Block.the-variants.{I, Ack, Nak, Deselect, Wtx, Unknown, Nothing}
@@ -20,7 +22,7 @@ use Rattle.reader_link.specs.declared.ReaderPhase.the-variants.{Open, Ta
 use Rattle.reader_link.specs.declared.ReaderLink.{ReaderLink}
 use Rattle.reader_link.specs.declared.ReaderStep.{ReaderStep}
 use Rattle.reader_link.specs.ReaderRules.{readerKeeps, stops, readerI, readerAgain, ackOwn, ackOther, readerJoins, awaitsI, readerRepeats, readerEchoes, readerTakesI, readerTakesAck, readerRules, readerLeaves, readerTakes}
-use Rattle.reader_link.specs.ReaderFrames.{readerHears}
+use Rattle.reader_link.specs.ReaderFrames.{readerHears, readerOut, readerBlock}
 
 -- of two steps that join nothing either joins nothing
 neither : (t : Bool) (a b : ReaderStep) → a .joins ≡ false → b .joins ≡ false → (cond t a b) .joins ≡ false
@@ -118,3 +120,10 @@ hears-joined r ph b (f ∷ p) buffer last t len h j et el =
     let a : take (length (f ∷ p) - 1) p ≡ p = take-all (length (f ∷ p) - 1) p (omega arith) in
     let k : fits (r .joined + length p) (length buffer) ≡ true = rw e at (takes-join r ph b (length (f ∷ p) - 1) (length buffer) len j) in
     el ∙ rw (et, a, k)
+
+-- a frame by the bytes that it has if it is good
+pub block-bytes : (r : ReaderLink) (v : Verdict) (m buffer : List ℕ)
+    → readerBlock r v m buffer ≡ readerOut (readerHears r (goodBytes v) (length buffer) (length m)) m buffer (r .joined) (behind (goodBytes v))
+unfolding readerBlock readerHears
+block-bytes r (Good l) m buffer = refl
+block-bytes r (Fault e) m buffer = refl
