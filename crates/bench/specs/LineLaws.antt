@@ -39,7 +39,7 @@ step-line d p b h k =
 -- p is collected already: the bytes behind it are collected too, as long as there is room
 line-from : (d p l : List ℕ) → Letters l → length p + length l ≤ length d
     → (fedAll (overlay d 0 p) (collected (length p)) l ≡ collected (length (p ++ l)))
-        × (fedAllBytes (overlay d 0 p) (collected (length p)) l ≡ overlay d 0 (p ++ l))
+    × (fedAllBytes (overlay d 0 p) (collected (length p)) l ≡ overlay d 0 (p ++ l))
 unfolding fedAll fedAllBytes
 line-from d p [] h k = (rw append-nil, rw append-nil)
 line-from d p (b ∷ l) h k =
@@ -62,8 +62,8 @@ over-step room s b h o = rw (ne-eqb b 10 h) (go (ltb (s .length) room))
   where
     go : (t : Bool)
         → cond {A = Line} t (record { length = s .length + 1; overlong = s .overlong; complete = false })
-            (record { length = s .length; overlong = true; complete = false }) .overlong
-            ≡ true
+        (record { length = s .length; overlong = true; complete = false }) .overlong
+        ≡ true
     go true = o
     go false = refl
 

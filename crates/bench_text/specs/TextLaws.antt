@@ -62,37 +62,41 @@ wrote-next d at s p e t r g v w = go (leb at (length d)) refl
   where
     lengths : length e ≡ length d
     lengths = wrote-length d at s p e v
+
     here : List ℕ
     here = fit (length d) at s
+
     there : List ℕ
     there = fit (length d) (at + length here) t
+
     places : r ≡ at + length (fit (length d) at (s ++ t))
     places = rw (w .place, lengths, v .place, ← fit-append (length d) at s t, length-append, add-assoc)
+
     go : (b : Bool) → leb at (length d) ≡ b → Wrote d at (s ++ t) r g
     go true h =
         let l : at ≤ length d = leb-true at (length d) h in
         record {
           place = places;
           text =
-            rw (w .text, lengths, v .place, v .text, ← fit-append (length d) at s t)
-            (overlay-next d at here there (length-fit (length d) (at + length here) t (length-fit (length d) at s l)))
+              rw (w .text, lengths, v .place, v .text, ← fit-append (length d) at s t)
+              (overlay-next d at here there (length-fit (length d) (at + length here) t (length-fit (length d) at s l)));
         }
     go false h =
         let l : length d < at = leb-false at (length d) h in
         record {
           place = places;
           text =
-            rw (
-              w .text,
-              lengths,
-              v .place,
-              v .text,
-              fit-past (length d) (at + length (fit (length d) at s)) t (omega arith),
-              fit-past (length d) at s (omega arith),
-              fit-past (length d) at (s ++ t) (omega arith),
-              overlay-nil,
-              overlay-nil,
-            )
+              rw (
+                w .text,
+                lengths,
+                v .place,
+                v .text,
+                fit-past (length d) (at + length (fit (length d) at s)) t (omega arith),
+                fit-past (length d) at s (omega arith),
+                fit-past (length d) at (s ++ t) (omega arith),
+                overlay-nil,
+                overlay-nil,
+              );
         }
 
 -- the same, where the two texts make a third

@@ -154,7 +154,7 @@ few-digits k (suc f) n h = go (ltb n 10) refl k h (λ (j : ℕ) (l : n / 10 < 10
     go : (b : Bool) → ltb n 10 ≡ b → (k : ℕ) → n < 10 ^ suc k
         → ((j : ℕ) → n / 10 < 10 ^ suc j → (1 ≤ length (digits f (n / 10))) × (length (digits f (n / 10)) ≤ suc j))
         → (1 ≤ length (cond b (lastDigit n) (digits f (n / 10) ++ lastDigit n)))
-            × (length (cond b (lastDigit n) (digits f (n / 10) ++ lastDigit n)) ≤ suc k)
+        × (length (cond b (lastDigit n) (digits f (n / 10) ++ lastDigit n)) ≤ suc k)
     go true t k l ih = (omega arith, omega arith)
     go false t zero l ih = absurd (omega (arith, ltb-false n 10 t))
     go false t (suc j) l ih =
