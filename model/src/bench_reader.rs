@@ -15,12 +15,7 @@ pub struct BenchReader {
 
 impl BenchReader {
     pub fn new() -> BenchReader {
-        BenchReader {
-            reader: Reader::new(),
-            message: Vec::new(),
-            buffer: vec![0; LONGEST_MESSAGE],
-            room: LONGEST_MESSAGE,
-        }
+        BenchReader { reader: Reader::new(), message: Vec::new(), buffer: vec![0; LONGEST_MESSAGE], room: LONGEST_MESSAGE }
     }
 }
 

@@ -137,10 +137,7 @@ mod tests {
         assert_eq!(lines[8], "> HLTA               50 00 57 CD");
         assert_eq!(lines[9], "< silence");
         let tail: Vec<&str> = lines[20..25].to_vec();
-        assert_eq!(
-            tail,
-            ["frames 10", "found 01020304", "found 80122821", "card 80122821 halt 20 8", "card 01020304 halt 00 8"]
-        );
+        assert_eq!(tail, ["frames 10", "found 01020304", "found 80122821", "card 80122821 halt 20 8", "card 01020304 halt 00 8"]);
         assert!(lines[25].starts_with("log 000764401220"));
     }
 

@@ -8,7 +8,11 @@ pub const LONGEST_MESSAGE: usize = 4096;
 
 #[derive(Clone, Debug, PartialEq)]
 pub enum Block {
-    I { chained: bool, number: u8, payload: Vec<u8> },
+    I {
+        chained: bool,
+        number: u8,
+        payload: Vec<u8>,
+    },
     Ack(u8),
     Nak(u8),
     Deselect,

@@ -46,12 +46,34 @@ pub enum Outcome {
 enum Heard {
     Reqa,
     Wupa,
-    Anticollision { level: usize, bits: Row },
-    Select { level: usize, bytes: Vec<u8> },
+    Anticollision {
+        level: usize,
+        bits: Row,
+    },
+    Select {
+        level: usize,
+        bytes: Vec<u8>,
+    },
     Hlta,
-    Rats { fsdi: u8 },
+    Rats {
+        fsdi: u8,
+    },
     /// Damaged, or none of these.
     Else,
+}
+
+impl Heard {
+    fn name(&self) -> &'static str {
+        match self {
+            Heard::Reqa => "REQA",
+            Heard::Wupa => "WUPA",
+            Heard::Anticollision { .. } => "ANTICOLLISION",
+            Heard::Select { .. } => "SELECT",
+            Heard::Hlta => "HLTA",
+            Heard::Rats { .. } => "RATS",
+            Heard::Else => "else",
+        }
+    }
 }
 
 /// The level that SEL names.
@@ -165,7 +187,9 @@ impl Card {
         if self.state == State::Off {
             return Outcome::Silent;
         }
-        let (answer, state) = self.selection(understand(row));
+        let heard = understand(row);
+        note("card state", self.state_name(), heard.name());
+        let (answer, state) = self.selection(heard);
         self.state = state;
         match answer {
             Some(row) => Outcome::Answer(row),
@@ -244,15 +268,6 @@ impl Card {
     }
 }
 
-/// The rows that bring an idle card with this UID to Ready at a level, for scripts and tests.
-pub fn rows_to_ready(uid: &[u8], level: usize) -> Vec<Row> {
-    let mut rows = vec![frames::short(REQA)];
-    for before in 1..level {
-        rows.push(frames::select(before, &uid::levels(uid)[before - 1]));
-    }
-    rows
-}
-
 /// The bytes of SELECT at a level, without CRC_A.
 pub fn select_bytes(uid: &[u8], level: usize) -> Vec<u8> {
     let mut bytes = vec![frames::sel(level), 0x70];
@@ -268,6 +283,15 @@ mod tests {
 
     fn take(card: &mut Card, row: &[u8]) -> Outcome {
         card.take(row, &[], &mut [])
+    }
+
+    /// The rows that bring an idle card with this UID to Ready at a level.
+    fn rows_to_ready(uid: &[u8], level: usize) -> Vec<Row> {
+        let mut rows = vec![frames::short(REQA)];
+        for before in 1..level {
+            rows.push(frames::select(before, &uid::levels(uid)[before - 1]));
+        }
+        rows
     }
 
     fn ready(uid: &[u8], level: usize, blocks: bool) -> Card {

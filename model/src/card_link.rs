@@ -159,8 +159,7 @@ impl Link {
     fn send_i(&mut self, message: &[u8], place: usize) -> Outcome {
         self.place = place;
         self.last = Last::I;
-        self.mode =
-            if blocks::more_behind(message, place, self.reader_size) { Mode::Answering } else { Mode::Receiving };
+        self.mode = if blocks::more_behind(message, place, self.reader_size) { Mode::Answering } else { Mode::Receiving };
         Outcome::Answer(blocks::i_block(message, place, self.reader_size, self.number))
     }
 

@@ -15,3 +15,160 @@ pub fn note(table: &str, row: &str, column: &str) {
         *counts.borrow_mut().entry((table.to_string(), row.to_string(), column.to_string())).or_insert(0) += 1;
     });
 }
+
+/// Starts all counts anew.
+pub fn forget() {
+    COUNTS.with(|counts| counts.borrow_mut().clear());
+}
+
+/// The tables, and the places in them that the stored scripts must reach.
+fn expected() -> Vec<Key> {
+    let mut keys = Vec::new();
+    let mut add = |table: &str, rows: &[&str], columns: &[&str]| {
+        for row in rows {
+            for column in columns {
+                keys.push((table.to_string(), row.to_string(), column.to_string()));
+            }
+        }
+    };
+
+    // The reader: each refusal in each phase that can give it.
+    for (phase, numbers) in [
+        ("new", &["11"][..]),
+        ("REQA sent", &["2", "3", "7", "9", "11"]),
+        ("REQA sent (sweep)", &["2", "3", "9", "11"]),
+        ("ANTICOLLISION sent", &["2", "3", "5", "7", "8", "11"]),
+        ("SELECT sent", &["2", "3", "4", "7", "8", "9", "11"]),
+        ("HLTA sent", &["9", "11"]),
+        ("selected, b6 clear", &["11"]),
+        ("selected", &["6", "11"]),
+        ("RATS sent", &["2", "3", "4", "7", "8", "9", "11"]),
+        ("open", &["10", "11"]),
+        ("more to send", &["1", "9", "11", "12"]),
+        ("last I out", &["1", "9", "10", "11", "12"]),
+        ("joining", &["9", "10", "11", "12"]),
+        ("DESELECT sent", &["9", "11", "12"]),
+        ("finished", &["11"]),
+        ("stopped", &["11"]),
+    ] {
+        add("reader refusal", &[phase], numbers);
+        add("reader call", &[phase], &["select", "sweep", "RATS", "message", "DESELECT", "row"]);
+    }
+
+    // The reader's table of blocks.
+    let waiting = ["more to send", "last I out", "joining"];
+    let damage = [
+        "silence or damage 7",
+        "silence or damage 2",
+        "silence or damage 8",
+        "silence or damage 3",
+        "silence or damage 4",
+        "repeats used up",
+    ];
+    add(
+        "reader block",
+        &[
+            "last I own",
+            "chained I own",
+            "I other",
+            "R(ACK) own",
+            "R(ACK) other",
+            "R(NAK) own",
+            "R(NAK) other",
+            "WTX 1 to 59",
+            "WTX 1 to 59, top bits set",
+            "WTX 0",
+            "WTX 60 to 63",
+            "C2",
+            "wrong length",
+            "unknown",
+        ],
+        &waiting,
+    );
+    add("reader block", &damage, &waiting);
+    add("reader block", &damage, &["DESELECT sent"]);
+    add("reader block", &["R(ACK) other, third"], &waiting[..2]);
+    add("reader block", &["I that does not fit"], &waiting[1..]);
+    add("reader block", &["I", "R(ACK)", "R(NAK)", "WTX", "wrong length", "unknown", "C2"], &["DESELECT sent"]);
+
+    // The card: what is due in each state, the states of selection, and its table of blocks.
+    add(
+        "card due",
+        &["Off", "Idle", "Ready", "Active", "Halt", "receiving", "owing", "WTX asked", "answering"],
+        &["frame", "answer", "WTX", "power on", "power off"],
+    );
+    add("card state", &["Idle", "Ready", "Active", "Halt"], &["REQA", "WUPA", "ANTICOLLISION", "SELECT", "HLTA", "RATS", "else"]);
+    let protocol = ["receiving", "WTX asked", "answering"];
+    add(
+        "card block",
+        &[
+            "chained I that fits",
+            "last I that fits",
+            "I that does not fit",
+            "R(NAK) other",
+            "R(ACK) other",
+            "WTX not asked for or of another value",
+            "C2",
+            "wrong length",
+            "unknown",
+            "damage 7",
+            "damage 2",
+            "damage 8",
+            "damage 3",
+            "damage 4",
+        ],
+        &protocol,
+    );
+    for kind in ["R(ACK)", "R(NAK)"] {
+        let own = |what: &str| format!("{kind} own, last was {what}");
+        add("card block", &[&own("nothing"), &own("I"), &own("R(ACK)")], &["receiving"]);
+        add("card block", &[&own("WTX"), &own("R(ACK)")], &["WTX asked"]);
+        add("card block", &[&own("I"), &own("R(ACK)")], &["answering"]);
+    }
+    add("card block", &["WTX asked for"], &["WTX asked"]);
+    add("card block", &["answer lent too short"], &["receiving", "answering"]);
+    add("card block", &["any good block", "damage", "answer", "answer over 4096", "WTX", "WTX outside 1 to 59"], &["owing"]);
+    keys
+}
+
+/// Plays the stored scripts and prints what they reached; an error names what they did not.
+pub fn report() -> Result<(), String> {
+    // Only what the two bench scripts reach counts; the fields of `vectors_sweep` and the cards with which the random reader
+    // scripts were drawn up do not.
+    crate::write::bench_scripts();
+    let counts = COUNTS.with(|counts| counts.borrow().clone());
+    let expected = expected();
+    let mut missing = Vec::new();
+    let mut table = String::new();
+    for key in &expected {
+        if *key.0 != table {
+            table = key.0.clone();
+            println!("{table}");
+        }
+        let count = counts.get(key).copied().unwrap_or(0);
+        println!("  {:<48} {:<20} {count:>7}", key.1, key.2);
+        if count == 0 {
+            missing.push(format!("not reached: {} / {} / {}", key.0, key.1, key.2));
+        }
+    }
+    for (key, count) in &counts {
+        if !expected.contains(key) {
+            missing.push(format!("reached {count} times but not in the list: {} / {} / {}", key.0, key.1, key.2));
+        }
+    }
+    println!("{} places, {} reached", expected.len(), expected.iter().filter(|k| counts.contains_key(k)).count());
+    if missing.is_empty() {
+        println!("not reached: none");
+        Ok(())
+    } else {
+        Err(missing.join("\n"))
+    }
+}
+
+#[cfg(test)]
+mod tests {
+    #[test]
+    fn the_stored_scripts_reach_every_place() {
+        assert_eq!(super::report(), Ok(()));
+    }
+}

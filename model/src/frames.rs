@@ -203,9 +203,7 @@ pub fn merge(rows: &[Row]) -> Row {
 
 /// Air bits packed to bytes, first in the top bit, zero-filled; a collided bit is packed as 0.
 pub fn pack(row: &[u8]) -> Vec<u8> {
-    row.chunks(8)
-        .map(|part| part.iter().enumerate().map(|(i, &b)| if b == 1 { 0x80 >> i } else { 0 }).sum())
-        .collect()
+    row.chunks(8).map(|part| part.iter().enumerate().map(|(i, &b)| if b == 1 { 0x80 >> i } else { 0 }).sum()).collect()
 }
 
 #[cfg(test)]

@@ -82,9 +82,7 @@ fn reader_line(row: &[u8]) -> (String, Name) {
         let (sel, nvb) = (byte_of(&row[..8]), byte_of(&row[9..17]));
         match (1..=3).find(|&level| frames::sel(level) == sel) {
             Some(level) if nvb == 0x70 => (format!("SELECT CL{level}"), Name::Select),
-            Some(level) => {
-                (format!("ANTICOLLISION CL{level}"), Name::Anticollision { level, left_over: (nvb & 0x0F) as usize })
-            }
+            Some(level) => (format!("ANTICOLLISION CL{level}"), Name::Anticollision { level, left_over: (nvb & 0x0F) as usize }),
             None => ("frame".to_string(), Name::Other),
         }
     } else {

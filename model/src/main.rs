@@ -8,26 +8,67 @@ mod card;
 mod card_link;
 mod coverage;
 mod crc;
+#[cfg(test)]
+mod exchange;
 mod frames;
 mod known;
 mod language;
 mod log;
+mod random;
 mod reader;
 mod reader_link;
 mod refusal;
+mod scripts;
 mod sweep;
 mod uid;
 mod vectors_frame;
+mod write;
+
+const USAGE: &str = "\
+model vectors_frame | vectors_sweep | bench_sweep | bench_card | bench_reader   play a script from standard input
+model write DIR [--no-blocks]            write the stored scripts and their answers
+model check DIR [--no-blocks]            compare the stored ones with what would be written
+model coverage                           what the stored scripts reach
+model scripts card|reader|field COUNT SEED   random scripts for larger comparisons";
+
+fn report(outcome: Result<(), String>) {
+    if let Err(what) = outcome {
+        eprintln!("{what}");
+        std::process::exit(1);
+    }
+}
+
+fn random_scripts(kind: &str, count: &str, seed: &str) -> Result<(), String> {
+    let count = count.parse().map_err(|_| "COUNT is a number")?;
+    let seed = seed.parse().map_err(|_| "SEED is a number")?;
+    let text = match kind {
+        "card" => scripts::card::random_scripts(count, seed).input,
+        "reader" => scripts::reader::random_scripts(count, seed).input,
+        "field" => scripts::field::random_scripts(count, seed).input,
+        _ => return Err("scripts for card, reader or field".to_string()),
+    };
+    print!("{text}");
+    Ok(())
+}
 
 fn main() {
     let arguments: Vec<String> = std::env::args().skip(1).collect();
     let arguments: Vec<&str> = arguments.iter().map(|a| a.as_str()).collect();
     match arguments[..] {
         ["vectors_frame"] => language::play(vectors_frame::VectorsFrame),
-        ["bench_sweep"] => language::play(bench_sweep::BenchSweep::default()),
         ["vectors_sweep"] => language::play(bench_sweep::VectorsSweep::default()),
+        ["bench_sweep"] => language::play(bench_sweep::BenchSweep::default()),
         ["bench_card"] => language::play(bench_card::BenchCard::new()),
         ["bench_reader"] => language::play(bench_reader::BenchReader::new()),
-        _ => std::process::exit(2),
+        ["write", folder] => report(write::write(folder, true)),
+        ["write", folder, "--no-blocks"] => report(write::write(folder, false)),
+        ["check", folder] => report(write::check(folder, true)),
+        ["check", folder, "--no-blocks"] => report(write::check(folder, false)),
+        ["coverage"] => report(coverage::report()),
+        ["scripts", kind, count, seed] => report(random_scripts(kind, count, seed)),
+        _ => {
+            eprintln!("{USAGE}");
+            std::process::exit(2);
+        }
     }
 }

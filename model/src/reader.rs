@@ -11,15 +11,25 @@ pub enum Phase {
     New,
     ReqaSent,
     /// ANTICOLLISION is out at this level with these bits known.
-    AnticollisionSent { level: usize, known: Row },
+    AnticollisionSent {
+        level: usize,
+        known: Row,
+    },
     /// SELECT of these five bytes is out.
-    SelectSent { level: usize, bytes: [u8; 5] },
+    SelectSent {
+        level: usize,
+        bytes: [u8; 5],
+    },
     /// In a sweep only.
     HltaSent,
     /// Outside a sweep: the UID is complete.
-    Selected { sak: u8 },
+    Selected {
+        sak: u8,
+    },
     /// RATS is out, with the reader's own size.
-    RatsSent { own_size: usize },
+    RatsSent {
+        own_size: usize,
+    },
     /// After ATS: between messages, a block or DESELECT is out.
     Linked(Link),
     Finished,
@@ -38,9 +48,16 @@ pub struct Reader {
 #[derive(Clone, Debug, PartialEq)]
 pub enum Answer {
     Send(Row),
-    Selected { uid: Vec<u8>, sak: u8 },
+    Selected {
+        uid: Vec<u8>,
+        sak: u8,
+    },
     /// In a sweep: the UID is complete, and HLTA goes out.
-    Found { uid: Vec<u8>, sak: u8, frame: Row },
+    Found {
+        uid: Vec<u8>,
+        sak: u8,
+        frame: Row,
+    },
     Finished,
     /// A good ATS: the card's frame size.
     Open(usize),
@@ -311,14 +328,8 @@ mod tests {
         let mut row = packed("34:22 29 84 EC 80");
         row[10] = 2; // position 19: six bits and parity end the broken byte, then positions 16 to 19
         assert_eq!(hear(&mut reader, &row), Answer::Send(packed("40:C9 91 40 49 11")));
-        assert_eq!(
-            hear(&mut reader, &packed("23:4C 27 64")),
-            Answer::Send(packed("81:C9 87 00 49 11 4C 27 64 D5 3E 00"))
-        );
-        assert_eq!(
-            hear(&mut reader, &packed("27:00 BF A2 80")),
-            Answer::Selected { uid: hex("80122821"), sak: 0 }
-        );
+        assert_eq!(hear(&mut reader, &packed("23:4C 27 64")), Answer::Send(packed("81:C9 87 00 49 11 4C 27 64 D5 3E 00")));
+        assert_eq!(hear(&mut reader, &packed("27:00 BF A2 80")), Answer::Selected { uid: hex("80122821"), sak: 0 });
         assert_eq!(reader.rats(8), Answer::Refused(11));
     }
 

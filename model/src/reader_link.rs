@@ -59,16 +59,7 @@ pub fn read_ats(row: &[u8], own_size: usize) -> Result<usize, Refusal> {
 impl Link {
     /// The reader's number starts at 0.
     pub fn new(own_size: usize, card_size: usize) -> Link {
-        Link {
-            stage: Stage::Open,
-            own_size,
-            card_size,
-            number: 0,
-            place: 0,
-            joined: 0,
-            repeats: 0,
-            sent_again: 0,
-        }
+        Link { stage: Stage::Open, own_size, card_size, number: 0, place: 0, joined: 0, repeats: 0, sent_again: 0 }
     }
 
     pub fn stage_name(&self) -> &'static str {
@@ -216,7 +207,11 @@ impl Link {
             // that I, then 9.
             Block::Ack(_) => {
                 if self.stage == Stage::Joining || self.sent_again == 2 {
-                    note("reader block", if self.stage == Stage::Joining { "R(ACK) other" } else { "R(ACK) other, third" }, column);
+                    note(
+                        "reader block",
+                        if self.stage == Stage::Joining { "R(ACK) other" } else { "R(ACK) other, third" },
+                        column,
+                    );
                     return Err(refusal::FORBIDDEN);
                 }
                 note("reader block", "R(ACK) other", column);

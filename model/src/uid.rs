@@ -95,9 +95,7 @@ pub fn frame_sum(idle: &[Vec<u8>]) -> usize {
 
 /// Valid, all different, and at most 16 of them.
 pub fn sweepable(uids: &[Vec<u8>]) -> bool {
-    uids.len() <= 16
-        && uids.iter().all(|u| valid(u))
-        && uids.iter().enumerate().all(|(i, u)| !uids[..i].contains(u))
+    uids.len() <= 16 && uids.iter().all(|u| valid(u)) && uids.iter().enumerate().all(|(i, u)| !uids[..i].contains(u))
 }
 
 #[cfg(test)]

@@ -124,10 +124,7 @@ mod tests {
         assert_eq!(ask("sum"), "frames 1 order");
         assert_eq!(ask("sum 80122821 01020304"), "frames 10 order 01020304 80122821");
         assert_eq!(ask("sum 80122821 80122821"), "refused 6");
-        assert_eq!(
-            ask("uid 01020304"),
-            "levels 1 0102030404 0000000000 0000000000 row 1000000001000000110000000010000000100000"
-        );
+        assert_eq!(ask("uid 01020304"), "levels 1 0102030404 0000000000 0000000000 row 1000000001000000110000000010000000100000");
         assert_eq!(ask("uid 88020304"), "refused 6");
     }
 }

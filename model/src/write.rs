@@ -22,12 +22,7 @@ fn stored<P: Program>(name: &'static str, script: Script<P>) -> Stored {
 /// All stored vectors. Without blocks the card's and the reader's scripts hold no RATS and no block; with them these come in
 /// addition, after the selection.
 pub fn all(blocks: bool) -> Vec<Stored> {
-    let mut card = scripts::card::script(SEED + 3);
-    let mut reader = scripts::reader::script(SEED + 4);
-    if blocks {
-        scripts::card_blocks::add(&mut card, SEED + 5);
-        scripts::reader_blocks::add(&mut reader, SEED + 6);
-    }
+    let (card, reader) = benches(blocks);
     vec![
         stored("vectors_frame", scripts::frame::script(SEED + 1)),
         stored("vectors_sweep", scripts::field::script(SEED + 2)),
@@ -35,6 +30,27 @@ pub fn all(blocks: bool) -> Vec<Stored> {
         stored("bench_reader", reader),
         stored("bench_sweep", scripts::field::locker()),
     ]
+}
+
+fn benches(blocks: bool) -> (scripts::card::S, scripts::reader::S) {
+    let mut card = scripts::card::script(SEED + 3);
+    let mut reader = scripts::reader::script(SEED + 4);
+    if blocks {
+        scripts::card_blocks::add(&mut card, SEED + 5);
+        scripts::reader_blocks::add(&mut reader, SEED + 6);
+    }
+    (card, reader)
+}
+
+/// Plays the scripts of both benches, blocks included, again, for what they reach.
+pub fn bench_scripts() {
+    let (card, reader) = benches(true);
+    let (card, reader) = (card.input, reader.input);
+    crate::coverage::forget();
+    let mut replayed = Script::new(crate::bench_card::BenchCard::new());
+    card.lines().for_each(|line| drop(replayed.say(line)));
+    let mut replayed = Script::new(crate::bench_reader::BenchReader::new());
+    reader.lines().for_each(|line| drop(replayed.say(line)));
 }
 
 pub fn write(folder: &str, blocks: bool) -> Result<(), String> {
@@ -73,4 +89,48 @@ fn first_difference(stored: &[u8], wanted: &[u8]) -> String {
     let same = stored.iter().zip(wanted).take_while(|(a, b)| a == b).count();
     let line = 1 + wanted[..same].iter().filter(|&&b| b == b'\n').count();
     format!("not what the model writes, from line {line} on")
+}
+
+#[cfg(test)]
+mod tests {
+    use super::*;
+    use crate::bench_card::row_line;
+    use crate::blocks::{read_block, Block};
+    use crate::frames::read_standard_with_crc;
+
+    /// The stored files stay small; with blocks they begin with the selection alone.
+    #[test]
+    fn sizes_and_beginnings() {
+        for (short, long) in all(false).iter().zip(all(true)) {
+            assert!(long.input.len() < 260_000 && long.output.len() < 260_000, "{}", long.name);
+            assert!(long.input.starts_with(&short.input) && long.output.starts_with(&short.output), "{}", long.name);
+        }
+    }
+
+    /// Without blocks no line hands over RATS or a block.
+    #[test]
+    fn selection_alone() {
+        for file in all(false) {
+            if file.name.starts_with("vectors") {
+                continue;
+            }
+            for line in file.input.lines() {
+                let words: Vec<&str> = line.split(' ').filter(|w| !w.is_empty()).collect();
+                let Some(Ok(bytes)) = row_line(&words).map(|row| read_standard_with_crc(&row, 256)) else { continue };
+                assert_ne!(bytes[0], 0xE0, "{line}");
+                assert!(matches!(read_block(&bytes), Block::Unknown), "{line}");
+            }
+            for answer in file.output.lines() {
+                assert!(!answer.ends_with("; protocol") && !answer.starts_with("open") && !answer.starts_with("answered"));
+            }
+        }
+    }
+
+    #[test]
+    fn the_same_each_time() {
+        for (one, other) in all(true).iter().zip(all(true)) {
+            assert_eq!(one.input, other.input);
+            assert_eq!(one.output, other.output);
+        }
+    }
 }

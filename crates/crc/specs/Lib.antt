@@ -1,3 +1,4 @@
 pub mod Crc
 pub mod CrcLaws
 pub mod CrcVectors
+pub mod CrcSizeLaws

@@ -2,5 +2,8 @@ pub mod Frame
 pub mod Calls
 pub mod FrameLaws
 pub mod LoopLaws
+pub mod ByteLaws
+pub mod ParityLaws
+pub mod TellLaws
 pub mod CallLaws
 pub mod FrameVectors

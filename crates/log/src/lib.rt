@@ -1,12 +1,16 @@
 // Document 01, "The log (house format, fields most significant bit first)": its records and the found list's entries, written and read.
 ghost use mathlib.Core.Path.{_≡_};
-ghost use lib.ListN.{length};
+ghost use lib.ListN.{length, getD};
 ghost use Rattle.uid.specs.Uid.{uidBytes};
 ghost use Rattle.log.specs.Log.{sentRecord, heardRecord, entryBytes};
+ghost use Rattle.log.specs.Reading.{bitsFrom, recordAt};
 use uid::Uid;
 
 // Functions that write at a place of the lent log or list. Only the crates of this repository call them.
 pub mod within;
+
+// What a record is made of, as it is read.
+pub mod reading;
 
 // The bytes that the record of a reader frame takes.
 pub fn sent_size(frame: &[u8]) -> usize
@@ -37,4 +41,61 @@ pub fn entry(u: Uid) -> [u8; 11]
     bytes[0] = n as u8;
     rows::within::put(&mut bytes, 1, &b[..n]);
     bytes
+}
+
+// What stands at a place of a log: a whole record, with the place of its rows, their number of bits and the place behind it.
+pub enum Record {
+    Sent {
+        start: usize,
+        bits: usize,
+        next: usize,
+    },
+    Clean {
+        start: usize,
+        bits: usize,
+        next: usize,
+    },
+    Collided {
+        start: usize,
+        marks: usize,
+        bits: usize,
+        next: usize,
+    },
+    Silence {
+        next: usize,
+    },
+    // Nothing: the log ends there, or before.
+    End,
+    // A record that the log's end cuts short.
+    Cut,
+    // Bytes that no record has.
+    Malformed,
+}
+
+// A bit of the row that starts at a byte of the log; 0 past the log's end.
+pub fn bit_at(log: &[u8], start: usize, i: usize) -> u8
+    ensures { λ r. ⌜ r ≡ getD (bitsFrom (now (log .entry)) start) i 0 ⌝ }
+{
+    if log.len() <= start {
+        return 0;
+    }
+    let k = i / 8;
+    if log.len() <= start + k {
+        return 0;
+    }
+    let bits = reading::top_bits(log[start + k]);
+    bits[i % 8]
+}
+
+// The record at a place of the log.
+pub fn record_at(log: &[u8], at: usize) -> Record
+    ensures { λ r. ⌜ r ≡ recordAt (now (log .entry)) at ⌝ }
+{
+    if log.len() <= at {
+        return Record::End;
+    }
+    if log.len() < at + 2 {
+        return Record::Cut;
+    }
+    reading::after_header(log, at + 2, log[at], log[at + 1])
 }

@@ -1,2 +1,4 @@
 pub mod Reader
 pub mod Calls
+pub mod ReaderLaws
+pub mod StepLaws

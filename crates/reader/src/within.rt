@@ -1,10 +1,10 @@
 // The reader's rules on values, and its frames. Called by our own crates only: firmware calls `select`, `start_sweep` and `hear`.
 ghost use mathlib.Core.Path.{_≡_};
-ghost use mathlib.Core.Bool.{true, false};
+ghost use mathlib.Core.Bool.{true, false, _&&_};
 ghost use mathlib.Core.List.{[]};
 ghost use Prim.Native.Nat.{_≤_};
 ghost use lib.ListN.{length};
-ghost use Rattle.rows.specs.Rows.{overlay};
+ghost use Rattle.rows.specs.Rows.{overlay, isNil};
 ghost use Rattle.uid.specs.Uid.{place};
 ghost use Rattle.uid.specs.declared.UidSize.the-variants.{Single};
 ghost use Rattle.reader.specs.Reader.{uid, reader, blank, frame, turn, sends, finds, stop, opens, longer, completes, afterAtqa, hearAtqa, afterRest, hearRest, afterSak, hearSak, hearSilence, hear, b3};
@@ -56,7 +56,7 @@ fn frame_bits(r: Reader) -> usize
     match p {
         Phase::New => 0,
         Phase::ReqaSent => 7,
-        Phase::AnticollisionSent(_) => selection::sent::anticollision_bits(k),
+        Phase::AnticollisionSent(_) => selection::split::anticollision_bits(k),
         Phase::SelectSent(_) => 81,
         Phase::HltaSent => 36,
         Phase::Selected => 0,
@@ -80,7 +80,7 @@ pub fn put_frame(r: Reader, out: &mut [u8])
             rows::within::put(out, 0, &row);
         }
         Phase::AnticollisionSent(l) => {
-            selection::sent::within::put_anticollision(l, k, five, out);
+            selection::split::put_anticollision(l, k, five, out);
         }
         Phase::SelectSent(l) => {
             let row = selection::sent::select(l, five);
@@ -157,18 +157,26 @@ fn opens(l: Level, s: bool, u: Uid) -> Turn
     sends(r)
 }
 
+// Silence after REQA ends a sweep.
+fn is_over(sweeps: bool, row: &[u8]) -> bool
+    ensures { λ b. ⌜ b ≡ (isNil (now (row .entry)) && sweeps) ⌝ }
+{
+    if row.len() == 0 {
+        return sweeps;
+    }
+    false
+}
+
 fn hear_atqa(r: Reader, row: &[u8]) -> Turn
     ensures { λ t. ⌜ t ≡ hearAtqa r (now (row .entry)) ⌝ }
 {
     let s = r.sweeps;
-    if s {
-        if row.len() == 0 {
-            let over = blank(Phase::Finished, false);
-            return Turn {
-                reader: over,
-                answer: Answer::Finishes,
-            };
-        }
+    if is_over(s, row) {
+        let over = blank(Phase::Finished, false);
+        return Turn {
+            reader: over,
+            answer: Answer::Finishes,
+        };
     }
     let a = selection::heard::read_atqa(row);
     match a {
@@ -212,7 +220,7 @@ fn longer(z: UidSize, l: Level, r: Reader, n: usize) -> Uid
     requires { ⌜ n ≤ 1 ⌝ }
     ensures { λ u. ⌜ u ≡ uid z (longer l r n) ⌝ }
 {
-    let at = 3 * uid::place(l);
+    let at = 3 * selection::numbers::place(l);
     let five = r.five;
     let u = r.uid;
     let old = u.bytes;

@@ -1,2 +1,11 @@
 pub mod Selection
 pub mod Heard
+pub mod Level
+pub mod LevelLaws
+pub mod PadLaws
+pub mod RestLaws
+pub mod SentLaws
+pub mod SizeLaws
+pub mod SealLaws
+pub mod SelectionLaws
+pub mod SakLaws

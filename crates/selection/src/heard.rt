@@ -1,9 +1,152 @@
-// What the reader makes of a received row, by the frame that it awaits.
+// What the reader makes of a received row, by the frame that it awaits. Tests stand in document 01's order.
 ghost use mathlib.Core.Path.{_≡_};
-ghost use Rattle.selection.specs.Heard.{readAtqa, readRest, readSak, readAts};
-use refusal::Refusal;
+ghost use Prim.Native.Nat.{_+_, _-_, _*_, _/_, _<_, _≤_};
+ghost use Rattle.rows.specs.Rows.{same};
+ghost use Rattle.uid.specs.Uid.{level};
+ghost use lib.ListN.{take, drop};
+ghost use Rattle.frame.specs.Frame.{dataOf, faulty};
+ghost use Rattle.selection.specs.Level.{firstCollided};
+ghost use Rattle.selection.specs.Heard.{readAtqa, notRest, readRest, readSak};
+ghost use Rattle.selection.specs.RestLaws.{levelSays};
 use crate::AtqaRead;
-use crate::AtsRead;
 use crate::Rest;
 use crate::RestSays;
 use crate::SakRead;
+use refusal::Refusal;
+
+// ATQA. A collided bit counts as 1, so it is enough that b1 to b5 are not all zeros.
+pub fn read_atqa(row: &[u8]) -> AtqaRead
+    ensures { λ r. ⌜ r ≡ readAtqa (now (row .entry)) ⌝ }
+{
+    if row.len() == 0 {
+        return AtqaRead::NotAtqa(Refusal::Silence);
+    }
+    if row.len() != 18 {
+        return AtqaRead::NotAtqa(Refusal::Length);
+    }
+    if frame::within::is_faulty(row, 0, 2) {
+        return AtqaRead::NotAtqa(Refusal::Parity);
+    }
+    let none = [0u8; 5];
+    if rows::is_same(&row[..5], &none) {
+        return AtqaRead::NotAtqa(Refusal::Forbidden);
+    }
+    AtqaRead::Atqa
+}
+
+// SAK and CRC_A.
+pub fn read_sak(row: &[u8]) -> SakRead
+    ensures { λ r. ⌜ r ≡ readSak (now (row .entry)) ⌝ }
+{
+    if row.len() == 0 {
+        return SakRead::NotSak(Refusal::Silence);
+    }
+    if row.len() != 27 {
+        return SakRead::NotSak(Refusal::Length);
+    }
+    if !rows::is_clean(row) {
+        return SakRead::NotSak(Refusal::Collision);
+    }
+    if frame::within::is_faulty(row, 0, 3) {
+        return SakRead::NotSak(Refusal::Parity);
+    }
+    let mut bytes = [0u8; 3];
+    frame::within::bytes_of(row, 3, &mut bytes);
+    if !crc::is_good(&bytes) {
+        return SakRead::NotSak(Refusal::Crc);
+    }
+    SakRead::Sak(bytes[0])
+}
+
+fn not_rest(e: Refusal) -> Rest
+    ensures { λ r. ⌜ r ≡ notRest e ⌝ }
+{
+    Rest {
+        says: RestSays::NotRest(e),
+        five: [0u8; 5],
+        known: 0,
+    }
+}
+
+// Is the last of five bytes the B of the others?
+fn is_checked(five: [u8; 5]) -> bool
+    ensures { λ r. ⌜ r ≡ same five (level (take 4 five)) ⌝ }
+{
+    five[4] == uid::check_byte(five[0], five[1], five[2], five[3])
+}
+
+// Has a byte of the level that is whole in the answer, with no collided data bit, wrong parity? k of the level's bits were sent.
+fn is_faulty(k: u8, w: [u8; 45]) -> bool
+    requires { ⌜ k < 40 ⌝ }
+    ensures { λ r. ⌜ r ≡ faulty (5 - (k + 7) / 8) (drop (9 * ((k + 7) / 8)) w) ⌝ }
+{
+    let i = (k as usize + 7) / 8;
+    frame::within::is_faulty(&w, 9 * i, 5 - i)
+}
+
+// What a level's 45 bits say whose first collided data bit stands at p.
+fn collided_level(k: u8, w: [u8; 45], d: [u8; 40], p: usize) -> Rest
+    requires { ⌜ (k < 40) × (d ≡ dataOf 5 w) × (p ≡ firstCollided d) × (p < 40) ⌝ }
+    ensures { λ r. ⌜ r ≡ levelSays k w ⌝ }
+{
+    if 32 <= p {
+        return not_rest(Refusal::Collision);
+    }
+    if is_faulty(k, w) {
+        return not_rest(Refusal::Parity);
+    }
+    let five = crate::level::five_bytes(crate::level::known_bits(d, p));
+    Rest {
+        says: RestSays::Collided,
+        five: five,
+        known: p as u8 + 1,
+    }
+}
+
+// What a level's 45 bits say of whose data bits none collided.
+fn whole_level(k: u8, w: [u8; 45], d: [u8; 40]) -> Rest
+    requires { ⌜ (k < 40) × (d ≡ dataOf 5 w) × (40 ≤ firstCollided d) ⌝ }
+    ensures { λ r. ⌜ r ≡ levelSays k w ⌝ }
+{
+    if is_faulty(k, w) {
+        return not_rest(Refusal::Parity);
+    }
+    let five = crate::level::five_bytes(d);
+    if !is_checked(five) {
+        return not_rest(Refusal::Check);
+    }
+    Rest {
+        says: RestSays::Whole,
+        five: five,
+        known: 40,
+    }
+}
+
+// What a level's 45 bits say, of which the first k data bits were sent.
+fn level_says(k: u8, w: [u8; 45]) -> Rest
+    requires { ⌜ k < 40 ⌝ }
+    ensures { λ r. ⌜ r ≡ levelSays k w ⌝ }
+{
+    let d = crate::level::data_bits(w);
+    let p = crate::level::first_collided(&d);
+    if p < 40 {
+        return collided_level(k, w, d, p);
+    }
+    whole_level(k, w, d)
+}
+
+// The answer to ANTICOLLISION, of which k bits of five were sent: the parity of the broken byte is never looked at.
+pub fn read_rest(k: u8, five: [u8; 5], row: &[u8]) -> Rest
+    ensures { λ r. ⌜ r ≡ readRest k five (now (row .entry)) ⌝ }
+{
+    if row.len() == 0 {
+        return not_rest(Refusal::Silence);
+    }
+    let n = crate::numbers::cut(k);
+    if row.len() != 45 - n {
+        return not_rest(Refusal::Length);
+    }
+    let mut w = crate::sent::level_row(five);
+    rows::within::put(&mut w, n, row);
+    level_says(k, w)
+}

@@ -1,7 +1,10 @@
 // Document 01, "Frames on the air", and RATS and ATS of "RATS, ATS and blocks": the frames of a selection, written, and read where the
 // reader reads them.
 pub mod heard;
+pub mod level;
+pub mod numbers;
 pub mod sent;
+pub mod split;
 
 use refusal::Refusal;
 

@@ -2,6 +2,13 @@ pub mod Order
 pub mod Uid
 pub mod Calls
 pub mod LevelLaws
+pub mod BytesAtLaws
 pub mod Table
 pub mod AirLaws
 pub mod FillLaws
+pub mod OrderLaws
+pub mod PartsLaws
+pub mod SortLaws
+pub mod StripLaws
+pub mod CheckLaws
+pub mod UidLaws

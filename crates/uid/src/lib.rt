@@ -3,8 +3,8 @@ ghost use mathlib.Core.Path.{_≡_};
 ghost use mathlib.Core.List.{[], _∷_};
 ghost use lib.ListN.{length};
 ghost use Rattle.rows.specs.Rows.{same};
-ghost use Rattle.uid.specs.Uid.{levelCount, byteCount, uidBytes, check, threeLevels, valid, rowOf};
-ghost use Rattle.uid.specs.Calls.{newUid, checked, airRow, airRowAfter};
+ghost use Rattle.uid.specs.Uid.{levelCount, byteCount, uidBytes, check, threeLevels, valid};
+ghost use Rattle.uid.specs.Calls.{newUid, airRow, airRowAfter};
 use refusal::Refusal;
 
 // Functions that only the crates of this repository call.

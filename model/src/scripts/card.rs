@@ -27,7 +27,7 @@ pub fn script(seed: u64) -> S {
     every_state(&mut s, false);
     damage(&mut s);
     s.remark("random scripts");
-    for _ in 0..45 {
+    for _ in 0..36 {
         random_script(&mut s, &mut random, false);
     }
     s
@@ -349,7 +349,8 @@ fn slips(s: &mut S) {
 
 /// The frames of selection, by which every state is tried.
 fn selection_frames(uid: &[u8]) -> Vec<String> {
-    let mut lines: Vec<String> = ["short 26", "short 52", "short 00", "short 35", "short 7F", "short 62"].map(String::from).to_vec();
+    let mut lines: Vec<String> =
+        ["short 26", "short 52", "short 00", "short 35", "short 7F", "short 62"].map(String::from).to_vec();
     let levels = uid::levels(uid);
     for level in 1..=3 {
         let bits = frames::bits_of(&levels[level - 1]);
@@ -363,8 +364,18 @@ fn selection_frames(uid: &[u8]) -> Vec<String> {
         lines.push(format!("bytes {}", show_hex(&select_bytes(uid, level))));
     }
     for line in [
-        "crc 5000", "bytes 5000", "crc 5001", "row -", "row 0", "row 1", "row x", "row 01001010", "row xxxxxxx", "bytes 00",
-        "crc 00", "row xxxxxxxxxxxxxxxxxx",
+        "crc 5000",
+        "bytes 5000",
+        "crc 5001",
+        "row -",
+        "row 0",
+        "row 1",
+        "row x",
+        "row 01001010",
+        "row xxxxxxx",
+        "bytes 00",
+        "crc 00",
+        "row xxxxxxxxxxxxxxxxxx",
     ] {
         lines.push(line.to_string());
     }
@@ -374,8 +385,21 @@ fn selection_frames(uid: &[u8]) -> Vec<String> {
 /// RATS and blocks as strangers in the states of selection, and where RATS is due.
 fn block_frames() -> Vec<String> {
     [
-        "crc E000", "crc E080", "crc E0F0", "crc E081", "crc E0", "crc E00000", "bytes E080", "crc 02", "crc 03AA", "crc 12BB", "crc A2",
-        "crc A3", "crc B2", "crc C2", "crc F201",
+        "crc E000",
+        "crc E080",
+        "crc E0F0",
+        "crc E081",
+        "crc E0",
+        "crc E00000",
+        "bytes E080",
+        "crc 02",
+        "crc 03AA",
+        "crc 12BB",
+        "crc A2",
+        "crc A3",
+        "crc B2",
+        "crc C2",
+        "crc F201",
     ]
     .map(String::from)
     .to_vec()
@@ -384,14 +408,16 @@ fn block_frames() -> Vec<String> {
 /// Every state of selection with every kind of frame, and with each host call. With `strangers` the frames are RATS and blocks.
 pub fn every_state(s: &mut S, strangers: bool) {
     s.remark(if strangers { "every state with RATS and blocks" } else { "every state with every frame of selection" });
-    let uid = hex(UID10);
-    let lines = if strangers { block_frames() } else { selection_frames(&uid) };
     for sak in ["20", "00"] {
-        fresh(s, UID10, sak, 8);
         for place in 0..7 {
-            if sak == "00" && place != 5 {
+            // A card that speaks no blocks differs in Active only; RATS and blocks are the same at each level.
+            if (sak == "00" && place != 5) || (strangers && (place == 3 || place == 4)) {
                 continue;
             }
+            // The card of three levels where the level matters, else one that is sooner Active.
+            let uid = if place < 5 { UID10 } else { UID4 };
+            let lines = if strangers { block_frames() } else { selection_frames(&hex(uid)) };
+            fresh(s, uid, sak, 8);
             let bring = |s: &mut S| match place {
                 0 => {
                     s.say("power off");
@@ -410,7 +436,6 @@ pub fn every_state(s: &mut S, strangers: bool) {
                 s.say(line);
                 bring(s);
             }
-            s.say("power off");
         }
     }
 }
@@ -488,7 +513,10 @@ fn random_line(s: &S, random: &mut Random, blocks: bool) -> String {
         State::Halt => frames::short(random.pick(&[WUPA, WUPA, WUPA, REQA])),
         State::Active => {
             if blocks && random.chance(80) {
-                frames::standard_with_crc(&[0xE0, random.pick(&[0x00, 0x00, 0x00, 0x10, 0x20, 0x30, 0x50, 0x80, 0xF0, 0x90, 0x01])])
+                frames::standard_with_crc(&[
+                    0xE0,
+                    random.pick(&[0x00, 0x00, 0x00, 0x10, 0x20, 0x30, 0x50, 0x80, 0xF0, 0x90, 0x01]),
+                ])
             } else {
                 frames::hlta()
             }
@@ -512,7 +540,6 @@ fn random_line(s: &S, random: &mut Random, blocks: bool) -> String {
     let wrong = if blocks { 4 } else { 14 };
     if random.chance(wrong) {
         let row = damaged(random, &row);
-        // A damaged frame must not turn into RATS or a block by chance; it never does, but it may stay as it was.
         return plain_row(&row);
     }
     if random.chance(wrong / 2) {

@@ -23,7 +23,7 @@ pub fn add(s: &mut S, seed: u64) {
     long_messages(s, &mut random);
     s.remark("random scripts with blocks");
     let mut scripts = 0;
-    while scripts < 130 && s.output.len() < 245_000 && s.input.len() < 245_000 {
+    while scripts < 130 && s.output.len() < 254_000 {
         random_script(s, &mut random, true);
         scripts += 1;
     }
@@ -53,6 +53,10 @@ fn mode(s: &S) -> Mode {
     link(s).expect("a card in Protocol").0
 }
 
+fn mode_if_linked(s: &S) -> Option<Mode> {
+    link(s).map(|(mode, _, _)| mode)
+}
+
 /// R(ACK) and R(NAK) of the card's own number, or of the other.
 fn ack_line(s: &S, own: bool) -> String {
     format!("crc {:02X}", 0xA2 | if own { number(s) } else { number(s) ^ 1 })
@@ -67,12 +71,10 @@ fn rats(s: &mut S) {
     for fsdi in 0..16 {
         protocol(s, (fsdi % 9) as usize, fsdi);
     }
-    s.remark("ATS of every index is document 000's; the largest frame of a reader that says 9 to 15 is index 8's");
-    for fsdi in [9, 15] {
-        protocol(s, 8, fsdi);
-        s.say("crc 02");
-        s.say(&format!("reply {}", "C3".repeat(253)));
-    }
+    s.remark("ATS of every index is document 000's; the largest frame of a reader that says 15 is index 8's");
+    protocol(s, 8, 15);
+    s.say("crc 02");
+    s.say(&format!("reply {}", "C3".repeat(253)));
     s.remark("no RATS: CID, length, CRC_A, a card that speaks no blocks");
     fresh(s, UID10, "20", 3);
     for line in ["crc E001", "crc E08F", "crc E0", "crc E00000", "bytes E000", "bytes E000F739", "bytes E00039F7"] {
@@ -118,7 +120,13 @@ const PLACES: [Place; 9] =
     [New, Joining, Answered, AnsweredInTwo, WtxAsked, WtxAskedThenAck, Answering, AnsweringThenAck, AnsweringOn];
 
 fn stand(s: &mut S, place: Place) {
-    enter(s, 0);
+    if mode_if_linked(s) == Some(Mode::Owing) {
+        s.say("reply -");
+    }
+    let joined = matches!(state(s), State::Protocol(link) if link.joined > 0);
+    if matches!(place, New) || joined || mode_if_linked(s).is_none() {
+        enter(s, 0);
+    }
     let say_nak = |s: &mut S| {
         let line = nak_line(s, false);
         s.say(&line);
@@ -173,8 +181,8 @@ fn table(s: &mut S) {
             Box::new(|_| vec!["crc 12E2".into()]),
             Box::new(|_| vec!["crc 13".into(), "crc 03E3".into()]),
             Box::new(|_| vec!["room 1".into(), "crc 12E4E5".into(), "crc 02E4E5".into(), "room 4096".into()]),
-            Box::new(|s| vec![ack_line(s, true), ack_line(s, true)]),
-            Box::new(|s| vec![nak_line(s, true), nak_line(s, true)]),
+            Box::new(|s| vec![ack_line(s, true)]),
+            Box::new(|s| vec![nak_line(s, true)]),
             Box::new(|s| vec![ack_line(s, false)]),
             Box::new(|s| vec![nak_line(s, false), nak_line(s, true), ack_line(s, true), ack_line(s, false)]),
             Box::new(|_| vec!["crc F207".into()]),
@@ -185,21 +193,55 @@ fn table(s: &mut S) {
             }),
             Box::new(|_| {
                 [
-                    "crc 00", "crc 01", "crc 04", "crc 06", "crc 07", "crc 0A00", "crc 0B00", "crc 1A05", "crc 22", "crc 42", "crc 82", "crc A0",
-                    "crc A6", "crc AA05", "crc BA05", "crc CA05", "crc C3", "crc E2", "crc F3", "crc FA0507", "crc D2", "crc E080", "crc 5000",
+                    "crc 00",
+                    "crc 06",
+                    "crc 07",
+                    "crc 0A00",
+                    "crc 1A05",
+                    "crc 22",
+                    "crc 42",
+                    "crc 82",
+                    "crc A0",
+                    "crc A6",
+                    "crc AA05",
+                    "crc BA05",
+                    "crc CA05",
+                    "crc C3",
+                    "crc E2",
+                    "crc F3",
+                    "crc FA0507",
+                    "crc D2",
+                    "crc E080",
+                    "crc 5000",
                 ]
                 .map(String::from)
                 .to_vec()
             }),
             Box::new(|_| {
-                ["row -", "row 0", "short 26", "short 52", "bytes 0200", "bytes 020000", "bytes C2E0B5", "row 0100000000011011111001110x0"]
-                    .map(String::from)
-                    .to_vec()
+                let deselect = frames::standard_with_crc(&[0xC2]);
+                vec![plain_row(&flipped(&deselect, 8)), plain_row(&flipped(&deselect, 3)), plain_row(&collided(&deselect, 8))]
+            }),
+            Box::new(|_| {
+                [
+                    "row -",
+                    "row 0",
+                    "short 26",
+                    "short 52",
+                    "bytes 0200",
+                    "bytes 020000",
+                    "bytes C2E0B5",
+                    "row 0100000000011011111001110x0",
+                ]
+                .map(String::from)
+                .to_vec()
             }),
             Box::new(|_| vec!["reply FF".into(), "wtx 1".into(), "wtx 0".into(), "wtx 60".into(), "power on".into()]),
             Box::new(|_| vec!["power off".into()]),
         ];
-        for row in rows {
+        // Where the card came to its place by one block more, the rows that change nothing are left out.
+        let count =
+            if matches!(place, AnsweredInTwo | WtxAskedThenAck | AnsweringThenAck | AnsweringOn) { 12 } else { rows.len() };
+        for row in &rows[..count] {
             stand(s, place);
             let lines = row(s);
             for line in lines {
@@ -210,10 +252,9 @@ fn table(s: &mut S) {
                 if found == Mode::Owing {
                     s.say("reply AA");
                 }
-                let lines = [nak_line(s, true), nak_line(s, false), "crc 02".to_string()];
-                for line in lines {
-                    s.say(&line);
-                }
+                let line = nak_line(s, true);
+                s.say(&line);
+                s.say("crc 02");
             }
         }
     }
@@ -230,8 +271,9 @@ fn owing(s: &mut S) {
             s.say("crc F23B");
         }
         for line in [
-            "crc 02", "crc 13AA", "crc A2", "crc A3", "crc B2", "crc B3", "crc C2", "crc F23B", "crc F201", "crc 00", "row -", "row x", "short 26",
-            "bytes 02", "power on", "wtx 0", "wtx 60", "wtx 63", "wtx 255", "wtx 1", "crc F202", "crc F201", "wtx 30", "crc F21E",
+            "crc 02", "crc 13AA", "crc A2", "crc A3", "crc B2", "crc B3", "crc C2", "crc F23B", "crc F201", "crc 00", "row -",
+            "row x", "short 26", "bytes 02", "power on", "wtx 0", "wtx 60", "wtx 63", "wtx 255", "wtx 1", "crc F202", "crc F201",
+            "wtx 30", "crc F21E",
         ] {
             s.say(line);
         }
@@ -282,6 +324,20 @@ fn lent_answer(s: &mut S) {
             s.say(&line);
         }
         s.say("crc 02");
+    }
+    s.remark("the next I behind the end of a shorter one: empty, the last; its place is behind the end, so the next call is 1");
+    enter(s, 0);
+    s.say("crc 02");
+    s.say(&format!("reply {long}"));
+    s.say("reply 0102");
+    for _ in 0..2 {
+        let line = ack_line(s, false);
+        s.say(&line);
+    }
+    s.say(&format!("reply {long}"));
+    let lines = [nak_line(s, true), ack_line(s, false)];
+    for line in lines {
+        s.say(&line);
     }
     s.remark("the place is 0 again once an I is accepted");
     enter(s, 0);
@@ -537,7 +593,8 @@ pub fn random_protocol_line(s: &S, random: &mut Random) -> String {
             [vec![first], random.bytes(count)].concat()
         }
         _ => {
-            let row = damaged(random, &frames::standard_with_crc(&[0x02 | random.below(2) as u8, 0x42]));
+            let first = 0x02 | random.below(2) as u8;
+            let row = damaged(random, &frames::standard_with_crc(&[first, 0x42]));
             return plain_row(&row);
         }
     };

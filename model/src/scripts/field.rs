@@ -32,11 +32,7 @@ pub fn random_uids(random: &mut Random) -> Vec<Vec<u8>> {
     let count = random.below(most + 1);
     let mut uids: Vec<Vec<u8>> = Vec::new();
     while uids.len() < count {
-        let uid = if uids.is_empty() || random.chance(35) {
-            random.uid()
-        } else {
-            relative(random, &uids)
-        };
+        let uid = if uids.is_empty() || random.chance(35) { random.uid() } else { relative(random, &uids) };
         if uid::valid(&uid) && !uids.contains(&uid) {
             uids.push(uid);
         }

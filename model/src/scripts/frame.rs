@@ -82,20 +82,18 @@ fn bounds(s: &mut Script<VectorsFrame>) {
     for count in [0, 1, 2, 253, 254, 255, 512, 513] {
         s.say(&format!("crc {}", show_hex(&many[..count])));
     }
-    for count in [256, 512, 513] {
+    for count in [256, 512] {
         s.say(&format!("crca {}", show_hex(&many[..count])));
     }
-    for count in [1, 2, 255, 256, 257] {
+    for count in [1, 2, 256, 257] {
         s.say(&format!("read {}", show_row(&frames::standard(&many[..count]))));
     }
-    for count in [1, 2, 253, 254, 255] {
+    for count in [1, 2, 254, 255] {
         s.say(&format!("readcrc {}", show_row(&frames::standard_with_crc(&many[..count]))));
     }
     s.say("readcrc 110001101110001101");
     s.say(&format!("read {}", "1".repeat(4096)));
     s.say(&format!("read {}", "1".repeat(4097)));
-    s.say(&format!("readcrc {}", "x".repeat(4095)));
-    s.say(&format!("readshort {}", "0".repeat(4097)));
     s.say(&format!("check {}", "01".repeat(512)));
     s.say(&format!("check {}", "01".repeat(513)));
 }
@@ -139,10 +137,7 @@ fn uids_and_sums(s: &mut Script<VectorsFrame>, random: &mut Random) {
     s.remark("the frame sum: document 01's numbers first");
     assert_eq!(s.say("sum"), "frames 1 order");
     assert_eq!(s.say("sum 80122821 01020304"), "frames 10 order 01020304 80122821");
-    assert_eq!(
-        s.say("sum 80122821 04112233445566 01020304"),
-        "frames 17 order 01020304 04112233445566 80122821"
-    );
+    assert_eq!(s.say("sum 80122821 04112233445566 01020304"), "frames 17 order 01020304 04112233445566 80122821");
     assert_eq!(s.say("sum 04112233445566 01020304"), "frames 12 order 01020304 04112233445566");
     for line in ["sum 01020304", "sum 04112233445566", "sum 56341280122821440010", "sum 01020304 01020304", "sum 88020304"] {
         s.say(line);
@@ -269,5 +264,4 @@ fn lines_not_understood(s: &mut Script<VectorsFrame>) {
     ] {
         s.say(line);
     }
-    s.say(&format!("crca {}", "0".repeat(16_384)));
 }

@@ -4,7 +4,7 @@ use mathlib.Core.Path.{refl, sym, ap}
 use native.Mathlib.Omega.{arith}
 use borrow.Author.Tests.{lt-ltb, le-ltb}
 use Rattle.uid.specs.Calls.{airRow}
-use Rattle.uid.specs.LevelLaws.{levels-most}
+use Rattle.uid.specs.BytesAtLaws.{levels-most}
 use Rattle.uid.specs.AirLaws.{row-made}
 use Rattle.uid.specs.declared.AirRow.the-variants.{Bits}
 use Rattle.uid.proofs.air_row.Statement.{statement}

@@ -4,7 +4,7 @@ use mathlib.Core.Path.{_≡_}
 use native.Mathlib.Omega.{arith}
 use lib.ListN.{length}
 use Rattle.uid.specs.Uid.{levels, threeLevels}
-use Rattle.uid.specs.LevelLaws.{three-at, four-at}
+use Rattle.uid.specs.BytesAtLaws.{three-at, four-at}
 use Rattle.uid.proofs.levels.Statement.{statement}
 use Rattle.uid.proofs.levels.Tie as tie
 

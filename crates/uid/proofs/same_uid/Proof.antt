@@ -5,7 +5,7 @@ use native.Mathlib.Omega.{arith}
 use lib.ListN.{length}
 use lib.Seq.{length-take-le}
 use Rattle.uid.specs.Uid.{uidBytes}
-use Rattle.uid.specs.LevelLaws.{bytes-most}
+use Rattle.uid.specs.BytesAtLaws.{bytes-most}
 use Rattle.uid.proofs.same_uid.Statement.{statement}
 use Rattle.uid.proofs.same_uid.Tie as tie
 

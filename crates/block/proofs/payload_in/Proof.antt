@@ -1,0 +1,61 @@
+use lib.ListN.{length-take, length-drop}
+use mathlib.Core.Path.{sym, ap, _∙_}
+use denote.Ref.{now}
+use native.Mathlib.Omega.{arith}
+use borrow.Author.Needs.{needs}
+use Rattle.block.specs.CutLaws.{part-none, part-cut}
+use Rattle.block.specs.Cut.{partBytes}
+use Rattle.rows.specs.RowLaws.{overlay-nil}
+use Rattle.rows.specs.Rows.{overlay}
+use Rattle.block.proofs.payload_in.Statement.{statement}
+use Rattle.block.proofs.payload_in.Tie as tie
+
+part-bytes-requires : tie.Need-part-bytes-requires
+part-bytes-requires c κs = search needs
+
+returns : tie.Need-returns
+returns c =
+    let a = c .before .before .before .before .args in
+    let e = c .before .part-bytes .ensures in
+    (omega (arith, e), sym (ap (overlay (now (a .out)) 0) (part-none (a .index) (a .at) (now (a .message)) (omega (arith, e))) ∙ overlay-nil (now (a .out)) 0))
+
+add-copy-in : tie.Need-add-copy-in
+unfolding partBytes
+add-copy-in c = omega (arith, c .before .before .part-bytes .ensures)
+
+sub-copy-in : tie.Need-sub-copy-in
+sub-copy-in c = search needs
+
+part-copy-in-start : tie.Need-part-copy-in-start
+part-copy-in-start c = search needs
+
+part-copy-in-end : tie.Need-part-copy-in-end
+unfolding partBytes
+part-copy-in-end c = omega (arith, c .before .before .part-bytes .ensures)
+
+copy-in-requires : tie.Need-copy-in-requires
+unfolding partBytes
+copy-in-requires c κs = simp (length-take, length-drop) (omega (arith, c .before .before .before .part-bytes .ensures))
+
+same-length : tie.Need-same-length
+same-length c = search needs
+
+returns-2 : tie.Need-returns-2
+returns-2 c =
+    let a = c .before .before .before .before .before .before .before .before .before .args in
+    let e = c .before .before .before .before .before .before .part-bytes .ensures in
+    (e, c .before .before .copy-in .ensures ∙ ap (overlay (now (a .out)) 0) (part-cut (a .index) (a .at) _ (now (a .message)) e))
+
+pub payload-in-spec : {M : Type 1} → statement M
+payload-in-spec =
+    tie.close
+    (tie.spec
+    part-bytes-requires
+    returns
+    add-copy-in
+    sub-copy-in
+    part-copy-in-start
+    part-copy-in-end
+    copy-in-requires
+    same-length
+    returns-2)

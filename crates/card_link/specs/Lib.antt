@@ -1,0 +1,4 @@
+pub mod CardRules
+pub mod CardFrames
+pub mod CardCalls
+pub mod CardLaws

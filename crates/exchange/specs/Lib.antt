@@ -1,0 +1,3 @@
+pub mod Exchange
+pub mod StepLaws
+pub mod ExchangeLaws

@@ -1,0 +1,85 @@
+-- A standard frame, whole or cut, has bits only, and no whole byte of it has wrong parity. Assumes nothing.
+use mathlib.Core.Path.{_≡_, refl, sym, ap, _∙_}
+use Prim.Native.Nat.{ℕ, zero, suc, _+_, _-_, _/_, _≤_, _<_, _*_}
+use mathlib.Core.Bool.{Bool, true, false, not, _&&_, _||_}
+use mathlib.Core.List.{List, [], _∷_, _++_, append-assoc}
+use lib.ListN.{length, take, getD, length-append, length-take, drop}
+use lib.Seq.{take-at, drop-at, getD-at, take-append-add, take-nil, take-length, drop-drop}
+use lib.Dec.{ltb, eqb}
+use borrow.Author.Tests.{ltb-true, ltb-false}
+use native.Mathlib.Omega.{arith}
+use Rattle.rows.specs.CleanLaws.{bits-clean, eqb-same}
+use Rattle.rows.specs.ListLaws.{all-append}
+use Rattle.rows.specs.Rows.{clean, Bits}
+use Rattle.parity.specs.BitLaws.{length-bits, bits-bits}
+use Rattle.parity.specs.Bits.{bitsOf, odd}
+use Rattle.frame.specs.Frame.{standard, faulty, airByte}
+use Rattle.frame.specs.FrameLaws.{length-airByte}
+
+bits-airByte : (b : ℕ) → Bits (airByte b)
+unfolding airByte odd
+bits-airByte b = all-append (λ x. x < 2) (bitsOf 8 b) (odd (bitsOf 8 b) ∷ []) (bits-bits 8 b) (omega arith, tt)
+
+pub bits-standard : (l : List ℕ) → Bits (standard l)
+unfolding standard
+bits-standard [] = tt
+bits-standard (b ∷ l) = all-append (λ x. x < 2) (airByte b) (standard l) (bits-airByte b) (bits-standard l)
+
+pub standard-append : (l m : List ℕ) → standard (l ++ m) ≡ standard l ++ standard m
+unfolding standard
+standard-append [] m = refl
+standard-append (b ∷ l) m = ap (λ r. airByte b ++ r) (standard-append l m) ∙ sym (append-assoc (airByte b) (standard l) (standard m))
+
+-- some whole byte of a row has wrong parity
+unfoldable pub wholeFaulty : List ℕ → Bool
+wholeFaulty r = faulty (length r / 9) r
+
+faulty-byte : (b n : ℕ) (S : List ℕ) → faulty (suc n) (airByte b ++ S) ≡ faulty n S
+unfolding faulty
+faulty-byte b n S =
+    rw (drop-at (airByte b) S 9 (length-airByte b), front, mark, bits-clean (bitsOf 8 b) (bits-bits 8 b), eqb-same (odd (bitsOf 8 b)))
+  where
+    front : take 8 (airByte b ++ S) ≡ bitsOf 8 b
+    front = unfold airByte in ap (take 8) (append-assoc (bitsOf 8 b) (odd (bitsOf 8 b) ∷ []) S) ∙ take-at (bitsOf 8 b) (odd (bitsOf 8 b) ∷ S) 8 (length-bits 8 b)
+
+    mark : getD (airByte b ++ S) 8 0 ≡ odd (bitsOf 8 b)
+    mark = unfold airByte in ap (λ r. getD r 8 0) (append-assoc (bitsOf 8 b) (odd (bitsOf 8 b) ∷ []) S) ∙ getD-at (bitsOf 8 b) (odd (bitsOf 8 b)) S 0 8 (length-bits 8 b)
+
+pub faulty-cut : (l : List ℕ) (m : ℕ) → wholeFaulty (take m (standard l)) ≡ false
+unfolding wholeFaulty standard faulty
+faulty-cut [] m = rw take-nil
+faulty-cut (b ∷ l) m = go (ltb m 9) refl (faulty-cut l (m - 9))
+  where
+    S : List ℕ
+    S = standard l
+
+    go : (t : Bool) → ltb m 9 ≡ t → wholeFaulty (take (m - 9) S) ≡ false → wholeFaulty (take m (airByte b ++ S)) ≡ false
+    go true e ih =
+        let k : m < 9 = ltb-true m 9 e in
+        let z : length (take m (airByte b ++ S)) / 9 ≡ 0 = rw length-take (omega arith) in
+        rw z
+    go false e ih =
+        let k : 9 ≤ m = ltb-false m 9 e in
+        let n : m ≡ length (airByte b) + (m - 9) = rw length-airByte (omega arith) in
+        let r : take m (airByte b ++ S) ≡ airByte b ++ take (m - 9) S = ap (λ i. take i (airByte b ++ S)) n ∙ take-append-add (airByte b) S (m - 9) in
+        let d : length (airByte b ++ take (m - 9) S) / 9 ≡ suc (length (take (m - 9) S) / 9) = rw (length-append, length-airByte) (omega arith) in
+        rw (r, d, faulty-byte b (length (take (m - 9) S) / 9) (take (m - 9) S)) ih
+
+pub faulty-standard : (l : List ℕ) → wholeFaulty (standard l) ≡ false
+faulty-standard l = ap wholeFaulty (sym (take-length (standard l))) ∙ faulty-cut l (length (standard l))
+
+-- ---- bytes that are passed over
+
+or-false : (a b : Bool) → (a || b) ≡ false → b ≡ false
+or-false true b e = absurd (mathlib.Core.Bool.true≢false e)
+or-false false b e = e
+
+-- bytes that are passed over
+pub faulty-drop : (n i : ℕ) (w : List ℕ) → faulty n w ≡ false → faulty (n - i) (drop (9 * i) w) ≡ false
+unfolding faulty
+faulty-drop n zero w e = let a : n - 0 ≡ n = omega arith in rw a e
+faulty-drop zero (suc i) w e = let a : 0 - suc i ≡ 0 = omega arith in rw a
+faulty-drop (suc n) (suc i) w e =
+    let a : suc n - suc i ≡ n - i = omega arith in
+    let b : 9 * suc i ≡ 9 + 9 * i = omega arith in
+    rw (a, b, ← drop-drop (9 * i) 9 w) (faulty-drop n i (drop 9 w) (or-false (clean (take 8 w) && not (eqb (getD w 8 0) (odd (take 8 w)))) (faulty n (drop 9 w)) e))

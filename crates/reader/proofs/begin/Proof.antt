@@ -1,0 +1,86 @@
+use denote.Ref.{now}
+use Rattle.reader.specs.Reader.{begin, sends}
+use Rattle.reader.specs.Calls.{beginCall, rowAfter}
+use Rattle.reader.specs.StepLaws.{call-not-due, call-room, call-due, begin-new, row-declined}
+use mathlib.Core.Path.{_≡_, sym, ap, _∙_}
+use borrow.Author.Tests.{not-true, not-false}
+use native.Mathlib.Omega.{arith}
+use borrow.Author.Needs.{needs}
+use Rattle.reader.proofs.begin.Statement.{statement}
+use Rattle.reader.proofs.begin.Tie as tie
+use Rattle.reader.proofs.begin.Reads as reads
+use Rattle.reader.proofs.begin.Lts as lts
+use Rattle.reader.proofs.declines.Reads as declines-reads
+use Rattle.reader.proofs.is_new.Reads as is-new-reads
+use Rattle.reader.proofs.within.blank.Reads as blank-reads
+use Rattle.reader.proofs.within.put_sent.Reads as put-sent-reads
+use Rattle.reader.proofs.within.sends.Reads as sends-reads
+
+-- src/lib.rt:105:9
+is-new-requires : tie.Need-is-new-requires
+is-new-requires c κs = search needs
+
+-- src/lib.rt:106:9
+declines-requires : tie.Need-declines-requires
+declines-requires c κs = search needs
+
+-- src/lib.rt:106:9
+returns : tie.Need-returns
+unfolding beginCall
+returns c =
+    let a = c .before .before .before .before .args in (
+      c .declines .ensures ∙ sym (call-not-due _ (a .r) _ _ (sym (c .before .before .is-new .ensures) ∙ not-true _ (c .before .if1 .taken))),
+      row-declined _ (a .r) _ (now (a .out)) (c .declines .ensures),
+    )
+
+-- src/lib.rt:109:9
+declines-requires-2 : tie.Need-declines-requires-2
+declines-requires-2 c κs = search needs
+
+-- src/lib.rt:109:9
+returns-2 : tie.Need-returns-2
+unfolding beginCall
+returns-2 c =
+    let a = c .before .before .before .before .before .args in (
+      c .declines2 .ensures ∙ sym (call-room _ (a .r) _ _ (sym (c .before .before .before .is-new .ensures) ∙ not-false _ (c .before .before .if1 .left)) (c .before .if2 .taken)),
+      row-declined _ (a .r) _ (now (a .out)) (c .declines2 .ensures),
+    )
+
+-- src/lib.rt:111:27
+blank-requires : tie.Need-blank-requires
+blank-requires c κs = search needs
+
+-- src/lib.rt:111:9
+sends-requires : tie.Need-sends-requires
+sends-requires c κs = search needs
+
+-- src/lib.rt:112:5
+put-sent-requires : tie.Need-put-sent-requires
+put-sent-requires c κs = search needs
+
+-- src/lib.rt:100:1
+same-length : tie.Need-same-length
+same-length c = search needs
+
+-- src/lib.rt:100:1
+returns-3 : tie.Need-returns-3
+unfolding beginCall rowAfter
+returns-3 c =
+    let a = c .before .before .before .before .before .before .before .before .before .before .args in
+    let n = sym (c .before .before .before .before .before .before .before .before .is-new .ensures) ∙ not-false _ (c .before .before .before .before .before .before .before .if1 .left) in
+    (c .before .before .before .before .sends .ensures ∙ ap sends (c .before .before .before .before .before .blank .ensures) ∙ sym (begin-new (a .sweeps) (a .r) n) ∙ sym (call-due _ (a .r) _ _ n (c .before .before .before .before .before .before .if2 .left)), c .before .before .put-sent .ensures)
+
+pub begin-spec : {M : Type 1} → statement M
+begin-spec =
+    tie.close
+    (tie.spec
+    is-new-requires
+    declines-requires
+    returns
+    declines-requires-2
+    returns-2
+    blank-requires
+    sends-requires
+    put-sent-requires
+    same-length
+    returns-3)

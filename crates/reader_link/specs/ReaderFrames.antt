@@ -1,0 +1,36 @@
+-- Document 01, "RATS, ATS and blocks": the reader's end, with the bytes heard, sent and lent.
+use Prim.Native.Nat.{ℕ}
+use mathlib.Core.Bool.{cond}
+use mathlib.Core.List.{List, []}
+use lib.ListN.{length}
+use Rattle.reader_link.specs.declared.ReaderLink.{ReaderLink}
+use Rattle.reader_link.specs.declared.ReaderStep.{ReaderStep}
+use Rattle.rows.specs.Rows.{overlay}
+use Rattle.frame.specs.Frame.{Verdict}
+use Rattle.block.specs.Cut.{part}
+use Rattle.block.specs.Out.{Out}
+use Rattle.block.specs.Block.{heardBlock, payload, blockBytes}
+use Rattle.reader_link.specs.ReaderRules.{readerParts, readerStarts, readerTakes}
+
+-- a step with the message m and the buffer that are lent; p is the payload that goes behind the joined bytes
+unfoldable pub readerOut : ReaderStep → List ℕ → List ℕ → ℕ → List ℕ → Out ReaderLink
+readerOut s m buffer joined p =
+    record {
+      link = s .link;
+      told = s .told;
+      sent = blockBytes (s .send) (part (s .link .card) (s .link .at) m);
+      buffer = cond (s .joins) (overlay buffer joined p) buffer;
+    }
+
+-- The reader hears a frame:
+unfoldable pub readerBlock : ReaderLink → Verdict → List ℕ → List ℕ → Out ReaderLink
+readerBlock r v m buffer =
+    readerOut (readerTakes r (r .phase) (heardBlock v) (length (payload v)) (length buffer) (length m)) m buffer (r .joined) (payload v)
+
+-- .. its host hands in the message m:
+unfoldable pub readerSend : ReaderLink → List ℕ → List ℕ → Out ReaderLink
+readerSend r m buffer = readerOut (readerStarts r (length m)) m buffer 0 []
+
+-- .. its host calls for DESELECT:
+unfoldable pub readerDeselect : ReaderLink → List ℕ → Out ReaderLink
+readerDeselect r buffer = readerOut (readerParts r) [] buffer 0 []

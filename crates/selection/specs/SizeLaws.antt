@@ -1,0 +1,22 @@
+-- The sizes as a table, and past it. Assumes nothing.
+use mathlib.Core.Path.{_≡_, refl, sym}
+use mathlib.Core.List.{List, [], _∷_}
+use Prim.Native.Nat.{ℕ, zero, suc, _≤_, _<_}
+use native.Mathlib.Nat.{not-suc-le-zero}
+use native.Mathlib.Omega.{arith}
+use lib.ListN.{length, getD, List·getD-eq-default}
+use Rattle.selection.specs.Selection.{size}
+
+-- what lies past a table's end is not read
+getD-in : (l : List ℕ) (i d e : ℕ) → i < length l → getD l i d ≡ getD l i e
+getD-in [] i d e h = absurd (not-suc-le-zero h)
+getD-in (x ∷ l) zero d e h = refl
+getD-in (x ∷ l) (suc i) d e h = getD-in l i d e (omega arith)
+
+pub size-small : (i : ℕ) → i < 8 → getD (16 ∷ 24 ∷ 32 ∷ 40 ∷ 48 ∷ 64 ∷ 96 ∷ 128 ∷ []) i 0 ≡ size i
+unfolding size
+size-small i h = getD-in (16 ∷ 24 ∷ 32 ∷ 40 ∷ 48 ∷ 64 ∷ 96 ∷ 128 ∷ []) i 0 256 h
+
+pub size-large : (i : ℕ) → 8 ≤ i → 256 ≡ size i
+unfolding size
+size-large i h = sym (List·getD-eq-default (16 ∷ 24 ∷ 32 ∷ 40 ∷ 48 ∷ 64 ∷ 96 ∷ 128 ∷ []) 256 h)

@@ -1,0 +1,154 @@
+-- Demand 3. Assumes nothing.
+use mathlib.Core.Path.{_≡_, refl, sym, ap, ap₂, _∙_}
+use mathlib.Core.Logic.{_≢_}
+use Prim.Native.Nat.{ℕ, _*_, _/_, _≤_}
+use mathlib.Core.Bool.{true, false}
+use mathlib.Core.List.{List, [], _∷_, map, map-map}
+use lib.ListN.{length, length-map, length-take}
+use borrow.Author.Tests.{le-ltb}
+use native.Mathlib.Omega.{arith}
+use Rattle.sweep_rules.proofs.Abstract
+use Rattle.rows.specs.EachLaws.{all-zip, all-map}
+use Rattle.rows.specs.Rows.{All}
+use Rattle.uid.specs.LevelLaws.{wide, InLevels}
+use Rattle.uid.specs.Order.{diff}
+use Rattle.uid.specs.OrderLaws.{Off}
+use Rattle.uid.specs.SortLaws.{map-sort, length-sort, all-sort}
+use Rattle.uid.specs.Uid.{levels, rowOf, falling, frameSum, uidBytes}
+use Rattle.uid.specs.UidLaws.{name, Sound, rows-off, length-row, name-row}
+use Rattle.reader.specs.Reader.{blank, turn, isNew}
+use Rattle.log.specs.Log.{exchangeBytes}
+use Rattle.sweep_rules.specs.Call.{done, sweepCall}
+use Rattle.sweep_rules.specs.Demand.{Typed, idle, halted, Swept, Demand3}
+use Rattle.sweep_rules.specs.Limits.{mostCards, logRoom, listRoom, mostFrames}
+use Rattle.sweep_rules.specs.Run.{sweep}
+use Rattle.sweep_rules.specs.Terms.{within}
+use Rattle.sweep_rules.proofs.Abstract.{Falling, sort, frames, Apart}
+use Rattle.sweep_rules.proofs.Falling.{sort-falling}
+use Rattle.sweep_rules.proofs.Idle.{Fits, idlers, idles, idle-uids, all-idle, few-idle}
+use Rattle.sweep_rules.proofs.IdleRows.{whole-idles}
+use Rattle.sweep_rules.proofs.LogSize.{small-all, log-length, list-length}
+use Rattle.sweep_rules.proofs.Model.{view, model-swept}
+use Rattle.sweep_rules.proofs.Sweep.{sweep-bound, frames-small}
+use Rattle.sweep_rules.proofs.Within.{Within, within-says, Differ, uids}
+use Rattle.uid.specs.declared.Uid.{Uid}
+use Rattle.card.specs.declared.Card.{Card}
+use Rattle.reader.specs.declared.Answer.the-variants.{Finishes}
+use Rattle.reader.specs.declared.Phase.the-variants.{Finished}
+use Rattle.reader.specs.declared.Reader.{Reader}
+
+-- ---- rows that are apart
+
+apart-rows : (us : List Uid) → All Sound us → Differ us → Apart (map rowOf us)
+apart-rows [] s d = tt
+apart-rows (u ∷ us) s d = (
+  all-map {F = λ v. Sound v × (uidBytes u ≢ uidBytes v)} (λ r. Off (diff (rowOf u) r) × Off (diff r (rowOf u))) rowOf us
+      (λ v h. (rows-off u v (s .0) (h .0) (h .1), rows-off v u (h .0) (s .0) (λ e. h .1 (sym e)))) (all-zip us (λ v a b. (a, b)) (s .1) (d .0)),
+  apart-rows us (s .1) (d .1),
+)
+
+-- ---- falling order over UIDs
+
+rows-falling : (us : List Uid) → sort (map rowOf us) ≡ map rowOf (falling us)
+unfolding falling
+rows-falling us = sym (map-sort rowOf us)
+
+all-falling : (G : Uid → Type 0) (us : List Uid) → All G us → All G (falling us)
+unfolding falling
+all-falling G us h = all-sort rowOf G us h
+
+length-falling : (us : List Uid) → length (falling us) ≡ length us
+unfolding falling
+length-falling us = length-sort rowOf us
+
+names : (us : List Uid) → All Sound us → map name (map rowOf us) ≡ map uidBytes us
+names [] s = refl
+names (u ∷ us) s = ap₂ _∷_ (name-row u (s .0)) (names us (s .1))
+
+frames-sum : (us : List Uid) → All Sound us → frames (map rowOf us) ≡ frameSum us
+unfolding frames frameSum Abstract.levels wide
+frames-sum [] s = refl
+frames-sum (u ∷ us) s = let e : 40 * length (levels u) / 40 ≡ length (levels u) = omega arith in rw (length-row u (s .0), e, frames-sum us (s .1))
+
+-- ---- demand 3
+
+module _ (cs : List Card) (s : All Fits cs) (few : length cs ≤ mostCards) (d : Differ (uids (idlers cs))) where
+  found : List Uid
+  found = falling (idle cs)
+
+  sound-idle : All Sound (idle cs)
+  sound-idle = rw (idle-uids cs) (all-map {F = Fits} Sound (λ c. c .uid) (idlers cs) (λ c h. h .sound) (all-idle Fits cs s))
+
+  sound-found : All Sound found
+  unfolding found
+  sound-found = all-falling Sound (idle cs) sound-idle
+
+  rows-are : idles cs ≡ map rowOf (idle cs)
+  unfolding idles
+  rows-are = rw (idle-uids cs) (sym (map-map rowOf (λ c. c .uid) (idlers cs)))
+
+  apart-idles : Apart (idles cs)
+  apart-idles = rw rows-are (apart-rows (idle cs) sound-idle (rw (idle-uids cs) d))
+
+  whole : All (InLevels 3) (idles cs)
+  whole = whole-idles cs s
+
+  length-idles : length (idles cs) ≡ length (idle cs)
+  length-idles = rw rows-are (length-map (idle cs) rowOf)
+
+  few-idles : length (idle cs) ≤ mostCards
+  few-idles = rw (idle-uids cs) (rw length-map (omega (arith, few-idle cs)))
+
+  is-found : sort (idles cs) ≡ map rowOf found
+  unfolding found
+  is-found = rw rows-are (rows-falling (idle cs))
+
+  rows-fall : Falling (map rowOf (falling (idle cs)))
+  unfolding found
+  rows-fall = rw is-found at (sort-falling (idles cs) whole apart-idles)
+
+  sum-is : frames (sort (idles cs)) ≡ frameSum found
+  sum-is = ap frames is-found ∙ frames-sum found sound-found
+
+  sum-small : frames (sort (idles cs)) ≤ 249
+  sum-small = frames-small (idles cs) whole (omega (arith, length-idles, few-idles))
+
+  swept : view (sweep cs) ≡ (map uidBytes found, frameSum found, (map halted cs, true, turn (blank Finished false) Finishes))
+  unfolding sweep
+  swept = model-swept mostFrames cs s apart-idles (omega (arith, sum-small))
+      ∙ ap₂ (λ l n. (l, n, (map halted cs, true, turn (blank Finished false) Finishes))) (ap (map name) is-found ∙ names found sound-found) sum-is
+
+  count : length (sweep cs .exchanges) ≡ frameSum found
+  unfolding view
+  count = ap (λ w. w .1) swept
+
+  fits-found : All (λ u. length u ≤ 10) (map uidBytes found)
+  unfolding uidBytes
+  fits-found = all-map {F = Sound} (λ u. length u ≤ 10) uidBytes found (λ u t. rw length-take (omega (arith, t .ten))) sound-found
+
+  sweep-is : Swept cs (sweep cs)
+  unfolding view found
+  sweep-is =
+      let e : All (λ e. length (exchangeBytes e) ≤ 19) (sweep cs .exchanges) = small-all (sweep cs .exchanges) (ap (λ w. w .2 .1) swept) in
+      record {
+        finished = ap (λ w. w .2 .2) swept;
+        found = ap (λ w. w .0) swept;
+        cards = ap (λ w. w .2 .0) swept;
+        frames = count;
+        bound = rw (count, ← sum-is) (rw length-idles at (sweep-bound (idles cs) whole));
+        short = e;
+        log-fits = omega (arith, log-length (sweep cs .exchanges) e, count, sum-is, sum-small);
+        list-fits = rw (ap (λ w. w .0) swept, list-length (map uidBytes found) fits-found, length-map (falling (idle cs)) uidBytes, length-falling (idle cs)) (omega (arith, few-idles));
+      }
+
+call-is : (cs : List Card) → within cs ≡ true → (r : Reader) (log list : List ℕ) → isNew (r .phase) ≡ true → logRoom ≤ length log → listRoom ≤ length list
+    → sweepCall r log list cs ≡ done log list (sweep cs)
+unfolding sweepCall
+call-is cs w r log list n h k = rw (n, le-ltb (length log) logRoom h, le-ltb (length list) listRoom k, w)
+
+pub demand3 : (cs : List Card) → All Typed cs → within cs ≡ true → Demand3 cs
+demand3 cs t w = let x : Within cs = within-says cs t w in record { swept = sweep-is cs (x .fits) (x .few) (x .differ); call = call-is cs w }
+
+-- the order of the list is falling
+pub found-falls : (cs : List Card) → All Typed cs → within cs ≡ true → Falling (map rowOf (falling (idle cs)))
+found-falls cs t w = let x : Within cs = within-says cs t w in rows-fall cs (x .fits) (x .few) (x .differ)
