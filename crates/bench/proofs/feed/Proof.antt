@@ -1,33 +1,25 @@
-use mathlib.Core.Path.{_≡_, refl, sym, ap, _∙_}
-use native.Mathlib.Omega.{arith}
+-- `bench::feed` meets its contract. Assumes nothing.
 use denote.Ref.{now}
 use borrow.Author.Tests.{lt-ltb, le-ltb, eq-eqb, ne-eqb}
+use borrow.Author.Needs.{needs}
 use Rattle.rows.specs.RowLaws.{overlay-one}
 use Rattle.bench.specs.Lines.{fed, fedBytes}
-use borrow.Author.Needs.{needs}
 use Rattle.bench.proofs.feed.Statement.{statement}
 use Rattle.bench.proofs.feed.Tie as tie
-use Rattle.bench.proofs.feed.Reads as reads
-use Rattle.bench.proofs.feed.Lts as lts
 
--- src/lib.rt:43:9
 returns : tie.Need-returns
 unfolding fed fedBytes
 returns c = (simp (eq-eqb _ _ (c .if1 .taken)), simp (eq-eqb _ _ (c .if1 .taken)))
 
--- src/lib.rt:50:9
 slice-write-bytes : tie.Need-slice-write-bytes
 slice-write-bytes c = search needs
 
--- src/lib.rt:52:21
 add-t8 : tie.Need-add-t8
 add-t8 c = search needs
 
--- src/lib.rt:51:9
 same-length : tie.Need-same-length
 same-length c = search needs
 
--- src/lib.rt:51:9
 returns-2 : tie.Need-returns-2
 unfolding fed fedBytes
 returns-2 c =
@@ -36,7 +28,6 @@ returns-2 c =
     let a = c .before .before .args in
     (simp (n, t), simp (n, t) (overlay-one (now (a .bytes)) (a .line .length) (a .b) (c .if2 .taken)))
 
--- src/lib.rt:37:1
 returns-3 : tie.Need-returns-3
 unfolding fed fedBytes
 returns-3 c = (simp (ne-eqb _ _ (c .before .if1 .left), le-ltb _ _ (c .if2 .left)), simp (ne-eqb _ _ (c .before .if1 .left), le-ltb _ _ (c .if2 .left)))

@@ -1,41 +1,32 @@
+-- `bench::kind` meets its contract. Assumes nothing.
 use lib.ListN.{length}
-use mathlib.Core.Path.{_≡_, refl, sym, ap, _∙_}
+use mathlib.Core.Path.{sym, ap, _∙_}
 use borrow.Author.Tests.{lt-ltb, le-ltb, eq-eqb, ne-eqb}
-use Rattle.bench.specs.Words.{kindOf}
 use borrow.Author.Needs.{needs}
+use Rattle.bench.specs.Words.{kindOf}
 use Rattle.bench.proofs.kind.Statement.{statement}
 use Rattle.bench.proofs.kind.Tie as tie
-use Rattle.bench.proofs.kind.Reads as reads
-use Rattle.bench.proofs.kind.Lts as lts
-use Rattle.bench.proofs.within.first.Reads as first-reads
-use Rattle.bench.proofs.word.Reads as word-reads
 
--- src/lib.rt:83:9
 returns : tie.Need-returns
 unfolding kindOf
 returns c = rw (c .if1 .taken)
 
--- src/lib.rt:86:9
 returns-2 : tie.Need-returns-2
 unfolding kindOf
 returns-2 c = simp (c .before .if1 .left, lt-ltb _ _ (c .if2 .taken))
 
--- src/lib.rt:88:8
 first-requires : tie.Need-first-requires
 first-requires c κs = search needs
 
--- src/lib.rt:89:9
 returns-3 : tie.Need-returns-3
 unfolding kindOf
 returns-3 c =
     let b = c .before .before in
     simp (b .before .if1 .left, le-ltb _ _ (b .if2 .left), eq-eqb _ _ (sym (c .before .first .ensures) ∙ c .if3 .taken))
 
--- src/lib.rt:91:8
 word-requires : tie.Need-word-requires
 word-requires c κs = search needs
 
--- src/lib.rt:92:9
 returns-4 : tie.Need-returns-4
 unfolding kindOf
 returns-4 c =
@@ -44,7 +35,6 @@ returns-4 c =
     let n = ne-eqb _ _ (λ e. f .if3 .left (f .before .first .ensures ∙ e)) in
     simp (b .before .if1 .left, le-ltb _ _ (b .if2 .left), n, eq-eqb _ _ (sym (ap length (c .before .word .ensures)) ∙ c .if4 .taken))
 
--- src/lib.rt:79:1
 returns-5 : tie.Need-returns-5
 unfolding kindOf
 returns-5 c =

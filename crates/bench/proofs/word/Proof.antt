@@ -1,5 +1,6 @@
+-- `bench::word` meets its contract. The loop's invariant: i words are passed. Assumes nothing.
 use Prim.Native.Nat.{_≤_, _-_}
-use mathlib.Core.Path.{_≡_, refl, sym, ap, _∙_}
+use mathlib.Core.Path.{_≡_, sym, ap, _∙_}
 use native.Mathlib.Omega.{arith}
 use native.Mathlib.Nat.{sub-zero}
 use denote.Ref.{now}
@@ -8,11 +9,6 @@ use Rattle.bench.specs.Words.{wordAt, firstRun}
 use Rattle.bench.specs.WordLaws.{word-next}
 use Rattle.bench.proofs.word.Statement.{statement}
 use Rattle.bench.proofs.word.Tie as tie
-use Rattle.bench.proofs.word.Reads as reads
-use Rattle.bench.proofs.word.Lts as lts
-use Rattle.bench.proofs.within.after_word.Reads as after-word-reads
-use Rattle.bench.proofs.within.skip.Reads as skip-reads
-use Rattle.bench.proofs.within.stop.Reads as stop-reads
 
 abbrev Inv-loop : tie.InvT-loop
 Inv-loop text k at₀ i₀ at i = (i ≤ k) × (at ≤ length text) × (wordAt (k - i) (drop at text) ≡ wordAt k text)
@@ -20,23 +16,18 @@ Inv-loop text k at₀ i₀ at i = (i ≤ k) × (at ≤ length text) × (wordAt (
 abbrev μ-loop : tie.MeasureT-loop
 μ-loop text k at₀ i₀ at i = k - i
 
--- src/lib.rt:102:5
 loop-holds : tie.Need-loop-holds Inv-loop μ-loop
 loop-holds c = (omega arith, omega arith, rw sub-zero)
 
--- src/lib.rt:103:9
 after-word-requires : tie.Need-after-word-requires Inv-loop μ-loop
 after-word-requires c κs = omega arith
 
--- src/lib.rt:102:9
 add-i : tie.Need-add-i Inv-loop μ-loop
 add-i c = omega arith
 
--- src/lib.rt:102:5
 loop-less : tie.Need-loop-less Inv-loop μ-loop
 loop-less c = omega arith
 
--- src/lib.rt:102:5
 loop-again : tie.Need-loop-again Inv-loop μ-loop
 loop-again c =
     let l = c .before .before .loop in
@@ -46,27 +37,21 @@ loop-again c =
       rw (c .after-word .ensures .1) (sym (word-next (a .k) (l .i) (drop (l .at) (now (a .text))) (omega arith)) ∙ l .inv .2),
     )
 
--- src/lib.rt:105:9
 skip-requires : tie.Need-skip-requires Inv-loop μ-loop
 skip-requires c κs = omega arith
 
--- src/lib.rt:106:9
 stop-requires : tie.Need-stop-requires Inv-loop μ-loop
 stop-requires c κs = c .skip .ensures .high
 
--- src/lib.rt:107:5
 sub-result : tie.Need-sub-result Inv-loop μ-loop
 sub-result c = c .stop .ensures .low
 
--- src/lib.rt:107:5
 part-result-start : tie.Need-part-result-start Inv-loop μ-loop
 part-result-start c = c .stop .ensures .low
 
--- src/lib.rt:107:5
 part-result-end : tie.Need-part-result-end Inv-loop μ-loop
 part-result-end c = c .stop .ensures .high
 
--- src/lib.rt:98:1
 returns : tie.Need-returns Inv-loop μ-loop
 unfolding wordAt
 returns c =

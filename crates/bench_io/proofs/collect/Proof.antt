@@ -1,15 +1,11 @@
+-- `bench_io::collect` meets its contract. The loop's invariant: the end lies within the buffer. Assumes nothing.
 use Prim.Native.Nat.{_≤_, _-_}
-use mathlib.Core.Path.{_≡_, refl, _∙_}
+use mathlib.Core.Path.{_≡_, refl}
 use native.Mathlib.Omega.{arith}
 use borrow.Author.Needs.{needs}
 use lib.ListN.{length}
 use Rattle.bench_io.proofs.collect.Statement.{statement}
 use Rattle.bench_io.proofs.collect.Tie as tie
-use Rattle.bench_io.proofs.collect.Reads as reads
-use Rattle.bench_io.proofs.collect.Lts as lts
-use Rattle.bench.proofs.feed.Reads as feed-reads
-use Rattle.bench_io.proofs.least.Reads as least-reads
-use Rattle.bench_io.proofs.moved.Reads as moved-reads
 
 abbrev Inv-loop : tie.InvT-loop
 Inv-loop input buffer line₀ l₀ at₀ end line l at = (end ≤ length buffer) × (length line ≡ length line₀)
@@ -17,55 +13,42 @@ Inv-loop input buffer line₀ l₀ at₀ end line l at = (end ≤ length buffer)
 abbrev μ-loop : tie.MeasureT-loop
 μ-loop input buffer line₀ l₀ at₀ end line l at = end - at
 
--- src/lib.rt:114:9
 least-requires : tie.Need-least-requires Inv-loop μ-loop
 least-requires c κs = tt
 
--- src/lib.rt:115:5
 loop-holds : tie.Need-loop-holds Inv-loop μ-loop
 loop-holds c = (c .least .ensures, refl)
 
--- src/lib.rt:116:34
 shared-slice-read-feed : tie.Need-shared-slice-read-feed Inv-loop μ-loop
 shared-slice-read-feed c = omega arith
 
--- src/lib.rt:116:9
 feed-requires : tie.Need-feed-requires Inv-loop μ-loop
 feed-requires c κs = tt
 
--- src/lib.rt:117:9
 add-at : tie.Need-add-at Inv-loop μ-loop
 add-at c = omega arith
 
--- src/lib.rt:119:13
 moved-requires : tie.Need-moved-requires Inv-loop μ-loop
 moved-requires c κs = tt
 
--- src/lib.rt:119:13
 same-length : tie.Need-same-length Inv-loop μ-loop
 same-length c = search needs
 
--- src/lib.rt:119:13
 returns : tie.Need-returns Inv-loop μ-loop
 returns c = tt
 
--- src/lib.rt:115:5
 loop-less : tie.Need-loop-less Inv-loop μ-loop
 loop-less c = omega arith
 
--- src/lib.rt:115:5
 loop-again : tie.Need-loop-again Inv-loop μ-loop
 loop-again c = (omega arith, omega (arith, c .before .before .before .feed .kept .0))
 
--- src/lib.rt:122:5
 moved-requires-2 : tie.Need-moved-requires-2 Inv-loop μ-loop
 moved-requires-2 c κs = tt
 
--- src/lib.rt:111:1
 same-length-2 : tie.Need-same-length-2 Inv-loop μ-loop
 same-length-2 c = search needs
 
--- src/lib.rt:111:1
 returns-2 : tie.Need-returns-2 Inv-loop μ-loop
 returns-2 c = tt
 

@@ -1,14 +1,10 @@
-use mathlib.Core.Path.{_≡_, refl, _∙_}
+-- `bench_io::next_line` meets its contract. The measure is the number of turns that are left. Assumes nothing.
+use mathlib.Core.Path.{_≡_, refl}
 use native.Mathlib.Omega.{arith}
 use borrow.Author.Needs.{needs}
 use lib.ListN.{length}
 use Rattle.bench_io.proofs.next_line.Statement.{statement}
 use Rattle.bench_io.proofs.next_line.Tie as tie
-use Rattle.bench_io.proofs.next_line.Reads as reads
-use Rattle.bench_io.proofs.next_line.Lts as lts
-use Rattle.bench_io.proofs.collect.Reads as collect-reads
-use Rattle.bench_io.proofs.fresh.Reads as fresh-reads
-use Rattle.bench_io.proofs.refill.Reads as refill-reads
 
 abbrev Inv-loop : tie.InvT-loop
 Inv-loop buffer₀ line₀ s₀ turns₀ buffer line s turns = (length buffer ≡ length buffer₀) × (length line ≡ length line₀)
@@ -16,67 +12,51 @@ Inv-loop buffer₀ line₀ s₀ turns₀ buffer line s turns = (length buffer �
 abbrev μ-loop : tie.MeasureT-loop
 μ-loop buffer₀ line₀ s₀ turns₀ buffer line s turns = turns
 
--- src/lib.rt:31:9
 fresh-requires : tie.Need-fresh-requires Inv-loop μ-loop
 fresh-requires c κs = tt
 
--- src/lib.rt:33:5
 loop-holds : tie.Need-loop-holds Inv-loop μ-loop
 loop-holds c = (refl, refl)
 
--- src/lib.rt:34:9
 sub-turns : tie.Need-sub-turns Inv-loop μ-loop
 sub-turns c = omega arith
 
--- src/lib.rt:35:9
 collect-requires : tie.Need-collect-requires Inv-loop μ-loop
 collect-requires c κs = tt
 
--- src/lib.rt:38:13
 same-length : tie.Need-same-length Inv-loop μ-loop
 same-length c = search needs
 
--- src/lib.rt:38:13
 same-length-2 : tie.Need-same-length-2 Inv-loop μ-loop
 same-length-2 c = search needs
 
--- src/lib.rt:38:13
 returns : tie.Need-returns Inv-loop μ-loop
 returns c = tt
 
--- src/lib.rt:40:9
 refill-requires : tie.Need-refill-requires Inv-loop μ-loop
 refill-requires c κs = tt
 
--- src/lib.rt:42:13
 same-length-3 : tie.Need-same-length-3 Inv-loop μ-loop
 same-length-3 c = search needs
 
--- src/lib.rt:42:13
 same-length-4 : tie.Need-same-length-4 Inv-loop μ-loop
 same-length-4 c = search needs
 
--- src/lib.rt:42:13
 returns-2 : tie.Need-returns-2 Inv-loop μ-loop
 returns-2 c = tt
 
--- src/lib.rt:33:5
 loop-less : tie.Need-loop-less Inv-loop μ-loop
 loop-less c = omega arith
 
--- src/lib.rt:33:5
 loop-again : tie.Need-loop-again Inv-loop μ-loop
 loop-again c = search needs
 
--- src/lib.rt:30:1
 same-length-5 : tie.Need-same-length-5 Inv-loop μ-loop
 same-length-5 c = search needs
 
--- src/lib.rt:30:1
 same-length-6 : tie.Need-same-length-6 Inv-loop μ-loop
 same-length-6 c = search needs
 
--- src/lib.rt:30:1
 returns-3 : tie.Need-returns-3 Inv-loop μ-loop
 returns-3 c = tt
 

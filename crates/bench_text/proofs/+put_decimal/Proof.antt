@@ -1,10 +1,11 @@
+-- `bench_text::put_decimal` meets its contract. The measure is the number: each call has one digit less. Assumes nothing.
 use mathlib.Core.Path.{_≡_, sym, _∙_}
 use native.Mathlib.Omega.{arith}
 use denote.Ref.{now}
-use Rattle.bench_text.specs.TextLaws.{wrote-more, decimal-small, decimal-more}
 use Prim.Native.Nat.{ℕ, _<_}
 use borrow.Fn.Kinds.{In}
 use borrow.Fn.PlainCycle.{Measures, is, falls, and}
+use Rattle.bench_text.specs.TextLaws.{wrote-more, decimal-small, decimal-more}
 use Rattle.bench_text.proofs.put_decimal.Reads as put-decimal
 use Rattle.bench_text.proofs.put_decimal.Kinds as put-decimal-kinds
 use Rattle.bench_text.proofs.+put_decimal.Lts-put_decimal as put-decimal-lts
@@ -23,7 +24,6 @@ abbrev put-decimal-below : ℕ → In 1 put-decimal-kinds.ps
 put-decimal-below t =
     and 1 put-decimal-kinds.ps (falls 1 put-decimal-kinds.ps _<_ μ-put-decimal t) put-decimal.Pre
 
--- src/lib.rt:61:9
 put-decimal-put-last-digit-requires : (t : ℕ) → put-decimal-lts.Need-put-last-digit-requires (
   put-last-digit-reads.Asked,
   put-last-digit-reads.Learnt,
@@ -32,7 +32,6 @@ put-decimal-put-last-digit-requires : (t : ℕ) → put-decimal-lts.Need-put-las
 ) (put-decimal-at t) put-decimal.Post
 put-decimal-put-last-digit-requires t c κs = tt
 
--- src/lib.rt:61:9
 put-decimal-same-length : (t : ℕ) → put-decimal-lts.Need-same-length (
   put-last-digit-reads.Asked,
   put-last-digit-reads.Learnt,
@@ -41,7 +40,6 @@ put-decimal-same-length : (t : ℕ) → put-decimal-lts.Need-same-length (
 ) (put-decimal-at t) put-decimal.Post
 put-decimal-same-length t c = c .before .before .put-last-digit .kept .0
 
--- src/lib.rt:61:9
 put-decimal-returns : (t : ℕ) → put-decimal-lts.Need-returns (
   put-last-digit-reads.Asked,
   put-last-digit-reads.Learnt,
@@ -52,7 +50,6 @@ put-decimal-returns t c =
     let a = c .before .before .before .before .before .before .args in
     rw (decimal-small (a .n) (omega arith)) (c .before .before .put-last-digit .ensures)
 
--- src/lib.rt:63:9
 put-decimal-put-decimal-requires : (t : ℕ) → put-decimal-lts.Need-put-decimal-requires (
   put-last-digit-reads.Asked,
   put-last-digit-reads.Learnt,
@@ -64,7 +61,6 @@ put-decimal-put-decimal-requires t c κs =
     let e : n ≡ t = c .before .before .before .pre .0 in
     (omega arith, tt)
 
--- src/lib.rt:64:5
 put-decimal-put-last-digit-requires-2 : (t : ℕ) → put-decimal-lts.Need-put-last-digit-requires-2 (
   put-last-digit-reads.Asked,
   put-last-digit-reads.Learnt,
@@ -73,7 +69,6 @@ put-decimal-put-last-digit-requires-2 : (t : ℕ) → put-decimal-lts.Need-put-l
 ) (put-decimal-at t) put-decimal.Post
 put-decimal-put-last-digit-requires-2 t c κs = tt
 
--- src/lib.rt:57:1
 put-decimal-same-length-2 : (t : ℕ) → put-decimal-lts.Need-same-length-2 (
   put-last-digit-reads.Asked,
   put-last-digit-reads.Learnt,
@@ -82,7 +77,6 @@ put-decimal-same-length-2 : (t : ℕ) → put-decimal-lts.Need-same-length-2 (
 ) (put-decimal-at t) put-decimal.Post
 put-decimal-same-length-2 t c = c .before .before .put-last-digit2 .kept .0 ∙ c .before .before .before .before .before .before .put-decimal .kept .0
 
--- src/lib.rt:57:1
 put-decimal-returns-2 : (t : ℕ) → put-decimal-lts.Need-returns-2 (
   put-last-digit-reads.Asked,
   put-last-digit-reads.Learnt,

@@ -1,5 +1,6 @@
+-- `bench_text::put_bits` meets its contract. The loop's invariant: the first i bits are written. Assumes nothing.
 use Prim.Native.Nat.{_≤_, _-_}
-use mathlib.Core.Path.{_≡_, refl, sym, ap, _∙_}
+use mathlib.Core.Path.{_≡_, refl, _∙_}
 use native.Mathlib.Omega.{arith}
 use denote.Ref.{now}
 use lib.ListN.{length, take}
@@ -9,10 +10,6 @@ use Rattle.bench_text.specs.Text.{Wrote, bitsText}
 use Rattle.bench_text.specs.TextLaws.{wrote-nil, wrote-more, bits-next}
 use Rattle.bench_text.proofs.put_bits.Statement.{statement}
 use Rattle.bench_text.proofs.put_bits.Tie as tie
-use Rattle.bench_text.proofs.put_bits.Reads as reads
-use Rattle.bench_text.proofs.put_bits.Lts as lts
-use Rattle.bench_text.proofs.put.Reads as put-reads
-use Rattle.bench_text.proofs.within.bit_char.Reads as bit-char-reads
 
 abbrev Inv-loop : tie.InvT-loop
 Inv-loop out₀ at row p₀ i₀ i-end out p i = (i ≤ length row) × (length out ≡ length out₀) × Wrote out₀ at (bitsText (take i row)) p out
@@ -20,36 +17,28 @@ Inv-loop out₀ at row p₀ i₀ i-end out p i = (i ≤ length row) × (length o
 abbrev μ-loop : tie.MeasureT-loop
 μ-loop out₀ at row p₀ i₀ i-end out p i = length row - i
 
--- src/lib.rt:40:5
 loop-holds : tie.Need-loop-holds Inv-loop μ-loop
 unfolding bitsText
 loop-holds c = (omega arith, refl, wrote-nil _ _)
 
--- src/lib.rt:41:44
 shared-slice-read-bit-char : tie.Need-shared-slice-read-bit-char Inv-loop μ-loop
 shared-slice-read-bit-char c = omega arith
 
--- src/lib.rt:41:27
 bit-char-requires : tie.Need-bit-char-requires Inv-loop μ-loop
 bit-char-requires c κs = search needs
 
--- src/lib.rt:41:25
 slice-aggregate-put : tie.Need-slice-aggregate-put Inv-loop μ-loop
 slice-aggregate-put c = search needs
 
--- src/lib.rt:41:9
 put-requires : tie.Need-put-requires Inv-loop μ-loop
 put-requires c κs = search needs
 
--- src/lib.rt:40:9
 add-i : tie.Need-add-i Inv-loop μ-loop
 add-i c = omega arith
 
--- src/lib.rt:40:5
 loop-less : tie.Need-loop-less Inv-loop μ-loop
 loop-less c = omega arith
 
--- src/lib.rt:40:5
 loop-again : tie.Need-loop-again Inv-loop μ-loop
 loop-again c =
     let p = c .before .before .put in
@@ -61,11 +50,9 @@ loop-again c =
     let e = rw (b .bit-char .ensures) at (p .ensures) in
     (omega arith, p .kept .0 ∙ l .inv .1, wrote-more o (a .at) (bitsText (take (l .i) r)) (l .p) (l .out) _ (p .result) (p .last .0) _ (l .inv .2) e (bits-next r (l .i) (omega arith)))
 
--- src/lib.rt:36:1
 same-length : tie.Need-same-length Inv-loop μ-loop
 same-length c = omega arith
 
--- src/lib.rt:36:1
 returns : tie.Need-returns Inv-loop μ-loop
 returns c =
     let l = c .before .loop in

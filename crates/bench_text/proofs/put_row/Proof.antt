@@ -1,41 +1,31 @@
+-- `bench_text::put_row` meets its contract. Assumes nothing.
 use native.Mathlib.Omega.{arith}
 use denote.Ref.{now}
-use Rattle.bench_text.specs.TextLaws.{row-some, row-none}
 use borrow.Author.Needs.{needs}
+use Rattle.bench_text.specs.TextLaws.{row-some, row-none}
 use Rattle.bench_text.proofs.put_row.Statement.{statement}
 use Rattle.bench_text.proofs.put_row.Tie as tie
-use Rattle.bench_text.proofs.put_row.Reads as reads
-use Rattle.bench_text.proofs.put_row.Lts as lts
-use Rattle.bench_text.proofs.put.Reads as put-reads
-use Rattle.bench_text.proofs.put_bits.Reads as put-bits-reads
 
--- src/lib.rt:51:29
 slice-aggregate-put : tie.Need-slice-aggregate-put
 slice-aggregate-put c = search needs
 
--- src/lib.rt:51:9
 put-requires : tie.Need-put-requires
 put-requires c κs = search needs
 
--- src/lib.rt:51:9
 same-length : tie.Need-same-length
 same-length c = search needs
 
--- src/lib.rt:51:9
 returns : tie.Need-returns
 returns c =
     let a = c .before .before .before .before .before .before .before .before .args in
     rw (row-none (now (a .row)) (omega arith)) (c .before .before .put .ensures)
 
--- src/lib.rt:53:5
 put-bits-requires : tie.Need-put-bits-requires
 put-bits-requires c κs = search needs
 
--- src/lib.rt:47:1
 same-length-2 : tie.Need-same-length-2
 same-length-2 c = search needs
 
--- src/lib.rt:47:1
 returns-2 : tie.Need-returns-2
 returns-2 c =
     let a = c .before .before .before .before .before .before .before .args in

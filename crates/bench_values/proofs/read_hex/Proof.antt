@@ -1,25 +1,19 @@
+-- `bench_values::read_hex` meets its contract. Assumes nothing.
 use lib.ListN.{length}
-use mathlib.Core.Path.{_≡_, refl, sym, ap, _∙_}
+use mathlib.Core.Path.{refl, sym, _∙_}
 use native.Mathlib.Omega.{arith}
 use denote.Ref.{now}
 use borrow.Author.Tests.{lt-ltb, le-ltb, not-true, not-false}
+use borrow.Author.Needs.{needs}
 use Rattle.rows.specs.RowLaws.{overlay-nil}
 use Rattle.bench_values.specs.Values.{hexWord}
 use Rattle.bench_values.specs.ValueLaws.{length-hexBytes}
-use borrow.Author.Needs.{needs}
 use Rattle.bench_values.proofs.read_hex.Statement.{statement}
 use Rattle.bench_values.proofs.read_hex.Tie as tie
-use Rattle.bench_values.proofs.read_hex.Reads as reads
-use Rattle.bench_values.proofs.read_hex.Lts as lts
-use Rattle.bench_values.proofs.within.is_dash.Reads as is-dash-reads
-use Rattle.bench_values.proofs.within.is_hex.Reads as is-hex-reads
-use Rattle.bench_values.proofs.within.write_hex.Reads as write-hex-reads
 
--- src/lib.rt:33:8
 is-dash-requires : tie.Need-is-dash-requires
 is-dash-requires c κs = search needs
 
--- src/lib.rt:34:9
 returns : tie.Need-returns
 unfolding hexWord
 returns c =
@@ -27,11 +21,9 @@ returns c =
     let o = now (c .before .before .before .before .args .out) in
     (simp (d, le-ltb (length o) 0 (omega arith)), simp d (sym (overlay-nil o 0)))
 
--- src/lib.rt:36:9
 is-hex-requires : tie.Need-is-hex-requires
 is-hex-requires c κs = search needs
 
--- src/lib.rt:37:9
 returns-2 : tie.Need-returns-2
 unfolding hexWord
 returns-2 c =
@@ -40,7 +32,6 @@ returns-2 c =
     let d = sym (b .before .is-dash .ensures) ∙ b .if1 .left in
     (simp (d, h), refl)
 
--- src/lib.rt:41:9
 returns-3 : tie.Need-returns-3
 unfolding hexWord
 returns-3 c =
@@ -49,15 +40,12 @@ returns-3 c =
     let d = sym (b .before .before .before .is-dash .ensures) ∙ b .before .before .if1 .left in
     (simp (d, h, length-hexBytes, lt-ltb _ _ (c .if3 .taken)), refl)
 
--- src/lib.rt:43:5
 write-hex-requires : tie.Need-write-hex-requires
 write-hex-requires c κs = search needs
 
--- src/lib.rt:29:1
 same-length : tie.Need-same-length
 same-length c = search needs
 
--- src/lib.rt:29:1
 returns-4 : tie.Need-returns-4
 unfolding hexWord
 returns-4 c =

@@ -1,29 +1,22 @@
-use mathlib.Core.Path.{_≡_, sym, ap, _∙_}
+-- `bench_values::read_number` meets its contract. Assumes nothing.
+use mathlib.Core.Path.{sym, _∙_}
 use borrow.Author.Tests.{lt-leb, le-leb, not-true, not-false}
-use Rattle.bench_values.specs.Values.{numberWord}
 use borrow.Author.Needs.{needs}
+use Rattle.bench_values.specs.Values.{numberWord}
 use Rattle.bench_values.proofs.read_number.Statement.{statement}
 use Rattle.bench_values.proofs.read_number.Tie as tie
-use Rattle.bench_values.proofs.read_number.Reads as reads
-use Rattle.bench_values.proofs.read_number.Lts as lts
-use Rattle.bench_values.proofs.within.is_spelt.Reads as is-spelt-reads
-use Rattle.bench_values.proofs.within.join.Reads as join-reads
 
--- src/lib.rt:71:9
 returns : tie.Need-returns
 unfolding numberWord
 returns c = simp (lt-leb _ _ (c .if1 .taken))
 
--- src/lib.rt:74:9
 returns-2 : tie.Need-returns-2
 unfolding numberWord
 returns-2 c = simp (le-leb _ _ (c .before .if1 .left), lt-leb _ _ (c .if2 .taken))
 
--- src/lib.rt:76:9
 is-spelt-requires : tie.Need-is-spelt-requires
 is-spelt-requires c κs = search needs
 
--- src/lib.rt:77:9
 returns-3 : tie.Need-returns-3
 unfolding numberWord
 returns-3 c =
@@ -31,11 +24,9 @@ returns-3 c =
     let b = c .before .before in
     simp (le-leb _ _ (b .before .if1 .left), le-leb _ _ (b .if2 .left), s)
 
--- src/lib.rt:79:19
 join-requires : tie.Need-join-requires
 join-requires c κs = search needs
 
--- src/lib.rt:67:1
 returns-4 : tie.Need-returns-4
 unfolding numberWord
 returns-4 c =

@@ -1,25 +1,19 @@
+-- `bench_values::read_row` meets its contract. Assumes nothing.
 use lib.ListN.{length}
-use mathlib.Core.Path.{_≡_, refl, sym, ap, _∙_}
+use mathlib.Core.Path.{refl, sym, _∙_}
 use native.Mathlib.Omega.{arith}
 use denote.Ref.{now}
 use borrow.Author.Tests.{lt-ltb, le-ltb, not-true, not-false}
+use borrow.Author.Needs.{needs}
 use Rattle.rows.specs.RowLaws.{overlay-nil}
 use Rattle.bench_values.specs.Values.{rowWord}
 use Rattle.bench_values.specs.ValueLaws.{length-rowBits}
-use borrow.Author.Needs.{needs}
 use Rattle.bench_values.proofs.read_row.Statement.{statement}
 use Rattle.bench_values.proofs.read_row.Tie as tie
-use Rattle.bench_values.proofs.read_row.Reads as reads
-use Rattle.bench_values.proofs.read_row.Lts as lts
-use Rattle.bench_values.proofs.within.is_dash.Reads as is-dash-reads
-use Rattle.bench_values.proofs.within.is_row.Reads as is-row-reads
-use Rattle.bench_values.proofs.within.write_row.Reads as write-row-reads
 
--- src/lib.rt:52:8
 is-dash-requires : tie.Need-is-dash-requires
 is-dash-requires c κs = search needs
 
--- src/lib.rt:53:9
 returns : tie.Need-returns
 unfolding rowWord
 returns c =
@@ -27,11 +21,9 @@ returns c =
     let o = now (c .before .before .before .before .args .out) in
     (simp (d, le-ltb (length o) 0 (omega arith)), simp d (sym (overlay-nil o 0)))
 
--- src/lib.rt:55:9
 is-row-requires : tie.Need-is-row-requires
 is-row-requires c κs = search needs
 
--- src/lib.rt:56:9
 returns-2 : tie.Need-returns-2
 unfolding rowWord
 returns-2 c =
@@ -40,7 +32,6 @@ returns-2 c =
     let d = sym (b .before .is-dash .ensures) ∙ b .if1 .left in
     (simp (d, h), refl)
 
--- src/lib.rt:60:9
 returns-3 : tie.Need-returns-3
 unfolding rowWord
 returns-3 c =
@@ -49,15 +40,12 @@ returns-3 c =
     let d = sym (b .before .before .before .is-dash .ensures) ∙ b .before .before .if1 .left in
     (simp (d, h, length-rowBits, lt-ltb _ _ (c .if3 .taken)), refl)
 
--- src/lib.rt:62:5
 write-row-requires : tie.Need-write-row-requires
 write-row-requires c κs = search needs
 
--- src/lib.rt:48:1
 same-length : tie.Need-same-length
 same-length c = search needs
 
--- src/lib.rt:48:1
 returns-4 : tie.Need-returns-4
 unfolding rowWord
 returns-4 c =

@@ -1,5 +1,6 @@
-use Prim.Native.Nat.{_≤_, _-_, _+_}
-use mathlib.Core.Path.{_≡_, refl, sym, ap, _∙_}
+-- `bench::within::stop` meets its contract. The loop's invariant: the letters so far and those that are left are the run. Assumes nothing.
+use Prim.Native.Nat.{_≤_, _-_}
+use mathlib.Core.Path.{_≡_, refl, sym, _∙_}
 use mathlib.Core.List.{_++_, append-nil}
 use native.Mathlib.Omega.{arith}
 use native.Mathlib.Nat.{sub-self}
@@ -9,8 +10,6 @@ use Rattle.bench.specs.Words.{afterRun, firstRun}
 use Rattle.bench.specs.WordLaws.{run-next, run-here, run-done, letters-next, letters-here, letters-done}
 use Rattle.bench.proofs.within.stop.Statement.{statement}
 use Rattle.bench.proofs.within.stop.Tie as tie
-use Rattle.bench.proofs.within.stop.Reads as reads
-use Rattle.bench.proofs.within.stop.Lts as lts
 
 abbrev Inv-loop : tie.InvT-loop
 Inv-loop text from i₀ i-end i = (from ≤ i) × (i ≤ length text) × (afterRun (drop i text) ≡ afterRun (drop from text)) × (take (i - from) (drop from text) ++ firstRun (drop i text) ≡ firstRun (drop from text))
@@ -18,15 +17,12 @@ Inv-loop text from i₀ i-end i = (from ≤ i) × (i ≤ length text) × (afterR
 abbrev μ-loop : tie.MeasureT-loop
 μ-loop text from i₀ i-end i = length text - i
 
--- src/within.rt:35:5
 loop-holds : tie.Need-loop-holds Inv-loop μ-loop
 loop-holds c = (omega arith, omega arith, refl, rw sub-self)
 
--- src/within.rt:36:12
 shared-slice-read-if1 : tie.Need-shared-slice-read-if1 Inv-loop μ-loop
 shared-slice-read-if1 c = omega arith
 
--- src/within.rt:37:13
 returns : tie.Need-returns Inv-loop μ-loop
 returns c =
     let l = c .before .before .before .loop in
@@ -38,15 +34,12 @@ returns c =
       run = rw (letters-here t (l .i) (omega arith) (c .if1 .taken), append-nil) at (l .inv .3);
     }
 
--- src/within.rt:35:9
 add-i : tie.Need-add-i Inv-loop μ-loop
 add-i c = omega arith
 
--- src/within.rt:35:5
 loop-less : tie.Need-loop-less Inv-loop μ-loop
 loop-less c = omega arith
 
--- src/within.rt:35:5
 loop-again : tie.Need-loop-again Inv-loop μ-loop
 loop-again c =
     let l = c .before .before .before .loop in
@@ -58,7 +51,6 @@ loop-again c =
       letters-next t (a .from) (l .i) (omega arith) (omega arith) (c .if1 .left) ∙ l .inv .3,
     )
 
--- src/within.rt:31:1
 returns-2 : tie.Need-returns-2 Inv-loop μ-loop
 returns-2 c =
     let l = c .before .loop in

@@ -1,21 +1,17 @@
+-- `bench_text::within::bit_char` meets its contract. Assumes nothing.
 use borrow.Author.Tests.{eq-eqb, ne-eqb}
 use Rattle.bench_text.specs.Text.{bitChar}
 use Rattle.bench_text.proofs.within.bit_char.Statement.{statement}
 use Rattle.bench_text.proofs.within.bit_char.Tie as tie
-use Rattle.bench_text.proofs.within.bit_char.Reads as reads
-use Rattle.bench_text.proofs.within.bit_char.Lts as lts
 
--- src/within.rt:33:9
 returns : tie.Need-returns
 unfolding bitChar
 returns c = simp (eq-eqb _ _ (c .if1 .taken))
 
--- src/within.rt:29:1
 returns-2 : tie.Need-returns-2
 unfolding bitChar
 returns-2 c = simp (ne-eqb _ _ (c .before .if1 .left), eq-eqb _ _ (c .if2 .taken))
 
--- src/within.rt:29:1
 returns-3 : tie.Need-returns-3
 unfolding bitChar
 returns-3 c = simp (ne-eqb _ _ (c .before .if1 .left), ne-eqb _ _ (c .if2 .left))

@@ -1,26 +1,18 @@
-use mathlib.Core.Path.{_≡_}
-use native.Mathlib.Omega.{arith}
+-- `bench_values::within::is_hex` meets its contract. Assumes nothing.
 use borrow.Author.Tests.{lt-leb, le-leb, eq-eqb, ne-eqb}
 use borrow.Author.Needs.{needs}
 use Rattle.bench_values.proofs.within.is_hex.Statement.{statement}
 use Rattle.bench_values.proofs.within.is_hex.Tie as tie
-use Rattle.bench_values.proofs.within.is_hex.Reads as reads
-use Rattle.bench_values.proofs.within.is_hex.Lts as lts
-use Rattle.bench_values.proofs.within.is_spelt.Reads as is-spelt-reads
 
--- src/within.rt:89:9
 returns : tie.Need-returns
 returns c = simp (lt-leb _ _ (c .if1 .taken))
 
--- src/within.rt:92:9
 returns-2 : tie.Need-returns-2
 returns-2 c = simp (le-leb _ _ (c .before .if1 .left), ne-eqb _ _ (c .if2 .taken))
 
--- src/within.rt:94:5
 is-spelt-requires : tie.Need-is-spelt-requires
 is-spelt-requires c κs = search needs
 
--- src/within.rt:85:1
 returns-3 : tie.Need-returns-3
 returns-3 c = simp (le-leb _ _ (c .before .before .if1 .left), eq-eqb _ _ (c .before .if2 .left)) (c .is-spelt .ensures)
 

@@ -1,20 +1,15 @@
+-- `bench_values::within::is_row` meets its contract. Assumes nothing.
 use borrow.Author.Tests.{lt-leb, le-leb}
 use borrow.Author.Needs.{needs}
 use Rattle.bench_values.proofs.within.is_row.Statement.{statement}
 use Rattle.bench_values.proofs.within.is_row.Tie as tie
-use Rattle.bench_values.proofs.within.is_row.Reads as reads
-use Rattle.bench_values.proofs.within.is_row.Lts as lts
-use Rattle.bench_values.proofs.within.is_spelt.Reads as is-spelt-reads
 
--- src/within.rt:102:9
 returns : tie.Need-returns
 returns c = simp (lt-leb _ _ (c .if1 .taken))
 
--- src/within.rt:104:5
 is-spelt-requires : tie.Need-is-spelt-requires
 is-spelt-requires c κs = search needs
 
--- src/within.rt:98:1
 returns-2 : tie.Need-returns-2
 returns-2 c = simp (le-leb _ _ (c .before .if1 .left)) (c .is-spelt .ensures)
 

@@ -1,5 +1,6 @@
-use Prim.Native.Nat.{_≤_, _<_, _+_, _*_, _%_, _-_, _^_}
-use mathlib.Core.Path.{_≡_, refl, sym, ap, _∙_}
+-- `bench_values::within::join` meets its contract. The loop's invariant: v and the digits from i on make the number, and v has at most i digits. Assumes nothing.
+use Prim.Native.Nat.{_≤_, _<_, _%_, _-_, _^_}
+use mathlib.Core.Path.{_≡_, refl, sym, _∙_}
 use native.Mathlib.Omega.{arith}
 use denote.Ref.{now}
 use lib.ListN.{length, drop}
@@ -7,9 +8,6 @@ use Rattle.bench_values.specs.Values.{joined}
 use Rattle.bench_values.specs.ValueLaws.{joined-next, joined-done, digit-more, digit-room}
 use Rattle.bench_values.proofs.within.join.Statement.{statement}
 use Rattle.bench_values.proofs.within.join.Tie as tie
-use Rattle.bench_values.proofs.within.join.Reads as reads
-use Rattle.bench_values.proofs.within.join.Lts as lts
-use Rattle.bench_values.proofs.within.decimal_value.Reads as decimal-value-reads
 
 abbrev Inv-loop : tie.InvT-loop
 Inv-loop word v₀ i₀ i-end v i = (i ≤ length word) × (joined v (drop i word) ≡ joined 0 word) × (v < 10 ^ i)
@@ -17,41 +15,32 @@ Inv-loop word v₀ i₀ i-end v i = (i ≤ length word) × (joined v (drop i wor
 abbrev μ-loop : tie.MeasureT-loop
 μ-loop word v₀ i₀ i-end v i = length word - i
 
--- src/within.rt:141:5
 loop-holds : tie.Need-loop-holds Inv-loop μ-loop
 loop-holds c = (omega arith, refl, omega arith)
 
--- src/within.rt:142:13
 mul-v : tie.Need-mul-v Inv-loop μ-loop
 mul-v c = omega (arith, digit-room (c .before .loop .v) (c .before .loop .i) (omega arith) (c .before .loop .inv .2))
 
--- src/within.rt:142:37
 shared-slice-read-decimal-value : tie.Need-shared-slice-read-decimal-value Inv-loop μ-loop
 shared-slice-read-decimal-value c = omega arith
 
--- src/within.rt:142:23
 decimal-value-requires : tie.Need-decimal-value-requires Inv-loop μ-loop
 decimal-value-requires c κs = tt
 
--- src/within.rt:142:22
 cast-v : tie.Need-cast-v Inv-loop μ-loop
 cast-v c = omega arith
 
--- src/within.rt:142:13
 add-v : tie.Need-add-v Inv-loop μ-loop
 add-v c =
     let l = c .before .before .before .loop in
     omega (arith, digit-room (l .v) (l .i) (omega arith) (l .inv .2))
 
--- src/within.rt:141:9
 add-i : tie.Need-add-i Inv-loop μ-loop
 add-i c = omega arith
 
--- src/within.rt:141:5
 loop-less : tie.Need-loop-less Inv-loop μ-loop
 loop-less c = omega arith
 
--- src/within.rt:141:5
 loop-again : tie.Need-loop-again Inv-loop μ-loop
 loop-again c =
     let l = c .before .before .before .loop in
@@ -60,7 +49,6 @@ loop-again c =
     let e = c .decimal-value .ensures in
     (omega arith, rw e (sym (joined-next (l .v) w (l .i) (omega arith)) ∙ l .inv .1), digit-more (l .v) (c .decimal-value .result % 10) (l .i) (l .inv .2) (omega arith))
 
--- src/within.rt:136:1
 returns : tie.Need-returns Inv-loop μ-loop
 returns c =
     let l = c .before .loop in

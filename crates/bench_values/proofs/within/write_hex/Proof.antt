@@ -1,3 +1,4 @@
+-- `bench_values::within::write_hex` meets its contract. The loop's invariant: the first i bytes are written. Assumes nothing.
 use Prim.Native.Nat.{_≤_, _-_, _/_}
 use mathlib.Core.Path.{_≡_, refl, sym, ap, _∙_}
 use native.Mathlib.Omega.{arith}
@@ -10,9 +11,6 @@ use Rattle.bench_values.specs.Values.{hexBytes}
 use Rattle.bench_values.specs.ValueLaws.{copy-front, hex-at, length-hexBytes}
 use Rattle.bench_values.proofs.within.write_hex.Statement.{statement}
 use Rattle.bench_values.proofs.within.write_hex.Tie as tie
-use Rattle.bench_values.proofs.within.write_hex.Reads as reads
-use Rattle.bench_values.proofs.within.write_hex.Lts as lts
-use Rattle.bench_values.proofs.within.hex_pair.Reads as hex-pair-reads
 
 abbrev Inv-loop : tie.InvT-loop
 Inv-loop word out₀ n i₀ out i = (i ≤ n) × (n ≡ length word / 2) × (length out ≡ length out₀) × (out ≡ overlay out₀ 0 (take i (hexBytes word)))
@@ -20,47 +18,36 @@ Inv-loop word out₀ n i₀ out i = (i ≤ n) × (n ≡ length word / 2) × (len
 abbrev μ-loop : tie.MeasureT-loop
 μ-loop word out₀ n i₀ out i = n - i
 
--- src/within.rt:120:5
 loop-holds : tie.Need-loop-holds Inv-loop μ-loop
 loop-holds c = (omega arith, refl, refl, sym (overlay-nil _ _))
 
--- src/within.rt:121:32
 mul-hex-pair : tie.Need-mul-hex-pair Inv-loop μ-loop
 mul-hex-pair c = omega arith
 
--- src/within.rt:121:27
 shared-slice-read-hex-pair : tie.Need-shared-slice-read-hex-pair Inv-loop μ-loop
 shared-slice-read-hex-pair c = omega arith
 
--- src/within.rt:121:45
 mul-hex-pair-2 : tie.Need-mul-hex-pair-2 Inv-loop μ-loop
 mul-hex-pair-2 c = omega arith
 
--- src/within.rt:121:45
 add-hex-pair : tie.Need-add-hex-pair Inv-loop μ-loop
 add-hex-pair c = omega arith
 
--- src/within.rt:121:40
 shared-slice-read-hex-pair-2 : tie.Need-shared-slice-read-hex-pair-2 Inv-loop μ-loop
 shared-slice-read-hex-pair-2 c = omega arith
 
--- src/within.rt:121:18
 hex-pair-requires : tie.Need-hex-pair-requires Inv-loop μ-loop
 hex-pair-requires c κs = tt
 
--- src/within.rt:121:9
 slice-write-out : tie.Need-slice-write-out Inv-loop μ-loop
 slice-write-out c = omega arith
 
--- src/within.rt:120:9
 add-i : tie.Need-add-i Inv-loop μ-loop
 add-i c = omega arith
 
--- src/within.rt:120:5
 loop-less : tie.Need-loop-less Inv-loop μ-loop
 loop-less c = omega arith
 
--- src/within.rt:120:5
 loop-again : tie.Need-loop-again Inv-loop μ-loop
 loop-again c =
     let l = c .before .before .before .before .loop in
@@ -72,11 +59,9 @@ loop-again c =
       rw (c .hex-pair .ensures, ← hex-at w (l .i) (omega arith), l .inv .3) (copy-front (now (a .out)) (hexBytes w) (l .i) (omega arith) (omega (arith, length-hexBytes w))),
     )
 
--- src/within.rt:115:1
 same-length : tie.Need-same-length Inv-loop μ-loop
 same-length c = omega arith
 
--- src/within.rt:115:1
 returns : tie.Need-returns Inv-loop μ-loop
 returns c =
     let l = c .before .loop in

@@ -1,3 +1,4 @@
+-- `bench_values::within::write_row` meets its contract. The loop's invariant: the first i bits are written. Assumes nothing.
 use Prim.Native.Nat.{_≤_, _-_}
 use mathlib.Core.Path.{_≡_, refl, sym, ap, _∙_}
 use native.Mathlib.Omega.{arith}
@@ -10,9 +11,6 @@ use Rattle.bench_values.specs.Values.{rowBits}
 use Rattle.bench_values.specs.ValueLaws.{copy-front, row-at, length-rowBits}
 use Rattle.bench_values.proofs.within.write_row.Statement.{statement}
 use Rattle.bench_values.proofs.within.write_row.Tie as tie
-use Rattle.bench_values.proofs.within.write_row.Reads as reads
-use Rattle.bench_values.proofs.within.write_row.Lts as lts
-use Rattle.bench_values.proofs.within.bit_value.Reads as bit-value-reads
 
 abbrev Inv-loop : tie.InvT-loop
 Inv-loop word out₀ i₀ i-end out i = (i ≤ length word) × (length out ≡ length out₀) × (out ≡ overlay out₀ 0 (take i (rowBits word)))
@@ -20,31 +18,24 @@ Inv-loop word out₀ i₀ i-end out i = (i ≤ length word) × (length out ≡ l
 abbrev μ-loop : tie.MeasureT-loop
 μ-loop word out₀ i₀ i-end out i = length word - i
 
--- src/within.rt:130:5
 loop-holds : tie.Need-loop-holds Inv-loop μ-loop
 loop-holds c = (omega arith, refl, sym (overlay-nil _ _))
 
--- src/within.rt:131:28
 shared-slice-read-bit-value : tie.Need-shared-slice-read-bit-value Inv-loop μ-loop
 shared-slice-read-bit-value c = omega arith
 
--- src/within.rt:131:18
 bit-value-requires : tie.Need-bit-value-requires Inv-loop μ-loop
 bit-value-requires c κs = tt
 
--- src/within.rt:131:9
 slice-write-out : tie.Need-slice-write-out Inv-loop μ-loop
 slice-write-out c = omega arith
 
--- src/within.rt:130:9
 add-i : tie.Need-add-i Inv-loop μ-loop
 add-i c = omega arith
 
--- src/within.rt:130:5
 loop-less : tie.Need-loop-less Inv-loop μ-loop
 loop-less c = omega arith
 
--- src/within.rt:130:5
 loop-again : tie.Need-loop-again Inv-loop μ-loop
 loop-again c =
     let l = c .before .before .before .loop in
@@ -55,11 +46,9 @@ loop-again c =
       rw (c .bit-value .ensures, ← row-at w (l .i) (omega arith), l .inv .2) (copy-front (now (a .out)) (rowBits w) (l .i) (omega arith) (omega (arith, length-rowBits w))),
     )
 
--- src/within.rt:126:1
 same-length : tie.Need-same-length Inv-loop μ-loop
 same-length c = omega arith
 
--- src/within.rt:126:1
 returns : tie.Need-returns Inv-loop μ-loop
 returns c =
     let l = c .before .loop in

@@ -1,10 +1,9 @@
+-- `vectors_frame::answers::exclusive_or` meets its contract. Assumes nothing.
 use Prim.Native.Nat.{_≤_, _-_}
 use native.Mathlib.Omega.{arith}
 use lib.ListN.{length}
 use Rattle.vectors_frame.proofs.answers.exclusive_or.Statement.{statement}
 use Rattle.vectors_frame.proofs.answers.exclusive_or.Tie as tie
-use Rattle.vectors_frame.proofs.answers.exclusive_or.Reads as reads
-use Rattle.vectors_frame.proofs.answers.exclusive_or.Lts as lts
 
 abbrev Inv-loop : tie.InvT-loop
 Inv-loop bytes x₀ i₀ i-end x i = i ≤ length bytes
@@ -12,27 +11,21 @@ Inv-loop bytes x₀ i₀ i-end x i = i ≤ length bytes
 abbrev μ-loop : tie.MeasureT-loop
 μ-loop bytes x₀ i₀ i-end x i = length bytes - i
 
--- src/answers.rt:131:5
 loop-holds : tie.Need-loop-holds Inv-loop μ-loop
 loop-holds c = omega arith
 
--- src/answers.rt:132:17
 shared-slice-read-x : tie.Need-shared-slice-read-x Inv-loop μ-loop
 shared-slice-read-x c = omega arith
 
--- src/answers.rt:131:9
 add-i : tie.Need-add-i Inv-loop μ-loop
 add-i c = omega arith
 
--- src/answers.rt:131:5
 loop-less : tie.Need-loop-less Inv-loop μ-loop
 loop-less c = omega arith
 
--- src/answers.rt:131:5
 loop-again : tie.Need-loop-again Inv-loop μ-loop
 loop-again c = omega arith
 
--- src/answers.rt:129:1
 returns : tie.Need-returns Inv-loop μ-loop
 returns c = tt
 
