@@ -1,1 +1,5 @@
 pub mod Log
+pub mod Calls
+pub mod PackLaws
+pub mod RecordLaws
+pub mod EntryLaws

@@ -1,8 +1,8 @@
 -- Laws of the on-air row: how it is written byte by byte and level by level, and how long it is. Assumes nothing.
-use mathlib.Core.Path.{_≡_, refl, sym, ap, _∙_}
+use mathlib.Core.Path.{_≡_, refl, ap, _∙_}
 use Prim.Native.Nat.{ℕ, suc, _+_, _*_, _≤_, _<_}
 use mathlib.Core.List.{List, [], _∷_, _++_, map, append-assoc, append-nil}
-use lib.ListN.{length, take, drop, getD, length-append}
+use lib.ListN.{length, take, getD, length-append}
 use lib.Seq.{take-suc, length-take-le}
 use native.Mathlib.Nat.{zero-add}
 use native.Mathlib.Numerals.{add-one}
@@ -12,7 +12,7 @@ use Rattle.rows.specs.RowLaws.{overlay-next}
 use Rattle.parity.specs.Bits.{bitsOf}
 use Rattle.parity.specs.BitLaws.{length-bits}
 use Rattle.frame.specs.Frame.{airBits}
-use Rattle.uid.specs.Uid.{levelCount, level, levels, threeLevels, air, rowOf}
+use Rattle.uid.specs.Uid.{levelCount, levels, threeLevels, air, rowOf}
 use Rattle.uid.specs.declared.Uid.{Uid}
 use Rattle.uid.specs.declared.UidSize.{UidSize}
 use Rattle.uid.specs.declared.UidSize.the-variants.{Single, Double, Triple}
@@ -39,7 +39,7 @@ pub bits-turn : (d : List ℕ) (at : ℕ) (l : List ℕ) (i : ℕ) → at + 8 * 
 bits-turn d at l i h lt =
     let e : length (airBits (take i l)) ≡ 8 * i = length-airBits (take i l) ∙ ap (λ (n : ℕ). 8 * n) (length-take-le i l (omega arith)) in
     rw (add-one, airBits-next l i lt, ← e)
-      (overlay-next d at (airBits (take i l)) (bitsOf 8 (getD l i 0)) (omega (arith, e, length-bits 8 (getD l i 0))))
+    (overlay-next d at (airBits (take i l)) (bitsOf 8 (getD l i 0)) (omega (arith, e, length-bits 8 (getD l i 0))))
 
 -- ---- levels in air order
 

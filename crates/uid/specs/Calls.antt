@@ -1,8 +1,8 @@
 -- The calls of this crate: a UID from bytes, and its on-air row written into a lent row.
 use Prim.Native.Nat.{ℕ}
-use mathlib.Core.Bool.{cond, _&&_, not}
+use mathlib.Core.Bool.{cond}
 use mathlib.Core.List.{List, []}
-use lib.ListN.{length, replicate}
+use lib.ListN.{length}
 use lib.Dec.{eqb, ltb}
 use Rattle.rows.specs.Rows.{fill, overlay}
 use Rattle.uid.specs.Uid.{valid, rowOf}
@@ -10,7 +10,6 @@ use Rattle.refusal.specs.declared.Refusal.the-variants.{Argument, Room}
 use Rattle.uid.specs.declared.Uid.{Uid}
 use Rattle.uid.specs.declared.UidSize.{UidSize}
 use Rattle.uid.specs.declared.UidSize.the-variants.{Single, Double, Triple}
-use Rattle.uid.specs.declared.Made.{Made}
 use Rattle.uid.specs.declared.Made.the-variants.{Good, NotMade}
 use Rattle.uid.specs.declared.NewUid.{NewUid}
 use Rattle.uid.specs.declared.AirRow.{AirRow}

@@ -1,10 +1,10 @@
 -- Laws of a row filled with zeros, and of a UID made so. Assumes nothing.
-use mathlib.Core.Path.{_≡_, refl, ap, _∙_}
-use Prim.Native.Nat.{ℕ, zero, suc, _+_, _-_, _≤_}
+use mathlib.Core.Path.{_≡_, ap, _∙_}
+use Prim.Native.Nat.{ℕ, zero, suc, _-_}
 use native.Mathlib.Nat.{zero-add}
 use native.Mathlib.Omega.{arith}
-use mathlib.Core.List.{List, [], _∷_, _++_}
-use lib.ListN.{length, drop, replicate}
+use mathlib.Core.List.{List}
+use lib.ListN.{drop, replicate}
 use Rattle.rows.specs.Rows.{overlay, fill}
 use Rattle.uid.specs.Calls.{sized}
 use Rattle.uid.specs.declared.Uid.{Uid}

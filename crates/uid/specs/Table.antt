@@ -1,7 +1,6 @@
 -- Document 01, "Numbers to check by", marked P: one table of theorems on the definitions.
 use mathlib.Core.Path.{_≡_, refl}
-use Prim.Native.Nat.{ℕ}
-use mathlib.Core.List.{List, [], _∷_}
+use mathlib.Core.List.{[], _∷_}
 use Rattle.rows.specs.Rows.{any}
 use Rattle.parity.specs.Bits.{bitsOf}
 use Rattle.crc.specs.Crc.{shift, shifts, crcByte, crcFrom, crcA, crcBytes}

@@ -1,4 +1,4 @@
-// Document 01, "UIDs and their levels".
+// Document 01, "UIDs and their levels": a UID from bytes, its levels with their B bytes, and its on-air row.
 ghost use mathlib.Core.Path.{_≡_};
 ghost use mathlib.Core.List.{[], _∷_};
 ghost use lib.ListN.{length};
@@ -7,8 +7,10 @@ ghost use Rattle.uid.specs.Uid.{levelCount, byteCount, uidBytes, check, 
 ghost use Rattle.uid.specs.Calls.{newUid, checked, airRow, airRowAfter};
 use refusal::Refusal;
 
-mod within;
+// Functions that only the crates of this repository call.
+pub mod within;
 
+// "A UID has 4, 7 or 10 bytes".
 pub enum UidSize {
     Single,
     Double,

@@ -4,15 +4,14 @@ ghost use mathlib.Core.List.{[], _∷_, map};
 ghost use Prim.Native.Nat.{_+_, _*_, _≤_};
 ghost use lib.ListN.{length, take};
 ghost use Rattle.rows.specs.Rows.{overlay};
-ghost use Rattle.parity.specs.Bits.{bitsOf};
 ghost use Rattle.frame.specs.Frame.{airBits};
 ghost use Rattle.uid.specs.Uid.{level, air};
 ghost use Rattle.uid.specs.Calls.{sized, checked, refusedUid};
-use refusal::Refusal;
 use super::Made;
 use super::NewUid;
 use super::Uid;
 use super::UidSize;
+use refusal::Refusal;
 
 // A level's five bytes, from its four.
 pub fn level_row(a: u8, b: u8, c: u8, d: u8) -> [u8; 5]
@@ -62,20 +61,6 @@ pub fn checked(u: Uid) -> NewUid
     refused_uid()
 }
 
-// A byte's bits in air order.
-pub fn byte_bits(b: u8) -> [u8; 8]
-    ensures { λ r. ⌜ r ≡ bitsOf 8 b ⌝ }
-{
-    let x1 = b / 2;
-    let x2 = x1 / 2;
-    let x3 = x2 / 2;
-    let x4 = x3 / 2;
-    let x5 = x4 / 2;
-    let x6 = x5 / 2;
-    let x7 = x6 / 2;
-    [b % 2, x1 % 2, x2 % 2, x3 % 2, x4 % 2, x5 % 2, x6 % 2, x7 % 2]
-}
-
 // A level in air order, parity left out, written into out from index at on.
 pub fn put_level(out: &mut [u8], at: usize, five: [u8; 5])
     requires { ⌜ at + 40 ≤ length (now out) ⌝ }
@@ -83,7 +68,7 @@ pub fn put_level(out: &mut [u8], at: usize, five: [u8; 5])
     ensures { λ _. ⌜ length five ≡ 5 ⌝ }
 {
     for i in 0..5usize {
-        let bits = byte_bits(five[i]);
+        let bits = parity::bits_of(five[i]);
         rows::within::put(out, at + 8 * i, &bits);
     }
 }

@@ -1,5 +1,6 @@
+-- `uid::air_row` meets its contract: where there is room, what the loop over levels wrote is the on-air row. Assumes nothing.
 use borrow.Author.Needs.{needs}
-use mathlib.Core.Path.{_≡_, refl, sym, ap}
+use mathlib.Core.Path.{refl, sym, ap}
 use native.Mathlib.Omega.{arith}
 use borrow.Author.Tests.{lt-ltb, le-ltb}
 use Rattle.uid.specs.Calls.{airRow}
@@ -8,42 +9,30 @@ use Rattle.uid.specs.AirLaws.{row-made}
 use Rattle.uid.specs.declared.AirRow.the-variants.{Bits}
 use Rattle.uid.proofs.air_row.Statement.{statement}
 use Rattle.uid.proofs.air_row.Tie as tie
-use Rattle.uid.proofs.air_row.Reads as reads
-use Rattle.uid.proofs.air_row.Lts as lts
-use Rattle.uid.proofs.level_count.Reads as level-count-reads
-use Rattle.uid.proofs.levels.Reads as levels-reads
-use Rattle.uid.proofs.within.put_levels.Reads as put-levels-reads
 
--- src/lib.rt:155:9
 returns : tie.Need-returns
 unfolding airRow
 returns c = (simp (lt-ltb _ _ (c .if1 .taken)), refl)
 
--- src/lib.rt:158:9
 level-count-requires : tie.Need-level-count-requires
 level-count-requires c κs = search needs
 
--- src/lib.rt:159:9
 levels-requires : tie.Need-levels-requires
 levels-requires c κs = search needs
 
--- src/lib.rt:160:5
 put-levels-requires : tie.Need-put-levels-requires
-put-levels-requires c κs = 
+put-levels-requires c κs =
     (omega (arith, levels-most (c .before .before .before .before .before .args .u .size), c .before .before .level-count .ensures), omega arith)
 
--- src/lib.rt:161:18
 mul-t6 : tie.Need-mul-t6
 mul-t6 c = omega (arith, levels-most (c .before .before .before .before .before .before .before .before .args .u .size), c .before .before .before .before .before .level-count .ensures)
 
--- src/lib.rt:150:1
 same-length : tie.Need-same-length
 same-length c = search needs
 
--- src/lib.rt:150:1
 returns-2 : tie.Need-returns-2
 unfolding airRow
-returns-2 c = 
+returns-2 c =
     let u = c .before .before .before .before .before .before .before .before .args .u in
     let p = c .before .before .put-levels in
     let r = row-made u _ _ (c .before .before .before .before .before .level-count .ensures) (c .before .before .before .before .levels .ensures) in

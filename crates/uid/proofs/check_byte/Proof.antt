@@ -1,11 +1,9 @@
+-- `uid::check_byte` meets its contract: the definition's last exclusive-or is with 0. Assumes nothing.
 use lib.Bits.{xor-zero-r}
 use Rattle.uid.specs.Uid.{check}
 use Rattle.uid.proofs.check_byte.Statement.{statement}
 use Rattle.uid.proofs.check_byte.Tie as tie
-use Rattle.uid.proofs.check_byte.Reads as reads
-use Rattle.uid.proofs.check_byte.Lts as lts
 
--- src/lib.rt:71:1
 returns : tie.Need-returns
 unfolding check
 returns c = rw xor-zero-r

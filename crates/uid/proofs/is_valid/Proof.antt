@@ -1,41 +1,32 @@
+-- `uid::is_valid` meets its contract, size by size. Assumes nothing.
 use borrow.Author.Needs.{needs}
 use Rattle.uid.specs.Uid.{valid}
 use Rattle.uid.proofs.is_valid.Statement.{statement}
 use Rattle.uid.proofs.is_valid.Tie as tie
-use Rattle.uid.proofs.is_valid.Reads as reads
-use Rattle.uid.proofs.is_valid.Lts as lts
 
--- src/lib.rt:110:28
 enum-told : tie.Need-enum-told
 enum-told c = search needs
 
--- src/lib.rt:110:28
 array-read-result : tie.Need-array-read-result
 array-read-result c = search needs
 
--- src/lib.rt:111:28
 enum-told-2 : tie.Need-enum-told-2
 enum-told-2 c = search needs
 
--- src/lib.rt:111:28
 array-read-result-2 : tie.Need-array-read-result-2
 array-read-result-2 c = search needs
 
--- src/lib.rt:112:28
 enum-told-3 : tie.Need-enum-told-3
 enum-told-3 c = search needs
 
--- src/lib.rt:104:1
 returns : tie.Need-returns
 unfolding valid
 returns c = rw (c .enum-told .given .1)
 
--- src/lib.rt:104:1
 returns-2 : tie.Need-returns-2
 unfolding valid
 returns-2 c = rw (c .enum-told2 .given .1)
 
--- src/lib.rt:104:1
 returns-3 : tie.Need-returns-3
 unfolding valid
 returns-3 c = rw (c .enum-told3 .given .1)

@@ -1,3 +1,4 @@
+-- `uid::levels` meets its contract, size by size: three or four bytes of the UID are those from a place on. Assumes nothing.
 use borrow.Author.Needs.{needs}
 use mathlib.Core.Path.{_≡_}
 use native.Mathlib.Omega.{arith}
@@ -6,131 +7,97 @@ use Rattle.uid.specs.Uid.{levels, threeLevels}
 use Rattle.uid.specs.BytesAtLaws.{three-at, four-at}
 use Rattle.uid.proofs.levels.Statement.{statement}
 use Rattle.uid.proofs.levels.Tie as tie
-use Rattle.uid.proofs.levels.Reads as reads
-use Rattle.uid.proofs.levels.Lts as lts
-use Rattle.uid.proofs.within.level_row.Reads as level-row-reads
 
--- src/lib.rt:86:40
 enum-told : tie.Need-enum-told
 enum-told c = search needs
 
--- src/lib.rt:86:40
 array-read-level-row : tie.Need-array-read-level-row
 array-read-level-row c = search needs
 
--- src/lib.rt:86:46
 array-read-level-row-2 : tie.Need-array-read-level-row-2
 array-read-level-row-2 c = search needs
 
--- src/lib.rt:86:52
 array-read-level-row-3 : tie.Need-array-read-level-row-3
 array-read-level-row-3 c = search needs
 
--- src/lib.rt:86:58
 array-read-level-row-4 : tie.Need-array-read-level-row-4
 array-read-level-row-4 c = search needs
 
--- src/lib.rt:86:17
 level-row-requires : tie.Need-level-row-requires
 level-row-requires c κs = search needs
 
--- src/lib.rt:90:46
 enum-told-2 : tie.Need-enum-told-2
 enum-told-2 c = search needs
 
--- src/lib.rt:90:46
 array-read-level-row-5 : tie.Need-array-read-level-row-5
 array-read-level-row-5 c = search needs
 
--- src/lib.rt:90:52
 array-read-level-row-6 : tie.Need-array-read-level-row-6
 array-read-level-row-6 c = search needs
 
--- src/lib.rt:90:58
 array-read-level-row-7 : tie.Need-array-read-level-row-7
 array-read-level-row-7 c = search needs
 
--- src/lib.rt:90:17
 level-row-requires-2 : tie.Need-level-row-requires-2
 level-row-requires-2 c κs = search needs
 
--- src/lib.rt:91:40
 array-read-level-row-8 : tie.Need-array-read-level-row-8
 array-read-level-row-8 c = search needs
 
--- src/lib.rt:91:46
 array-read-level-row-9 : tie.Need-array-read-level-row-9
 array-read-level-row-9 c = search needs
 
--- src/lib.rt:91:52
 array-read-level-row-10 : tie.Need-array-read-level-row-10
 array-read-level-row-10 c = search needs
 
--- src/lib.rt:91:58
 array-read-level-row-11 : tie.Need-array-read-level-row-11
 array-read-level-row-11 c = search needs
 
--- src/lib.rt:91:17
 level-row-requires-3 : tie.Need-level-row-requires-3
 level-row-requires-3 c κs = search needs
 
--- src/lib.rt:95:46
 enum-told-3 : tie.Need-enum-told-3
 enum-told-3 c = search needs
 
--- src/lib.rt:95:46
 array-read-level-row-12 : tie.Need-array-read-level-row-12
 array-read-level-row-12 c = search needs
 
--- src/lib.rt:95:52
 array-read-level-row-13 : tie.Need-array-read-level-row-13
 array-read-level-row-13 c = search needs
 
--- src/lib.rt:95:58
 array-read-level-row-14 : tie.Need-array-read-level-row-14
 array-read-level-row-14 c = search needs
 
--- src/lib.rt:95:17
 level-row-requires-4 : tie.Need-level-row-requires-4
 level-row-requires-4 c κs = search needs
 
--- src/lib.rt:96:46
 array-read-level-row-15 : tie.Need-array-read-level-row-15
 array-read-level-row-15 c = search needs
 
--- src/lib.rt:96:52
 array-read-level-row-16 : tie.Need-array-read-level-row-16
 array-read-level-row-16 c = search needs
 
--- src/lib.rt:96:58
 array-read-level-row-17 : tie.Need-array-read-level-row-17
 array-read-level-row-17 c = search needs
 
--- src/lib.rt:96:17
 level-row-requires-5 : tie.Need-level-row-requires-5
 level-row-requires-5 c κs = search needs
 
--- src/lib.rt:97:40
 array-read-level-row-18 : tie.Need-array-read-level-row-18
 array-read-level-row-18 c = search needs
 
--- src/lib.rt:97:46
 array-read-level-row-19 : tie.Need-array-read-level-row-19
 array-read-level-row-19 c = search needs
 
--- src/lib.rt:97:52
 array-read-level-row-20 : tie.Need-array-read-level-row-20
 array-read-level-row-20 c = search needs
 
--- src/lib.rt:97:58
 array-read-level-row-21 : tie.Need-array-read-level-row-21
 array-read-level-row-21 c = search needs
 
--- src/lib.rt:97:17
 level-row-requires-6 : tie.Need-level-row-requires-6
 level-row-requires-6 c κs = search needs
 
--- src/lib.rt:78:1
 returns : tie.Need-returns
 unfolding threeLevels levels
 returns c =
@@ -138,7 +105,6 @@ returns c =
     let e : length b ≡ 10 = search needs in
     rw (c .level-row .ensures, c .before .enum-told .given .1, four-at 0 b (omega arith))
 
--- src/lib.rt:78:1
 returns-2 : tie.Need-returns-2
 unfolding threeLevels levels
 returns-2 c =
@@ -152,7 +118,6 @@ returns-2 c =
       four-at 3 b (omega arith),
     )
 
--- src/lib.rt:78:1
 returns-3 : tie.Need-returns-3
 unfolding threeLevels levels
 returns-3 c =

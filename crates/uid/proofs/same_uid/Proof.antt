@@ -1,3 +1,4 @@
+-- `uid::same_uid` meets its contract: the parts of the two arrays that are compared are the UIDs' own bytes. Assumes nothing.
 use borrow.Author.Needs.{needs}
 use mathlib.Core.Path.{_≡_, sym}
 use native.Mathlib.Omega.{arith}
@@ -7,52 +8,40 @@ use Rattle.uid.specs.Uid.{uidBytes}
 use Rattle.uid.specs.BytesAtLaws.{bytes-most}
 use Rattle.uid.proofs.same_uid.Statement.{statement}
 use Rattle.uid.proofs.same_uid.Tie as tie
-use Rattle.uid.proofs.same_uid.Reads as reads
-use Rattle.uid.proofs.same_uid.Lts as lts
-use Rattle.rows.proofs.is_same.Reads as is-same-reads
-use Rattle.uid.proofs.byte_count.Reads as byte-count-reads
 
--- src/lib.rt:142:9
 byte-count-requires : tie.Need-byte-count-requires
 byte-count-requires c κs = search needs
 
--- src/lib.rt:143:9
 byte-count-requires-2 : tie.Need-byte-count-requires-2
 byte-count-requires-2 c κs = search needs
 
--- src/lib.rt:146:19
 array-share-prefix-x : tie.Need-array-share-prefix-x
-array-share-prefix-x c = 
+array-share-prefix-x c =
     let a = c .before .before .before .before .args .a in
     let e : length (a .bytes) ≡ 10 = search needs in
     omega (arith, bytes-most (a .size), c .before .before .before .byte-count .ensures)
 
--- src/lib.rt:146:19
 slice-aggregate-is-same : tie.Need-slice-aggregate-is-same
-slice-aggregate-is-same c = 
+slice-aggregate-is-same c =
     let a = c .before .before .before .before .before .args .a in
     let e : length (a .bytes) ≡ 10 = search needs in
     sym (length-take-le _ (a .bytes) (omega (arith, bytes-most (a .size), c .before .before .before .before .byte-count .ensures)))
 
--- src/lib.rt:146:28
 array-share-prefix-y : tie.Need-array-share-prefix-y
-array-share-prefix-y c = 
+array-share-prefix-y c =
     let b = c .before .before .before .before .before .args .b in
     let e : length (b .bytes) ≡ 10 = search needs in
     omega (arith, bytes-most (b .size), c .before .before .before .byte-count2 .ensures)
 
--- src/lib.rt:146:28
 slice-aggregate-is-same-2 : tie.Need-slice-aggregate-is-same-2
-slice-aggregate-is-same-2 c = 
+slice-aggregate-is-same-2 c =
     let b = c .before .before .before .before .before .before .args .b in
     let e : length (b .bytes) ≡ 10 = search needs in
     sym (length-take-le _ (b .bytes) (omega (arith, bytes-most (b .size), c .before .before .before .before .byte-count2 .ensures)))
 
--- src/lib.rt:146:5
 is-same-requires : tie.Need-is-same-requires
 is-same-requires c κs = search needs
 
--- src/lib.rt:137:1
 returns : tie.Need-returns
 unfolding uidBytes
 returns c = rw (c .is-same .ensures, c .before .before .before .before .before .byte-count2 .ensures, c .before .before .before .before .before .before .byte-count .ensures)

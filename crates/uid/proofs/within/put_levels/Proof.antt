@@ -1,7 +1,8 @@
-use Prim.Native.Nat.{_≤_, _+_, _*_, _-_}
-use mathlib.Core.Path.{_≡_, refl, sym, ap, _∙_}
-use mathlib.Core.List.{map}
+-- `uid::within::put_levels` meets its contract. The loop's invariant: the levels passed are written, 40 bits each. Assumes nothing.
 use borrow.Author.Needs.{needs}
+use Prim.Native.Nat.{_≤_, _*_, _-_}
+use mathlib.Core.Path.{_≡_, refl, sym}
+use mathlib.Core.List.{map}
 use native.Mathlib.Omega.{arith}
 use lib.ListN.{length, take}
 use denote.Ref.{now}
@@ -12,63 +13,50 @@ use Rattle.uid.specs.Uid.{air}
 use Rattle.uid.specs.AirLaws.{levels-turn}
 use Rattle.uid.proofs.within.put_levels.Statement.{statement}
 use Rattle.uid.proofs.within.put_levels.Tie as tie
-use Rattle.uid.proofs.within.put_levels.Reads as reads
-use Rattle.uid.proofs.within.put_levels.Lts as lts
-use Rattle.uid.proofs.within.put_level.Reads as put-level-reads
 
 abbrev Inv-loop : tie.InvT-loop
-Inv-loop out₀ n rows i₀ out i = 
+Inv-loop out₀ n rows i₀ out i =
     (i ≤ n) × (length rows ≡ 3) × (length out ≡ length out₀) × (length (air (map airBits (take i rows))) ≡ 40 * i)
     × (out ≡ overlay out₀ 0 (air (map airBits (take i rows))))
 
 abbrev μ-loop : tie.MeasureT-loop
 μ-loop out₀ n rows i₀ out i = n - i
 
--- src/within.rt:96:5
 loop-holds : tie.Need-loop-holds Inv-loop μ-loop
 unfolding air
 loop-holds c = (omega arith, search needs, refl, refl, sym (overlay-nil _ _))
 
--- src/within.rt:97:20
 mul-five : tie.Need-mul-five Inv-loop μ-loop
 mul-five c = omega arith
 
--- src/within.rt:97:20
 array-copy-out-five : tie.Need-array-copy-out-five Inv-loop μ-loop
 array-copy-out-five c = omega arith
 
--- src/within.rt:98:24
 mul-put-level : tie.Need-mul-put-level Inv-loop μ-loop
 mul-put-level c = omega arith
 
--- src/within.rt:98:9
 put-level-requires : tie.Need-put-level-requires Inv-loop μ-loop
 put-level-requires c κs = omega arith
 
--- src/within.rt:96:9
 add-i : tie.Need-add-i Inv-loop μ-loop
 add-i c = omega arith
 
--- src/within.rt:96:5
 loop-less : tie.Need-loop-less Inv-loop μ-loop
 loop-less c = omega arith
 
--- src/within.rt:96:5
 loop-again : tie.Need-loop-again Inv-loop μ-loop
-loop-again c = 
+loop-again c =
     let p = c .before .before .put-level in
     let l = c .before .before .before .before .before .before .loop in
     let a = c .before .before .before .before .before .before .before .before .args in
     let t = levels-turn (now (a .out)) (a .t2) (l .i) (omega arith) (l .inv .3) (p .ensures .1) (omega arith) in
     (omega arith, omega arith, omega (arith, p .kept .0), t .1, rw (p .ensures .0, l .inv .4) (t .0))
 
--- src/within.rt:92:1
 same-length : tie.Need-same-length Inv-loop μ-loop
 same-length c = omega arith
 
--- src/within.rt:92:1
 returns : tie.Need-returns Inv-loop μ-loop
-returns c = 
+returns c =
     let l = c .before .loop in
     let a = c .before .before .before .args in
     let e : l .i ≡ a .n = omega arith in
