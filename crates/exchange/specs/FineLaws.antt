@@ -2,7 +2,7 @@
 use mathlib.Core.Path.{_≡_, refl}
 use Prim.Native.Nat.{ℕ, _+_, _%_, _<_}
 use native.Mathlib.Omega.{arith}
-use mathlib.Core.Bool.{Bool, true, false, cond, not, Bool·beq as same}
+use mathlib.Core.Bool.{Bool, true, false, cond, not, false≢true, Bool·beq as same}
 use mathlib.Core.List.{List, [], _∷_}
 use lib.ListN.{length}
 use lib.Dec.{eqb, leb, ltb}
@@ -29,7 +29,8 @@ use Rattle.reader_link.specs.declared.ReaderPhase.{ReaderPhase}
 use Rattle.reader_link.specs.declared.ReaderPhase.the-variants.{Open, Talking, Leaving, Finished, Stopped}
 use Rattle.reader_link.specs.declared.ReaderLink.{ReaderLink}
 use Rattle.reader_link.specs.declared.ReaderStep.{ReaderStep}
-use Rattle.reader_link.specs.ReaderRules.{readerKeeps, stops, readerI, readerAgain, ackOwn, ackOther, readerJoins, asksAgain, awaitsI, readerRepeats, readerEchoes, readerTakesI, readerTakesAck, readerRules}
+use Rattle.reader_link.specs.ReaderRules.{readerKeeps, stops, readerI, readerAgain, ackOwn, ackOther, readerJoins, asksAgain, awaitsI, readerRepeats, readerEchoes, readerTakesI, readerTakesAck, readerRules, readerTakes, isOpen, readerStarts}
+use Rattle.exchange.specs.Exchange.{isQuiet}
 
 abbrev pub Fine : Block → Type 0
 Fine (Wtx v) = v < 256
@@ -132,7 +133,7 @@ talks Finished = false
 talks Stopped = false
 
 -- where a step leaves the reader that has told its host t
-abbrev Goes : Told → ReaderPhase → Type 0
+abbrev pub Goes : Told → ReaderPhase → Type 0
 Goes Quiet ph = talks ph ≡ true
 Goes (Message n) ph = Unit
 Goes Granted ph = Unit
@@ -186,6 +187,26 @@ reader-fine r t Deselect bytes room len = record { sends = tt; goes = tt }
 reader-fine r t (Wtx v) bytes room len = reader-either (wtxOk (v % 64)) _ _ (record { sends = omega arith; goes = refl }) (record { sends = tt; goes = tt })
 reader-fine r t Unknown bytes room len = record { sends = tt; goes = tt }
 reader-fine r t Nothing bytes room len = reader-either (ltb (r .repeats) 2) _ _ (record { sends = asks-fine t (r .number); goes = refl }) (record { sends = tt; goes = tt })
+
+pub hears-fine : (r : ReaderLink) (ph : ReaderPhase) (b : Block) (bytes room len : ℕ) → talks ph ≡ true → FineReader (readerTakes r ph b bytes room len)
+hears-fine r (Talking t) b bytes room len e = reader-either (ltb len (r .at)) _ _ (record { sends = tt; goes = tt }) (reader-fine r t b bytes room len)
+hears-fine r Open b bytes room len e = absurd (false≢true e)
+hears-fine r Leaving b bytes room len e = absurd (false≢true e)
+hears-fine r Finished b bytes room len e = absurd (false≢true e)
+hears-fine r Stopped b bytes room len e = absurd (false≢true e)
+
+pub starts-fine : (r : ReaderLink) (len : ℕ) → FineReader (readerStarts r len)
+unfolding readerStarts readerI
+starts-fine r len =
+    reader-either (isOpen (r .phase)) _ _ (reader-either (leb len messageMax) _ _ (record { sends = tt; goes = refl }) (record { sends = tt; goes = tt }))
+    (record { sends = tt; goes = tt })
+
+pub quiet-talks : (t : Told) (ph : ReaderPhase) → Goes t ph → isQuiet t ≡ true → talks ph ≡ true
+quiet-talks Quiet ph g e = g
+quiet-talks (Message n) ph g e = absurd (false≢true e)
+quiet-talks Granted ph g e = absurd (false≢true e)
+quiet-talks Deselected ph g e = absurd (false≢true e)
+quiet-talks (Refused x) ph g e = absurd (false≢true e)
 
 -- ---- what is heard of such a block
 

@@ -35,14 +35,15 @@ use Rattle.reader_link.specs.declared.ReaderLink.{ReaderLink}
 use Rattle.reader_link.specs.declared.Link.the-variants.{Linked}
 use Rattle.reader_link.specs.declared.LinkReader.{LinkReader}
 use Rattle.reader_link.specs.declared.LinkAnswer.the-variants.{Blocks}
-use Rattle.reader_link.specs.ReaderRules.{readerOpen, readerTakes}
+use Rattle.reader_link.specs.declared.ReaderStep.{ReaderStep}
+use Rattle.reader_link.specs.ReaderRules.{readerOpen, readerTakes, readerStarts}
 use Rattle.reader_link.specs.ReaderFrames.{readerOut, readerBlock, readerSend}
 use Rattle.reader_link.specs.ReaderCalls.{Called, linked, linking, awaitsBlock, hearCall}
 use Rattle.reader_link.specs.ReaderRowLaws.{hear-block, send-block}
 use Rattle.exchange.specs.Exchange.{Ends, Answers, clean, acts, Passed, passes, Run, isQuiet, exchange}
 use Rattle.exchange.specs.ExchangeLaws.{passed}
 use Rattle.exchange.specs.RowExchange.{RowEnds, RowPassed, rowPasses, RowRun, rowExchange}
-use Rattle.exchange.specs.FineLaws.{Fine, fine-bytes, part-bytes, leaves, FineCard, takes-fine, replies-fine, talks, fine-heard}
+use Rattle.exchange.specs.FineLaws.{Fine, fine-bytes, part-bytes, leaves, FineCard, takes-fine, replies-fine, talks, fine-heard, Goes, FineReader, hears-fine, starts-fine, quiet-talks}
 
 left-stays : (t : Told) (c : Card) (l : CardLink) → leaves t ≡ false → leftBy t c l ≡ record { card = c; link = l }
 left-stays Quiet c l e = refl
@@ -126,6 +127,30 @@ reply-out : (k : CardLink) (a d : List ℕ)
 unfolding cardReply cardOut
 reply-out k a d = rw (replies-join k (length a))
 
+-- the reader after a frame, and after its host's message
+record FineSent (z : Out ReaderLink) : Type 0 where
+  pub block : Block
+  pub load : List ℕ
+  pub is : z .sent ≡ blockBytes block load
+  pub fine : Fine block
+  pub bytes : Bytes load
+  pub goes : Goes (z .told) (z .link .phase)
+
+out-fine : (z : ReaderStep) (m up p : List ℕ) (n : ℕ) → FineReader z → Bytes m → FineSent (readerOut z m up n p)
+unfolding readerOut
+out-fine z m up p n x hm =
+    record { block = z .send; load = part (z .link .card) (z .link .at) m; is = refl; fine = x .sends; bytes = part-bytes (z .link .card) (z .link .at) m hm; goes = x .goes }
+
+hear-fine : (k : ReaderLink) (v : Verdict) (m up : List ℕ) → talks (k .phase) ≡ true → Bytes m → FineSent (readerBlock k v m up)
+unfolding readerBlock
+hear-fine k v m up t hm =
+    out-fine (readerTakes k (k .phase) (heardBlock v) (length (payload v)) (length up) (length m)) m up (payload v) (k .joined)
+    (hears-fine k (k .phase) (heardBlock v) (length (payload v)) (length up) (length m) t) hm
+
+send-fine : (k : ReaderLink) (m up : List ℕ) → Bytes m → FineSent (readerSend k m up)
+unfolding readerSend
+send-fine k m up hm = out-fine (readerStarts k (length m)) m up [] 0 (starts-fine k (length m)) hm
+
 module _ (back : (most : ℕ) (l : List ℕ) → Bytes l → 1 ≤ length l → length l + 2 ≤ most → readCrc 3 most (standard (withCrc l)) ≡ Good l)
     (c : Card) (i : ℕ) (s : c .state ≡ Protocol i) (r : Reader) (room : ℕ) (h : rowRoom ≤ room) (m a : List ℕ) (hm : Bytes m) (ha : Bytes a) where
   -- what the card does with the row of a fine block, and with its host's answer
@@ -184,3 +209,64 @@ module _ (back : (most : ℕ) (l : List ℕ) → Bytes l → 1 ≤ length l → 
       go : (v : Out CardLink) → cardBlock (e .card) (verdict (e .card .own) (blockBytes b p)) (e .lent) (e .down) ≡ v
           → rowPasses m a room (wide c r e) (blockRow (blockBytes b p)) ≡ rows (passes m a clean e (blockBytes b p))
       go v ev = half v ev (rw ev at (block-fine (e .card) b p (e .lent) (e .down) f l hl)) (owes (v .link .phase)) refl
+
+  -- and the exchange goes on
+  goes-on : (e : Ends) (b : Block) (p : List ℕ) → Fine b → Bytes p → Fine (e .card .last) → Bytes (e .lent) → talks (e .reader .phase) ≡ true
+      → isQuiet (passes m a clean e (blockBytes b p) .told) ≡ true → Going (passes m a clean e (blockBytes b p) .ends) (passes m a clean e (blockBytes b p) .next)
+  goes-on e b p f hp l hl t q = go (cardBlock (e .card) (verdict (e .card .own) (blockBytes b p)) (e .lent) (e .down)) refl
+    where
+      on : (k : CardLink) (z : Out ReaderLink) (d n : List ℕ) → Fine (k .last) → Bytes n → FineSent z → isQuiet (z .told) ≡ true
+          → Going (record { reader = z .link; card = k; down = d; up = z .buffer; lent = n }) (z .sent)
+      on k z d n lk hn y q =
+          record {
+            block = y .block;
+            load = y .load;
+            is = y .is;
+            fine = y .fine;
+            bytes = y .bytes;
+            last = lk;
+            lent = hn;
+            talking = quiet-talks (z .told) (z .link .phase) (y .goes) q;
+          }
+
+      half : (v : Out CardLink) → cardBlock (e .card) (verdict (e .card .own) (blockBytes b p)) (e .lent) (e .down) ≡ v → FineOut v
+          → (o : Bool) → owes (v .link .phase) ≡ o → Going (passes m a clean e (blockBytes b p) .ends) (passes m a clean e (blockBytes b p) .next)
+      half v ev x false o =
+          let z : Out ReaderLink = readerBlock (e .reader) (verdict (e .reader .own) (v .sent)) m (e .up) in
+          let w = passed m a e (blockBytes b p) clean v v (e .lent) z ev (rw o) refl in
+          rw w (on (v .link) z (v .buffer) (e .lent) (x .last) hl (hear-fine (e .reader) (verdict (e .reader .own) (v .sent)) m (e .up) t hm) (rw w at q))
+      half v ev x true o =
+          let k : Out CardLink = cardReply (v .link) a [] in
+          let y : FineOut k = reply-fine (v .link) a [] (x .last) ha in
+          let u : Out CardLink = record { link = k .link; sent = k .sent; told = k .told; buffer = v .buffer } in
+          let z : Out ReaderLink = readerBlock (e .reader) (verdict (e .reader .own) (k .sent)) m (e .up) in
+          let w = passed m a e (blockBytes b p) clean v u a z ev (rw (o, reply-out (v .link) a (v .buffer))) refl in
+          rw w (on (k .link) z (v .buffer) a (y .last) ha (hear-fine (e .reader) (verdict (e .reader .own) (k .sent)) m (e .up) t hm) (rw w at q))
+
+      go : (v : Out CardLink) → cardBlock (e .card) (verdict (e .card .own) (blockBytes b p)) (e .lent) (e .down) ≡ v
+          → Going (passes m a clean e (blockBytes b p) .ends) (passes m a clean e (blockBytes b p) .next)
+      go v ev = half v ev (rw ev at (block-fine (e .card) b p (e .lent) (e .down) f l hl)) (owes (v .link .phase)) refl
+
+  -- a run on rows is a run on bytes
+  abbrev pub rowsOf : Run → RowRun
+  rowsOf x = record { got = x .got; downs = map blockRow (x .downs); ups = map blockRow (x .ups); told = x .told; ends = wide c r (x .ends) }
+
+  row-turn : (g : ℕ) (e : Ends) (t : Told) (f : List ℕ)
+      → ((isQuiet (passes m a clean e f .told) ≡ true → Going (passes m a clean e f .ends) (passes m a clean e f .next))
+      → rowExchange m a room g (wide c r (passes m a clean e f .ends)) (passes m a clean e f .told) (blockRow (passes m a clean e f .next))
+      ≡ rowsOf (exchange m a (replicate g clean) (passes m a clean e f .ends) (passes m a clean e f .told) (passes m a clean e f .next)))
+      → (q : Bool) → isQuiet t ≡ q → (q ≡ true → Going e f)
+      → rowExchange m a room (suc g) (wide c r e) t (blockRow f) ≡ rowsOf (exchange m a (replicate (suc g) clean) e t f)
+  unfolding rowExchange exchange
+  row-turn g e t f ih true q inv =
+      let y : Going e f = inv refl in
+      let w : rowPasses m a room (wide c r e) (blockRow f) ≡ rows (passes m a clean e f) = rw (y .is) (row-passed e (y .block) (y .load) (y .fine) (y .bytes) (y .last) (y .lent) (y .talking)) in
+      rw (q, w, ih (λ k. rw (y .is) (goes-on e (y .block) (y .load) (y .fine) (y .bytes) (y .last) (y .lent) (y .talking) (rw (y .is) at k))))
+  row-turn g e t f ih false q inv = rw q
+
+  pub row-run : (g : ℕ) (e : Ends) (t : Told) (f : List ℕ) → (isQuiet t ≡ true → Going e f)
+      → rowExchange m a room g (wide c r e) t (blockRow f) ≡ rowsOf (exchange m a (replicate g clean) e t f)
+  unfolding rowExchange exchange
+  row-run zero e t f inv = refl
+  row-run (suc g) e t f inv =
+      row-turn g e t f (row-run g (passes m a clean e f .ends) (passes m a clean e f .told) (passes m a clean e f .next)) (isQuiet t) refl inv
