@@ -25,7 +25,7 @@ use Rattle.block.specs.Row.{blockRow}
 use Rattle.card_link.specs.declared.CardLink.{CardLink}
 use Rattle.card_link.specs.declared.CardStep.{CardStep}
 use Rattle.card_link.specs.declared.LinkCard.{LinkCard}
-use Rattle.card_link.specs.CardRules.{owes, cardSilent, cardI, cardTakes, cardReplies}
+use Rattle.card_link.specs.CardRules.{cardOpen, owes, cardSilent, cardI, cardTakes, cardReplies}
 use Rattle.card_link.specs.CardFrames.{cardOut, cardBlock, cardReply}
 use Rattle.card_link.specs.CardCalls.{rowRoom, leftBy, withRow, owing, takeCall, replyCall}
 use Rattle.card_link.specs.CardRowLaws.{take-block, reply-block}
@@ -36,13 +36,13 @@ use Rattle.reader_link.specs.declared.Link.the-variants.{Linked}
 use Rattle.reader_link.specs.declared.LinkReader.{LinkReader}
 use Rattle.reader_link.specs.declared.LinkAnswer.the-variants.{Blocks}
 use Rattle.reader_link.specs.declared.ReaderStep.{ReaderStep}
-use Rattle.reader_link.specs.ReaderRules.{readerOpen, readerTakes, readerStarts}
+use Rattle.reader_link.specs.ReaderRules.{readerOpen, readerKeeps, readerI, readerTakes, isOpen, readerStarts}
 use Rattle.reader_link.specs.ReaderFrames.{readerOut, readerBlock, readerSend}
 use Rattle.reader_link.specs.ReaderCalls.{Called, linked, linking, awaitsBlock, hearCall}
 use Rattle.reader_link.specs.ReaderRowLaws.{hear-block, send-block}
-use Rattle.exchange.specs.Exchange.{Ends, Answers, clean, acts, Passed, passes, Run, isQuiet, exchange}
-use Rattle.exchange.specs.ExchangeLaws.{passed}
-use Rattle.exchange.specs.RowExchange.{RowEnds, RowPassed, rowPasses, RowRun, rowExchange}
+use Rattle.exchange.specs.Exchange.{Ends, Answers, clean, acts, Passed, passes, Run, isQuiet, exchange, talk, Between, Exchanged}
+use Rattle.exchange.specs.ExchangeLaws.{passed, exchanged, after-ats}
+use Rattle.exchange.specs.RowExchange.{RowEnds, RowPassed, rowPasses, RowRun, rowExchange, rowTalk, RowExchanged}
 use Rattle.exchange.specs.FineLaws.{Fine, fine-bytes, part-bytes, leaves, FineCard, takes-fine, replies-fine, talks, fine-heard, Goes, FineReader, hears-fine, starts-fine, quiet-talks}
 
 left-stays : (t : Told) (c : Card) (l : CardLink) → leaves t ≡ false → leftBy t c l ≡ record { card = c; link = l }
@@ -58,6 +58,13 @@ linked-talks r Open l e = absurd (false≢true e)
 linked-talks r Leaving l e = absurd (false≢true e)
 linked-talks r Finished l e = absurd (false≢true e)
 linked-talks r Stopped l e = absurd (false≢true e)
+
+linked-open : (r : Reader) (ph : ReaderPhase) (l : ReaderLink) → isOpen ph ≡ true → linked r ph l ≡ record { reader = r; link = Linked l }
+linked-open r Open l e = refl
+linked-open r (Talking t) l e = absurd (false≢true e)
+linked-open r Leaving l e = absurd (false≢true e)
+linked-open r Finished l e = absurd (false≢true e)
+linked-open r Stopped l e = absurd (false≢true e)
 
 talks-awaits : (ph : ReaderPhase) → talks ph ≡ true → awaitsBlock ph ≡ true
 talks-awaits (Talking t) e = refl
@@ -150,6 +157,21 @@ hear-fine k v m up t hm =
 send-fine : (k : ReaderLink) (m up : List ℕ) → Bytes m → FineSent (readerSend k m up)
 unfolding readerSend
 send-fine k m up hm = out-fine (readerStarts k (length m)) m up [] 0 (starts-fine k (length m)) hm
+
+-- a message handed in joins nothing
+starts-join : (k : ReaderLink) (len : ℕ) → (readerStarts k len) .joins ≡ false
+unfolding readerStarts readerI
+starts-join k len = go (isOpen (k .phase)) (leb len messageMax)
+  where
+    go : (t u : Bool) → (cond t (cond u (readerI k (k .number) 0 len) (readerKeeps k TooLong)) (readerKeeps k NotDue)) .joins ≡ false
+    go true true = refl
+    go true false = refl
+    go false u = refl
+
+send-out : (k : ReaderLink) (m up : List ℕ)
+    → readerSend k m up ≡ record { link = readerSend k m [] .link; sent = readerSend k m [] .sent; told = readerSend k m [] .told; buffer = up }
+unfolding readerSend readerOut
+send-out k m up = rw (starts-join k (length m))
 
 module _ (back : (most : ℕ) (l : List ℕ) → Bytes l → 1 ≤ length l → length l + 2 ≤ most → readCrc 3 most (standard (withCrc l)) ≡ Good l)
     (c : Card) (i : ℕ) (s : c .state ≡ Protocol i) (r : Reader) (room : ℕ) (h : rowRoom ≤ room) (m a : List ℕ) (hm : Bytes m) (ha : Bytes a) where
@@ -270,3 +292,40 @@ module _ (back : (most : ℕ) (l : List ℕ) → Bytes l → 1 ≤ length l → 
   row-run zero e t f inv = refl
   row-run (suc g) e t f inv =
       row-turn g e t f (row-run g (passes m a clean e f .ends) (passes m a clean e f .told) (passes m a clean e f .next)) (isQuiet t) refl inv
+
+  -- .. from the host's message on
+  row-talk : (g : ℕ) (e : Ends) → isOpen (e .reader .phase) ≡ true → Fine (e .card .last) → Bytes (e .lent)
+      → rowTalk m a room g (wide c r e) ≡ rowsOf (talk m a (replicate g clean) e)
+  unfolding rowTalk talk linking
+  row-talk g e o l hl =
+      let k : Out ReaderLink = readerSend (e .reader) m [] in
+      let x : FineSent k = send-fine (e .reader) m [] hm in
+      rw (linked-open r (e .reader .phase) (e .reader) o, send-block (record { reader = r; link = Linked (e .reader) }) (e .reader) room refl h m o, send-out (e .reader) m (e .up))
+      (row-run g (record { reader = k .link; card = e .card; down = e .down; up = e .up; lent = e .lent }) (k .told) (k .sent)
+      (λ q. record { block = x .block; load = x .load; is = x .is; fine = x .fine; bytes = x .bytes; last = l; lent = hl; talking = quiet-talks (k .told) (k .link .phase) (x .goes) q }))
+
+  -- Demand 2 on rows, between messages: 631 rounds are always enough
+  pub row-exchanged : (j k : ℕ) (e : Ends) → length m ≤ messageMax → length a ≤ messageMax → length m ≤ length (e .down) → length a ≤ length (e .up) → Between j k e
+      → Fine (e .card .last) → Bytes (e .lent) → RowExchanged j k m a (wide c r e) (rowTalk m a room 631 (wide c r e))
+  row-exchanged j k e lm la ld lu b l hl =
+      let x : Exchanged j k m a e (talk m a (replicate 631 clean) e) = exchanged j k m a e lm la ld lu b in
+      rw (row-talk 631 e (ap (λ z. isOpen (z .phase)) (b .reader)) l hl)
+      (record {
+        got = x .answered .got;
+        told = x .answered .told;
+        down = x .down;
+        up = x .answered .up;
+        downBytes = talk m a (replicate 631 clean) e .downs;
+        upBytes = talk m a (replicate 631 clean) e .ups;
+        downs = refl;
+        ups = refl;
+        downBlocks = x .downs;
+        upBlocks = x .ups;
+      })
+
+  -- .. and so right after RATS and ATS: a reader of size index j, a card of size index k, buffers d and u
+  pub after-ats-exchanged : (j k : ℕ) (d u : List ℕ) → length m ≤ messageMax → length a ≤ messageMax → length m ≤ length d → length a ≤ length u
+      → (e : RowEnds) → e ≡ record { reader = record { reader = r; link = Linked (readerOpen j k false) }; card = record { card = c; link = cardOpen k j }; down = d; up = u; lent = [] }
+      → RowExchanged j k m a e (rowTalk m a room 631 e)
+  after-ats-exchanged j k d u lm la ld lu e is =
+      rw is (row-exchanged j k (record { reader = readerOpen j k false; card = cardOpen k j; down = d; up = u; lent = [] }) lm la ld lu (after-ats j k d u) tt tt)
