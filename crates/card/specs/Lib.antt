@@ -4,3 +4,7 @@ pub mod CardLaws
 pub mod ElseLaws
 pub mod WrongLaws
 pub mod StateLaws
+pub mod TakenLaws
+pub mod RulesLaws
+pub mod RatsLaws
+pub mod ReadyLaws

@@ -1,4 +1,7 @@
 // Document 01, "The card": one card's states, by value. Blocks come on top of it (crate card_link).
+mod answer;
+mod rats;
+mod ready;
 pub mod within;
 
 ghost use mathlib.Core.Path.{_≡_};
@@ -109,14 +112,14 @@ pub fn power_on(c: Card) -> Card
     ensures { λ r. ⌜ r ≡ powerOn c ⌝ }
 {
     let s = c.state;
-    within::with_state(c, powered(s))
+    answer::with_state(c, powered(s))
 }
 
 // Power is lost: Off from anywhere.
 pub fn power_off(c: Card) -> Card
     ensures { λ r. ⌜ r ≡ powerOff c ⌝ }
 {
-    within::with_state(c, CardState::Off)
+    answer::with_state(c, CardState::Off)
 }
 
 // The card takes a frame, any row of any length. Its answer stands at the front of the lent row, which has room for 45 bits.

@@ -1,0 +1,23 @@
+-- `card::ready::chosen` meets its contract: the definition has the same test. Assumes nothing.
+use mathlib.Core.Path.{sym, _∙_}
+use borrow.Author.Needs.{needs}
+use Rattle.card.specs.Card.{chosen}
+use Rattle.card.proofs.ready.chosen.Statement.{statement}
+use Rattle.card.proofs.ready.chosen.Tie as tie
+
+remains-requires : tie.Need-remains-requires
+remains-requires c κs = search needs
+
+next-level-requires : tie.Need-next-level-requires
+next-level-requires c κs = search needs
+
+returns : tie.Need-returns
+unfolding chosen
+returns c = rw (sym (c .before .before .remains .ensures) ∙ c .before .if1 .taken, c .next-level .ensures)
+
+returns-2 : tie.Need-returns-2
+unfolding chosen
+returns-2 c = rw (sym (c .before .remains .ensures) ∙ c .if1 .left)
+
+pub chosen-spec : {M : Type 1} → statement M
+chosen-spec = tie.close (tie.spec remains-requires next-level-requires returns returns-2)
