@@ -77,9 +77,14 @@ pub fn more_behind(message: &[u8], place: usize, size: usize) -> bool {
 /// The I block that begins at this place of the message, as full as the other end's size allows, chained if more is left.
 /// Nothing is left at a place behind the message's end.
 pub fn i_block(message: &[u8], place: usize, size: usize, number: u8) -> Row {
+    i_again(message, place, size, number, more_behind(message, place, size))
+}
+
+/// An I block sent again: chained or not as it was, its payload anew from the message that is lent now.
+pub fn i_again(message: &[u8], place: usize, size: usize, number: u8, chained: bool) -> Row {
     let from = place.min(message.len());
     let to = (place + full_payload(size)).min(message.len());
-    let first = if more_behind(message, place, size) { 0x12 } else { 0x02 };
+    let first = if chained { 0x12 } else { 0x02 };
     let mut bytes = vec![first | number];
     bytes.extend_from_slice(&message[from..to]);
     standard_with_crc(&bytes)

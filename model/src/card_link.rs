@@ -24,8 +24,8 @@ pub enum Mode {
 #[derive(Clone, Copy, Debug, PartialEq)]
 pub enum Last {
     Nothing,
-    /// The I that begins at `place`.
-    I,
+    /// The I that begins at `place`, and whether it was chained.
+    I(bool),
     Ack,
     Wtx(u8),
 }
@@ -158,8 +158,9 @@ impl Link {
     /// The I that begins at this place of the answer.
     fn send_i(&mut self, message: &[u8], place: usize) -> Outcome {
         self.place = place;
-        self.last = Last::I;
-        self.mode = if blocks::more_behind(message, place, self.reader_size) { Mode::Answering } else { Mode::Receiving };
+        let chained = blocks::more_behind(message, place, self.reader_size);
+        self.last = Last::I(chained);
+        self.mode = if chained { Mode::Answering } else { Mode::Receiving };
         Outcome::Answer(blocks::i_block(message, place, self.reader_size, self.number))
     }
 
@@ -168,14 +169,14 @@ impl Link {
         let kind = if first & 0xF0 == 0xA0 { "R(ACK)" } else { "R(NAK)" };
         let what = match self.last {
             Last::Nothing => "nothing",
-            Last::I => "I",
+            Last::I(_) => "I",
             Last::Ack => "R(ACK)",
             Last::Wtx(_) => "WTX",
         };
         note("card block", &format!("{kind} own, last was {what}"), self.mode_name());
         match self.last {
             Last::Nothing => Outcome::Silent,
-            Last::I => Outcome::Answer(blocks::i_block(message, self.place, self.reader_size, self.number)),
+            Last::I(chained) => Outcome::Answer(blocks::i_again(message, self.place, self.reader_size, self.number, chained)),
             Last::Ack => Outcome::Answer(blocks::ack(self.number)),
             Last::Wtx(value) => Outcome::Answer(blocks::wtx(value)),
         }

@@ -216,7 +216,8 @@ impl Link {
                 }
                 note("reader block", "R(ACK) other", column);
                 self.sent_again += 1;
-                Ok(Answer::Send(blocks::i_block(message, self.place, self.card_size, self.number)))
+                let chained = self.stage == Stage::More;
+                Ok(Answer::Send(blocks::i_again(message, self.place, self.card_size, self.number, chained)))
             }
             Block::Nak(number) => {
                 note("reader block", if *number == self.number { "R(NAK) own" } else { "R(NAK) other" }, column);

@@ -1,4 +1,4 @@
-//! The program `vectors_frame`: frames, CRC_A, B, levels and the frame sum, one answer for each line.
+//! The program `vectors_frame`: frames, CRC_A, B, and levels, one answer for each line.
 
 use crate::crc::crc_a;
 use crate::frames::{self, Row};
@@ -55,18 +55,6 @@ fn levels(bytes: &[u8]) -> Result<String, Refusal> {
     ))
 }
 
-fn sum(uids: &[Vec<u8>]) -> Result<String, Refusal> {
-    if !uid::sweepable(uids) {
-        return Err(refusal::ARGUMENT);
-    }
-    let mut answer = format!("frames {} order", uid::frame_sum(uids));
-    for uid in uid::falling(uids) {
-        answer.push(' ');
-        answer.push_str(&show_hex(&uid));
-    }
-    Ok(answer)
-}
-
 impl Program for VectorsFrame {
     fn words(&mut self, words: &[&str]) -> Option<Vec<String>> {
         let answer = match *words {
@@ -85,10 +73,6 @@ impl Program for VectorsFrame {
             ["readshort", row] => told(frames::read_short(&row_word(row)?).map(|v| format!("short {v:02X}"))),
             ["check", bytes] => format!("b {:02X}", uid::check_byte(&bytes_word(bytes)?)),
             ["uid", bytes] => told(levels(&bytes_word(bytes)?)),
-            ["sum", ref uids @ ..] => {
-                let uids: Option<Vec<Vec<u8>>> = uids.iter().map(|u| bytes_word(u)).collect();
-                told(sum(&uids?))
-            }
             _ => return None,
         };
         Some(vec![answer])
@@ -121,9 +105,6 @@ mod tests {
         assert_eq!(ask("read 001000000000000000"), "refused 3");
         assert_eq!(ask("readcrc 001000000000000001"), "refused 2");
         assert_eq!(ask("readshort 0110010"), "short 26");
-        assert_eq!(ask("sum"), "frames 1 order");
-        assert_eq!(ask("sum 80122821 01020304"), "frames 10 order 01020304 80122821");
-        assert_eq!(ask("sum 80122821 80122821"), "refused 6");
         assert_eq!(ask("uid 01020304"), "levels 1 0102030404 0000000000 0000000000 row 1000000001000000110000000010000000100000");
         assert_eq!(ask("uid 88020304"), "refused 6");
     }

@@ -11,6 +11,7 @@ use Rattle.rows.specs.Rows.{isNil, Bytes}
 use Rattle.crc.specs.Crc.{withCrc, crcBytes}
 use Rattle.parity.specs.Bits.{bitsOf}
 use Rattle.frame.specs.Frame.{airByte, standard, wholeBytes, readFrame, readCrc, Verdict, Good, Fault}
+use Rattle.frame.specs.Calls.{goodBytes}
 use Rattle.frame.specs.FrameLaws.{length-standard}
 use Rattle.selection.specs.Selection.{size}
 use Rattle.refusal.specs.declared.Refusal.the-variants.{Length}
@@ -52,3 +53,9 @@ module _ (read-back : (most : ℕ) (l : List ℕ) → Bytes l → 1 ≤ length l
           let h : 3 + length p ≤ size i = leb-true (3 + length p) (size i) e in
           rw (row-some f p, read-back (size i) (f ∷ p) b (omega arith) (omega arith))
       go false e = heard-long i f p (leb-false (3 + length p) (size i) e)
+
+-- for the code: silence needs no test of its own where only the bytes of a good frame count
+pub heard-good : (i : ℕ) (h : List ℕ) → goodBytes (heardRow i h) ≡ goodBytes (readCrc 3 (size i) h)
+unfolding heardRow isNil readCrc readFrame wholeBytes
+heard-good i [] = refl
+heard-good i (x ∷ h) = refl

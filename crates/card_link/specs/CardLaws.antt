@@ -8,6 +8,8 @@ use lib.ListN.{length, take, drop}
 use lib.Seq.{take-all}
 use lib.Dec.{eqb, ltb}
 use Rattle.rows.specs.Rows.{overlay}
+use Rattle.frame.specs.Frame.{Verdict, Good, Fault}
+use Rattle.frame.specs.Calls.{goodBytes}
 use Rattle.refusal.specs.declared.Refusal.the-variants.{Room, TooLong, NotDue}
 use Rattle.block.specs.declared.Block.{Block}
 use Rattle.block.specs.declared.Block.the-variants.{I, Ack, Nak, Deselect, Wtx, Unknown, Nothing}
@@ -19,7 +21,7 @@ use Rattle.card_link.specs.declared.CardPhase.the-variants.{Receiving, O
 use Rattle.card_link.specs.declared.CardLink.{CardLink}
 use Rattle.card_link.specs.declared.CardStep.{CardStep}
 use Rattle.card_link.specs.CardRules.{cardAt, cardJoins, cardSilent, cardSends, cardI, cardNext, cardGranted, cardTakesI, cardTakesAck, cardTakesNak, cardRules, owes, cardTakes}
-use Rattle.card_link.specs.CardFrames.{cardHears}
+use Rattle.card_link.specs.CardFrames.{cardHears, cardOut, cardBlock}
 
 -- of two steps that join nothing either joins nothing
 neither : (t : Bool) (a b : CardStep) → a .joins ≡ false → b .joins ≡ false → (cond t a b) .joins ≡ false
@@ -91,3 +93,10 @@ hears-joined c b (f ∷ p) buffer last r len h j er el =
     let t : take (length (f ∷ p) - 1) p ≡ p = take-all (length (f ∷ p) - 1) p (omega arith) in
     let k : fits (c .joined + length p) (length buffer) ≡ true = rw e at (takes-join c b (length (f ∷ p) - 1) (length buffer) len j) in
     el ∙ rw (er, t, k)
+
+-- a frame by the bytes that it has if it is good
+pub block-bytes : (c : CardLink) (v : Verdict) (m buffer : List ℕ)
+    → cardBlock c v m buffer ≡ cardOut (cardHears c (goodBytes v) (length buffer) (length m)) m buffer (c .joined) (behind (goodBytes v))
+unfolding cardBlock cardHears
+block-bytes c (Good l) m buffer = refl
+block-bytes c (Fault e) m buffer = refl

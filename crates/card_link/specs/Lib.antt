@@ -2,3 +2,4 @@ pub mod CardRules
 pub mod CardFrames
 pub mod CardCalls
 pub mod CardLaws
+pub mod CardRowLaws

@@ -1,3 +1,5 @@
 pub mod ReaderRules
 pub mod ReaderFrames
 pub mod ReaderCalls
+pub mod ReaderLaws
+pub mod ReaderRowLaws

@@ -9,7 +9,7 @@ use Rattle.rows.specs.Rows.{overlay}
 use Rattle.frame.specs.Frame.{Verdict}
 use Rattle.block.specs.Cut.{part}
 use Rattle.block.specs.Out.{Out}
-use Rattle.block.specs.Block.{heardBlock, payload, blockBytes}
+use Rattle.block.specs.Block.{blockOf, behind, heardBlock, payload, blockBytes}
 use Rattle.reader_link.specs.ReaderRules.{readerParts, readerStarts, readerTakes}
 
 -- a step with the message m and the buffer that are lent; p is the payload that goes behind the joined bytes
@@ -21,6 +21,10 @@ readerOut s m buffer joined p =
       sent = blockBytes (s .send) (part (s .link .card) (s .link .at) m);
       buffer = cond (s .joins) (overlay buffer joined p) buffer;
     }
+
+-- a frame's bytes l are heard, none where it is silence or damaged, with a buffer of room bytes and a message of len bytes
+unfoldable pub readerHears : ReaderLink → List ℕ → ℕ → ℕ → ReaderStep
+readerHears r l room len = readerTakes r (r .phase) (blockOf l) (length (behind l)) room len
 
 -- The reader hears a frame:
 unfoldable pub readerBlock : ReaderLink → Verdict → List ℕ → List ℕ → Out ReaderLink

@@ -1,10 +1,16 @@
 // Document 01, "RATS, ATS and blocks": the reader's end of the block protocol. No type holds bytes: payloads stay in the lent frame and in
 // the lent messages, and a link holds places and counts.
 ghost use mathlib.Core.Path.{_≡_};
-ghost use mathlib.Core.Bool.{Bool·beq as same};
+ghost use mathlib.Core.Bool.{cond};
+ghost use lib.ListN.{length};
+ghost use Rattle.rows.specs.Rows.{overlay};
+ghost use Rattle.block.specs.Cut.{part};
+ghost use Rattle.block.specs.Block.{behind, blockBytes, bytesIn};
+ghost use Rattle.reader_link.specs.ReaderFrames.{readerHears};
 ghost use Prim.Native.Nat.{_<_, _≤_, _^_};
 ghost use Rattle.reader_link.specs.ReaderRules.{readerOpen, readerDone, readerAt, readerKeeps, stops, readerSends, readerI, readerAgain, ackOwn, ackOther, readerJoins, lastIsOut, asksAgain, readerRepeats, readerEchoes, awaitsI, readerTakesI, readerTakesAck, readerRules, readerLeaves, readerTakes, isOpen, readerStarts, readerParts};
 use block::Block;
+use block::BlockBytes;
 use block::Told;
 use reader::Answer;
 use reader::Reader;
@@ -431,4 +437,31 @@ fn parts(l: ReaderLink) -> ReaderStep
         );
     }
     keeps(l, Refusal::NotDue)
+}
+
+// What a reader does with a frame's bytes, none where it is silence or damaged. An accepted payload goes straight behind those joined.
+fn hears(l: ReaderLink, bytes: &[u8], message: &[u8], buffer: &mut [u8]) -> ReaderStep
+    ensures { λ r. ⌜ r ≡ readerHears l (now (bytes .entry)) (length (now (buffer .entry))) (length (now (message .entry))) ⌝ }
+    ensures { λ r. ⌜ now (buffer .exit) ≡ cond (r .joins) (overlay (now (buffer .entry)) (l .joined) (behind (now (bytes .entry)))) (now (buffer .entry)) ⌝ }
+{
+    let phase = l.phase;
+    let b = block::read_block(bytes);
+    if bytes.len() == 0 {
+        return takes(l, phase, Block::Nothing, 0, buffer.len(), message.len());
+    }
+    let step = takes(l, phase, b, bytes.len() - 1, buffer.len(), message.len());
+    if step.joins {
+        block::join(buffer, l.joined, &bytes[1..]);
+        return step;
+    }
+    step
+}
+
+// The bytes of the block that a step sends.
+fn sent(step: ReaderStep, message: &[u8]) -> BlockBytes
+    ensures { λ r. ⌜ r ≡ bytesIn (blockBytes (step .send) (part (step .link .card) (step .link .at) (now (message .entry)))) ⌝ }
+{
+    let send = step.send;
+    let link = step.link;
+    block::block_bytes(send, link.card, link.at, message)
 }

@@ -9,3 +9,4 @@ pub mod SizeLaws
 pub mod SealLaws
 pub mod SelectionLaws
 pub mod SakLaws
+pub mod AtsLaws

@@ -5,6 +5,7 @@ use Prim.Native.Nat.{ℕ, zero, suc, _≤_, _<_}
 use native.Mathlib.Nat.{not-suc-le-zero}
 use native.Mathlib.Omega.{arith}
 use lib.ListN.{length, getD, List·getD-eq-default}
+use Rattle.rows.specs.Rows.{All}
 use Rattle.selection.specs.Selection.{size}
 
 -- what lies past a table's end is not read
@@ -20,3 +21,14 @@ size-small i h = getD-in (16 ∷ 24 ∷ 32 ∷ 40 ∷ 48 ∷ 64 ∷ 96 ∷ 128 �
 pub size-large : (i : ℕ) → 8 ≤ i → 256 ≡ size i
 unfolding size
 size-large i h = sym (List·getD-eq-default (16 ∷ 24 ∷ 32 ∷ 40 ∷ 48 ∷ 64 ∷ 96 ∷ 128 ∷ []) 256 h)
+
+at-most : (l : List ℕ) (k : ℕ) → All (λ s. s ≤ 256) l → getD l k 256 ≤ 256
+at-most [] k h = omega arith
+at-most (x ∷ l) zero h = h .0
+at-most (x ∷ l) (suc k) h = at-most l k (h .1)
+
+pub size-most : (i : ℕ) → size i ≤ 256
+unfolding size
+size-most i =
+    at-most (16 ∷ 24 ∷ 32 ∷ 40 ∷ 48 ∷ 64 ∷ 96 ∷ 128 ∷ []) i
+    (omega arith, (omega arith, (omega arith, (omega arith, (omega arith, (omega arith, (omega arith, (omega arith, tt))))))))

@@ -134,36 +134,6 @@ fn uids_and_sums(s: &mut Script<VectorsFrame>, random: &mut Random) {
         let uid = random.uid();
         s.say(&format!("uid {}", show_hex(&uid)));
     }
-    s.remark("the frame sum: document 01's numbers first");
-    assert_eq!(s.say("sum"), "frames 1 order");
-    assert_eq!(s.say("sum 80122821 01020304"), "frames 10 order 01020304 80122821");
-    assert_eq!(s.say("sum 80122821 04112233445566 01020304"), "frames 17 order 01020304 04112233445566 80122821");
-    assert_eq!(s.say("sum 04112233445566 01020304"), "frames 12 order 01020304 04112233445566");
-    for line in ["sum 01020304", "sum 04112233445566", "sum 56341280122821440010", "sum 01020304 01020304", "sum 88020304"] {
-        s.say(line);
-    }
-    s.say("sum -");
-    s.say("sum 01020304 0102030405");
-    let comb = super::field::comb(random);
-    assert!(s.say(&sum_line(&comb)).starts_with("frames 249 "));
-    let mut over = comb.clone();
-    over.push(hex("01020304"));
-    s.say(&sum_line(&over));
-    for _ in 0..40 {
-        let uids = super::field::random_uids(random);
-        s.say(&sum_line(&uids));
-    }
-    s.say("sum 01020304 88112233 80122821");
-    s.say("sum 01020304 80122821 01020304");
-}
-
-fn sum_line(uids: &[Vec<u8>]) -> String {
-    let mut line = "sum".to_string();
-    for uid in uids {
-        line.push(' ');
-        line.push_str(&show_hex(uid));
-    }
-    line
 }
 
 /// Each refusal of each line kind, and two faults at once for the order of the tests.
@@ -253,8 +223,7 @@ fn lines_not_understood(s: &mut Script<VectorsFrame>) {
         "uid",
         "uid 0102030g",
         "uid 01020304 20",
-        "sum 01020304 x",
-        "sum 010203",
+        "sum 01020304",
         "frobnicate",
         "26",
         "\r",

@@ -4,7 +4,7 @@ use mathlib.Core.Path.{_≡_, sym}
 use native.Mathlib.Omega.{arith}
 use lib.ListN.{length}
 use lib.Seq.{length-take-le}
-use Rattle.uid.specs.LevelLaws.{bytes-most}
+use Rattle.uid.specs.BytesAtLaws.{bytes-most}
 use Rattle.log.specs.EntryLaws.{entry-made}
 use Rattle.log.proofs.entry.Statement.{statement}
 use Rattle.log.proofs.entry.Tie as tie

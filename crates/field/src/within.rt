@@ -1,0 +1,108 @@
+// One frame taken by every card of a field. Called by our own crates only, which lend the room: firmware calls `transmit`.
+ghost use mathlib.Core.Path.{_≡_};
+ghost use mathlib.Core.Bool.{cond};
+ghost use Prim.Native.Nat.{_≤_};
+ghost use lib.ListN.{length, take};
+ghost use Rattle.rows.specs.Rows.{overlay};
+ghost use Rattle.card.specs.Card.{takes, answers};
+ghost use Rattle.field.specs.Merge.{meet, join};
+ghost use Rattle.field.specs.Field.{heardFrom};
+ghost use Rattle.field.specs.Calls.{together, bitsIn, one};
+use card::Card;
+use card::CardAnswer;
+
+// A card after a frame, and the number of bits heard up to it.
+pub struct One {
+    pub card: Card,
+    pub bits: usize,
+}
+
+// The cards after a frame, and the number of bits heard.
+pub struct Together {
+    pub cards: [Card; 16],
+    pub bits: usize,
+}
+
+// Two bits sent together.
+fn meet(x: u8, y: u8) -> u8
+    ensures { λ r. ⌜ r ≡ meet x y ⌝ }
+{
+    if x == y {
+        return x;
+    }
+    2
+}
+
+// What is heard of a bit x, at a place where others send y, or none.
+fn beside(x: u8, y: u8, others: bool) -> u8
+    ensures { λ r. ⌜ r ≡ cond others (meet x y) x ⌝ }
+{
+    if others {
+        return meet(x, y);
+    }
+    x
+}
+
+// An answer sent together with the first bits of a row: what is heard then stands at the front of the row. The result is its number of bits.
+fn join(row: &mut [u8], bits: usize, answer: &[u8]) -> usize
+    requires { ⌜ (bits ≤ length (now row)) × (length (now answer) ≤ length (now row)) ⌝ }
+    ensures { λ r. ⌜ r ≡ length (join (now (answer .entry)) (take bits (now (row .entry)))) ⌝ }
+    ensures { λ r. ⌜ now (row .exit) ≡ overlay (now (row .entry)) 0 (join (now (answer .entry)) (take bits (now (row .entry)))) ⌝ }
+{
+    for i in 0..answer.len() {
+        row[i] = beside(answer[i], row[i], i < bits);
+    }
+    if answer.len() < bits {
+        return bits;
+    }
+    answer.len()
+}
+
+// The bits of a card's answer.
+fn bits_in(a: CardAnswer) -> usize
+    ensures { λ r. ⌜ r ≡ bitsIn a ⌝ }
+{
+    match a {
+        CardAnswer::Sends(n) => n,
+        CardAnswer::Silent => 0,
+        CardAnswer::NotTaken(_) => 0,
+    }
+}
+
+// One card takes the frame, and its answer joins the bits that are heard so far.
+fn take_one(c: Card, frame: &[u8], heard: &mut [u8], bits: usize) -> One
+    requires { ⌜ (bits ≤ length (now heard)) × (45 ≤ length (now heard)) ⌝ }
+    ensures { λ r. ⌜ r ≡ one c (now (frame .entry)) (take bits (now (heard .entry))) ⌝ }
+    ensures { λ r. ⌜ now (heard .exit) ≡ overlay (now (heard .entry)) 0 (join (answers c (now (frame .entry))) (take bits (now (heard .entry)))) ⌝ }
+{
+    let mut row = [0u8; 45];
+    let t = card::within::take_rules(c, frame, &mut row);
+    let a = t.answer;
+    let n = bits_in(a);
+    let m = join(heard, bits, &row[..n]);
+    let k = t.card;
+    One { card: k, bits: m }
+}
+
+// Each of the first n cards takes the frame. The row in which all answers are heard grows from the last card to the first.
+pub fn take_all(start: [Card; 16], n: usize, frame: &[u8], heard: &mut [u8]) -> Together
+    requires { ⌜ (n ≤ 16) × (45 ≤ length (now heard)) ⌝ }
+    ensures { λ r. ⌜ r ≡ together start n (now (frame .entry)) ⌝ }
+    ensures { λ r. ⌜ now (heard .exit) ≡ overlay (now (heard .entry)) 0 (heardFrom (now (frame .entry)) (take n start)) ⌝ }
+{
+    let mut cards = start;
+    let mut bits: usize = 0;
+    let mut i = n;
+    while 0 < i {
+        i -= 1;
+        let c = cards[i];
+        let o = take_one(c, frame, heard, bits);
+        let k = o.card;
+        cards[i] = k;
+        bits = o.bits;
+    }
+    Together {
+        cards: cards,
+        bits: bits,
+    }
+}
