@@ -130,11 +130,12 @@ fn standard(n: usize, bytes: &[u8], row: &mut [u8]) -> RowLine {
     if bytes.len() < n {
         return RowLine::NotUnderstood;
     }
-    if row.len() / 9 < n {
+    let b = bench::front(bytes, n);
+    if row.len() / 9 < b.len() {
         return RowLine::NotUnderstood;
     }
-    frame::within::put_bytes(row, 0, &bytes[..n]);
-    RowLine::Bits(9 * n)
+    frame::within::put_bytes(row, 0, b);
+    RowLine::Bits(9 * b.len())
 }
 
 // The same with CRC_A added.
@@ -142,11 +143,15 @@ fn standard_crc(n: usize, bytes: &[u8], row: &mut [u8]) -> RowLine {
     if bytes.len() < n {
         return RowLine::NotUnderstood;
     }
-    if row.len() / 9 < n + 2 {
+    let b = bench::front(bytes, n);
+    if row.len() / 9 < 2 {
         return RowLine::NotUnderstood;
     }
-    let c = crc::crc_bytes(&bytes[..n]);
-    frame::within::put_bytes(row, 0, &bytes[..n]);
-    frame::within::put_bytes(row, 9 * n, &c);
-    RowLine::Bits(9 * (n + 2))
+    if row.len() / 9 - 2 < b.len() {
+        return RowLine::NotUnderstood;
+    }
+    let c = crc::crc_bytes(b);
+    frame::within::put_bytes(row, 0, b);
+    frame::within::put_bytes(row, 9 * b.len(), &c);
+    RowLine::Bits(9 * (b.len() + 2))
 }
