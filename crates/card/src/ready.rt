@@ -112,6 +112,7 @@ fn ready_at(c: Card, l: Level, five: [u8; 5], row: &[u8], out: &mut [u8]) -> Tak
     crate::answer::silent(c, CardState::Idle)
 }
 
+// A card that is Ready at a level which its UID lacks matches nothing.
 pub fn take_ready(c: Card, l: Level, row: &[u8], out: &mut [u8]) -> Taken
     requires { ⌜ 45 ≤ length (now out) ⌝ }
     ensures { λ r. ⌜ r ≡ taken c (rules c (Ready l) (now (row .entry))) ⌝ }
@@ -120,10 +121,10 @@ pub fn take_ready(c: Card, l: Level, row: &[u8], out: &mut [u8]) -> Taken
     let u = c.uid;
     let z = u.size;
     let i = selection::numbers::place(l);
-    if i < uid::level_count(z) {
-        let three = uid::levels(u);
-        let five = three[i];
-        return ready_at(c, l, five, row, out);
+    if i >= uid::level_count(z) {
+        return crate::answer::silent(c, CardState::Idle);
     }
-    crate::answer::silent(c, CardState::Idle)
+    let three = uid::levels(u);
+    let five = three[i];
+    ready_at(c, l, five, row, out)
 }

@@ -1,54 +1,41 @@
+-- `card::powered` meets its contract, state by state. Assumes nothing.
 use borrow.Author.Needs.{needs}
 use Rattle.card.proofs.powered.Statement.{statement}
 use Rattle.card.proofs.powered.Tie as tie
-use Rattle.card.proofs.powered.Reads as reads
-use Rattle.card.proofs.powered.Lts as lts
 
--- src/lib.rt:101:27
 enum-told : tie.Need-enum-told
 enum-told c = search needs
 
--- src/lib.rt:102:28
 enum-told-2 : tie.Need-enum-told-2
 enum-told-2 c = search needs
 
--- src/lib.rt:103:26
 enum-known-s : tie.Need-enum-known-s
 enum-known-s c = search needs
 
--- src/lib.rt:104:30
 enum-told-3 : tie.Need-enum-told-3
 enum-told-3 c = search needs
 
--- src/lib.rt:105:28
 enum-told-4 : tie.Need-enum-told-4
 enum-told-4 c = search needs
 
--- src/lib.rt:106:29
 enum-known-s-2 : tie.Need-enum-known-s-2
 enum-known-s-2 c = search needs
 
--- src/lib.rt:97:1
 returns : tie.Need-returns
 returns c = search needs
 
--- src/lib.rt:97:1
 returns-2 : tie.Need-returns-2
 returns-2 c = search needs
 
--- src/lib.rt:97:1
 returns-3 : tie.Need-returns-3
 returns-3 c = rw (c .before .s .given .1)
 
--- src/lib.rt:97:1
 returns-4 : tie.Need-returns-4
 returns-4 c = search needs
 
--- src/lib.rt:97:1
 returns-5 : tie.Need-returns-5
 returns-5 c = search needs
 
--- src/lib.rt:97:1
 returns-6 : tie.Need-returns-6
 returns-6 c = rw (c .before .s2 .given .1)
 

@@ -1,11 +1,9 @@
+-- `card::refused_card` meets its contract: ten zeros are the fill of no bytes. Assumes nothing.
 use mathlib.Core.Path.{refl}
 use Rattle.rows.specs.Rows.{fill}
 use Rattle.card.proofs.refused_card.Statement.{statement}
 use Rattle.card.proofs.refused_card.Tie as tie
-use Rattle.card.proofs.refused_card.Reads as reads
-use Rattle.card.proofs.refused_card.Lts as lts
 
--- src/lib.rt:54:1
 returns : tie.Need-returns
 unfolding fill
 returns c = refl

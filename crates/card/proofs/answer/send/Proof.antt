@@ -1,42 +1,31 @@
+-- `card::answer::send` meets its contract: the row is empty or it is not. Assumes nothing.
 use mathlib.Core.Path.{_∙_}
 use denote.Ref.{now}
-use Rattle.card.specs.TakenLaws.{sends-none, sends-some}
 use borrow.Author.Needs.{needs}
+use Rattle.card.specs.TakenLaws.{sends-none, sends-some}
 use Rattle.card.proofs.answer.send.Statement.{statement}
 use Rattle.card.proofs.answer.send.Tie as tie
-use Rattle.card.proofs.answer.send.Reads as reads
-use Rattle.card.proofs.answer.send.Lts as lts
-use Rattle.card.proofs.answer.silent.Reads as silent-reads
-use Rattle.card.proofs.answer.with_state.Reads as with-state-reads
-use Rattle.rows.proofs.within.put.Reads as put-reads
 
--- src/answer.rt:43:5
 put-requires : tie.Need-put-requires
 put-requires c κs = search needs
 
--- src/answer.rt:45:9
 silent-requires : tie.Need-silent-requires
 silent-requires c κs = search needs
 
--- src/answer.rt:45:9
 same-length : tie.Need-same-length
 same-length c = search needs
 
--- src/answer.rt:45:9
 returns : tie.Need-returns
 returns c =
     let a = c .before .before .before .before .before .before .before .before .args in
     (c .silent .ensures ∙ sends-none (a .c) (a .s) (now (a .row)) (c .before .if1 .taken), c .before .before .before .before .put .ensures)
 
--- src/answer.rt:47:9
 with-state-requires : tie.Need-with-state-requires
 with-state-requires c κs = search needs
 
--- src/answer.rt:38:1
 same-length-2 : tie.Need-same-length-2
 same-length-2 c = search needs
 
--- src/answer.rt:38:1
 returns-2 : tie.Need-returns-2
 returns-2 c =
     let a = c .before .before .before .before .before .before .before .before .args in

@@ -1,49 +1,37 @@
+-- `card::rats::is_rats` meets its contract: RATS has 36 bits and an FSDI below 16. Assumes nothing.
 use mathlib.Core.Path.{_≡_, sym, ap, _∙_}
 use Prim.Native.Nat.{_%_}
 use native.Mathlib.Omega.{arith}
 use denote.Ref.{now}
+use borrow.Author.Needs.{needs}
 use Rattle.rows.specs.Rows.{same}
 use Rattle.selection.specs.Selection.{rats}
 use Rattle.card.specs.Card.{fsdi}
 use Rattle.card.specs.RatsLaws.{not-rats, not-fsdi}
-use borrow.Author.Needs.{needs}
 use Rattle.card.proofs.rats.is_rats.Statement.{statement}
 use Rattle.card.proofs.rats.is_rats.Tie as tie
-use Rattle.card.proofs.rats.is_rats.Reads as reads
-use Rattle.card.proofs.rats.is_rats.Lts as lts
-use Rattle.card.proofs.rats.fsdi.Reads as fsdi-reads
-use Rattle.rows.proofs.is_same.Reads as is-same-reads
-use Rattle.selection.proofs.sent.rats.Reads as rats-reads
 
--- src/rats.rt:21:9
 returns : tie.Need-returns
-returns c = sym (not-rats (now (c .before .before .args .row)) (c .if1 .taken))
+returns c = sym (not-rats (now (c .before .before .args .row)) (omega arith))
 
--- src/rats.rt:23:9
 fsdi-requires : tie.Need-fsdi-requires
 fsdi-requires c κs = search needs
 
--- src/rats.rt:25:9
 returns-2 : tie.Need-returns-2
 returns-2 c = sym (not-fsdi (now (c .before .before .before .before .args .row)) (omega (arith, c .before .fsdi .ensures)))
 
--- src/rats.rt:27:38
 cast-rats : tie.Need-cast-rats
 cast-rats c = search needs
 
--- src/rats.rt:27:16
 rats-requires : tie.Need-rats-requires
 rats-requires c κs = search needs
 
--- src/rats.rt:28:24
 slice-aggregate-is-same : tie.Need-slice-aggregate-is-same
 slice-aggregate-is-same c = search needs
 
--- src/rats.rt:28:5
 is-same-requires : tie.Need-is-same-requires
 is-same-requires c κs = search needs
 
--- src/rats.rt:17:1
 returns-3 : tie.Need-returns-3
 returns-3 c =
     let f = now (c .before .before .before .before .before .before .before .args .row) in

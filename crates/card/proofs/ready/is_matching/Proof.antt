@@ -1,33 +1,32 @@
+-- `card::ready::is_matching` meets its contract: fewer than 40 bits are sent, or more. Assumes nothing.
+use native.Mathlib.Omega.{arith}
 use mathlib.Core.Path.{_∙_}
 use denote.Ref.{now}
-use Rattle.card.specs.ReadyLaws.{match-told, match-none}
 use borrow.Author.Needs.{needs}
+use Rattle.card.specs.ReadyLaws.{match-told, match-none}
 use Rattle.card.proofs.ready.is_matching.Statement.{statement}
 use Rattle.card.proofs.ready.is_matching.Tie as tie
-use Rattle.card.proofs.ready.is_matching.Reads as reads
-use Rattle.card.proofs.ready.is_matching.Lts as lts
-use Rattle.card.proofs.ready.bits_sent.Reads as bits-sent-reads
-use Rattle.selection.proofs.split.is_anticollision.Reads as is-anticollision-reads
 
--- src/ready.rt:71:9
 bits-sent-requires : tie.Need-bits-sent-requires
 bits-sent-requires c κs = search needs
 
--- src/ready.rt:73:59
 cast-is-anticollision : tie.Need-cast-is-anticollision
 cast-is-anticollision c = search needs
 
--- src/ready.rt:73:9
 is-anticollision-requires : tie.Need-is-anticollision-requires
 is-anticollision-requires c κs = search needs
 
--- src/ready.rt:73:9
 returns : tie.Need-returns
-returns c = c .is-anticollision .ensures ∙ match-told (c .before .before .before .before .args .l) (c .before .before .before .before .args .five) (now (c .before .before .before .before .args .row)) _ (c .before .before .bits-sent .ensures) (c .before .if1 .taken)
+returns c =
+    let a = c .before .before .before .before .args in
+    let k = c .before .before .bits-sent in
+    c .is-anticollision .ensures ∙ match-told (a .l) (a .five) (now (a .row)) (k .result) (k .ensures) (omega arith)
 
--- src/ready.rt:68:1
 returns-2 : tie.Need-returns-2
-returns-2 c = match-none (c .before .before .before .args .l) (c .before .before .before .args .five) (now (c .before .before .before .args .row)) _ (c .before .bits-sent .ensures) (c .if1 .left)
+returns-2 c =
+    let a = c .before .before .before .args in
+    let k = c .before .bits-sent in
+    match-none (a .l) (a .five) (now (a .row)) (k .result) (k .ensures) (omega arith)
 
 pub is-matching-spec : {M : Type 1} → statement M
 is-matching-spec =

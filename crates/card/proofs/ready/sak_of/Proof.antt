@@ -1,27 +1,21 @@
+-- `card::ready::sak_of` meets its contract: the definition has the same tests. Assumes nothing.
 use mathlib.Core.Path.{sym, _∙_}
-use Rattle.card.specs.Card.{sak}
 use borrow.Author.Needs.{needs}
+use Rattle.card.specs.Card.{sak}
 use Rattle.card.proofs.ready.sak_of.Statement.{statement}
 use Rattle.card.proofs.ready.sak_of.Tie as tie
-use Rattle.card.proofs.ready.sak_of.Reads as reads
-use Rattle.card.proofs.ready.sak_of.Lts as lts
-use Rattle.card.proofs.ready.remains.Reads as remains-reads
 
--- src/ready.rt:29:8
 remains-requires : tie.Need-remains-requires
 remains-requires c κs = search needs
 
--- src/ready.rt:30:9
 returns : tie.Need-returns
 unfolding sak
 returns c = rw (sym (c .before .remains .ensures) ∙ c .if1 .taken)
 
--- src/ready.rt:33:9
 returns-2 : tie.Need-returns-2
 unfolding sak
 returns-2 c = rw (sym (c .before .before .remains .ensures) ∙ c .before .if1 .left, c .if2 .taken)
 
--- src/ready.rt:26:1
 returns-3 : tie.Need-returns-3
 unfolding sak
 returns-3 c = rw (sym (c .before .before .remains .ensures) ∙ c .before .if1 .left, c .if2 .left)

@@ -1,42 +1,30 @@
+-- `card::ready::send_sak` meets its contract, by those of what it calls. Assumes nothing.
 use mathlib.Core.Path.{ap, ap₂, _∙_}
 use denote.Ref.{now}
+use borrow.Author.Needs.{needs}
 use Rattle.selection.specs.Selection.{sakFrame}
 use Rattle.card.specs.TakenLaws.{handed}
-use borrow.Author.Needs.{needs}
 use Rattle.card.proofs.ready.send_sak.Statement.{statement}
 use Rattle.card.proofs.ready.send_sak.Tie as tie
-use Rattle.card.proofs.ready.send_sak.Reads as reads
-use Rattle.card.proofs.ready.send_sak.Lts as lts
-use Rattle.card.proofs.answer.send.Reads as send-reads
-use Rattle.card.proofs.ready.chosen.Reads as chosen-reads
-use Rattle.card.proofs.ready.sak_of.Reads as sak-of-reads
-use Rattle.selection.proofs.sent.sak_frame.Reads as sak-frame-reads
 
--- src/ready.rt:95:40
 sak-of-requires : tie.Need-sak-of-requires
 sak-of-requires c κs = search needs
 
--- src/ready.rt:95:13
 sak-frame-requires : tie.Need-sak-frame-requires
 sak-frame-requires c κs = search needs
 
--- src/ready.rt:96:28
 chosen-requires : tie.Need-chosen-requires
 chosen-requires c κs = search needs
 
--- src/ready.rt:96:42
 slice-aggregate-send : tie.Need-slice-aggregate-send
 slice-aggregate-send c = search needs
 
--- src/ready.rt:96:5
 send-requires : tie.Need-send-requires
 send-requires c κs = search needs
 
--- src/ready.rt:90:1
 same-length : tie.Need-same-length
 same-length c = search needs
 
--- src/ready.rt:90:1
 returns : tie.Need-returns
 returns c =
     let a = c .before .before .before .before .before .before .before .before .before .args in

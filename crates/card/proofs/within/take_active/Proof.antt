@@ -1,98 +1,72 @@
+-- `card::within::take_active` meets its contract: the rules of Active at what the tests told. Assumes nothing.
 use mathlib.Core.Path.{refl, sym, ap, ap₂, _∙_}
 use mathlib.Core.Bool.{true, false}
 use native.Mathlib.Omega.{arith}
 use borrow.Author.Tests.{not-true, not-false}
 use denote.Ref.{now}
+use borrow.Author.Needs.{needs}
 use Rattle.selection.specs.Selection.{ats, atMost8}
 use Rattle.card.specs.declared.CardState.the-variants.{Protocol}
 use Rattle.card.specs.RatsLaws.{rats-is}
 use Rattle.card.specs.RulesLaws.{active-step}
 use Rattle.card.specs.TakenLaws.{handed, unmoved, told}
-use borrow.Author.Needs.{needs}
 use Rattle.card.proofs.within.take_active.Statement.{statement}
 use Rattle.card.proofs.within.take_active.Tie as tie
-use Rattle.card.proofs.within.take_active.Reads as reads
-use Rattle.card.proofs.within.take_active.Lts as lts
-use Rattle.card.proofs.answer.send.Reads as send-reads
-use Rattle.card.proofs.answer.silent.Reads as silent-reads
-use Rattle.card.proofs.rats.fsdi.Reads as fsdi-reads
-use Rattle.card.proofs.rats.is_rats.Reads as is-rats-reads
-use Rattle.rows.proofs.is_same.Reads as is-same-reads
-use Rattle.selection.proofs.numbers.at_most_8.Reads as at-most-8-reads
-use Rattle.selection.proofs.sent.ats.Reads as ats-reads
-use Rattle.selection.proofs.sent.hlta.Reads as hlta-reads
 
--- src/within.rt:62:16
 hlta-requires : tie.Need-hlta-requires
 hlta-requires c κs = search needs
 
--- src/within.rt:63:27
 slice-aggregate-is-same : tie.Need-slice-aggregate-is-same
 slice-aggregate-is-same c = search needs
 
--- src/within.rt:63:8
 is-same-requires : tie.Need-is-same-requires
 is-same-requires c κs = search needs
 
--- src/within.rt:64:9
 silent-requires : tie.Need-silent-requires
 silent-requires c κs = search needs
 
--- src/within.rt:64:9
 returns : tie.Need-returns
 returns c =
     let a = c .before .before .before .before .before .before .before .args in
     let x = told (now (a .row)) (c .before .before .is-same .ensures) (c .before .before .before .before .hlta .ensures) (c .before .if1 .taken) in
     unmoved (a .c) (now (a .out)) (active-step (a .c) (now (a .row)) true _ _ x refl refl) (c .silent .ensures)
 
--- src/within.rt:67:9
 silent-requires-2 : tie.Need-silent-requires-2
 silent-requires-2 c κs = search needs
 
--- src/within.rt:67:9
 returns-2 : tie.Need-returns-2
 returns-2 c =
     let a = c .before .before .before .before .before .before .before .before .before .args in
     let x = told (now (a .row)) (c .before .before .before .before .is-same .ensures) (c .before .before .before .before .before .before .hlta .ensures) (c .before .before .before .if1 .left) in
     unmoved (a .c) (now (a .out)) (active-step (a .c) (now (a .row)) false false _ x (not-true _ (c .before .if2 .taken)) refl) (c .silent2 .ensures)
 
--- src/within.rt:69:8
 is-rats-requires : tie.Need-is-rats-requires
 is-rats-requires c κs = search needs
 
--- src/within.rt:70:13
 fsdi-requires : tie.Need-fsdi-requires
 fsdi-requires c κs = omega (arith, rats-is (now (c .before .before .before .before .before .before .before .before .before .before .args .row)) (sym (c .before .is-rats .ensures) ∙ c .if3 .taken) .0)
 
--- src/within.rt:71:52
 cast-at-most-8 : tie.Need-cast-at-most-8
 cast-at-most-8 c = omega (arith, c .fsdi .ensures, rats-is (now (c .before .before .before .before .before .before .before .before .before .before .before .args .row)) (sym (c .before .before .is-rats .ensures) ∙ c .before .if3 .taken) .1)
 
--- src/within.rt:71:13
 at-most-8-requires : tie.Need-at-most-8-requires
 at-most-8-requires c κs = search needs
 
--- src/within.rt:72:13
 at-most-8-requires-2 : tie.Need-at-most-8-requires-2
 at-most-8-requires-2 c κs = search needs
 
--- src/within.rt:73:19
 ats-requires : tie.Need-ats-requires
 ats-requires c κs = search needs
 
--- src/within.rt:74:68
 slice-aggregate-send : tie.Need-slice-aggregate-send
 slice-aggregate-send c = search needs
 
--- src/within.rt:74:9
 send-requires : tie.Need-send-requires
 send-requires c κs = search needs
 
--- src/within.rt:74:9
 same-length : tie.Need-same-length
 same-length c = search needs
 
--- src/within.rt:74:9
 returns-3 : tie.Need-returns-3
 returns-3 c =
     let a = c .before .before .before .before .before .before .before .before .before .before .before .before .before .before .before .before .before .before .before .args in
@@ -102,11 +76,9 @@ returns-3 c =
     let r = c .before .before .before .before .before .ats .ensures ∙ ap ats (c .before .before .before .before .before .before .at-most-82 .ensures) in
     handed (a .c) (now (a .out)) (ap₂ (λ i r. (Protocol i, r)) i r ∙ active-step (a .c) (now (a .row)) false true true x (not-false _ (c .before .before .before .before .before .before .before .before .before .before .before .if2 .left)) y) (c .before .before .send .ensures)
 
--- src/within.rt:76:5
 silent-requires-3 : tie.Need-silent-requires-3
 silent-requires-3 c κs = search needs
 
--- src/within.rt:57:1
 returns-4 : tie.Need-returns-4
 returns-4 c =
     let a = c .before .before .before .before .before .before .before .before .before .before .before .args in
