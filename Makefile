@@ -1,12 +1,27 @@
 # Two commands: `make run` shows the main job, `make test` is the gate.
-.PHONY: run test toolchain
+# `make vectors` writes the programs' scripts and expected output anew, from the independent model.
+.PHONY: run test toolchain vectors vectors-check
+
+BLOCKS = --no-blocks
+MODEL = cargo run --quiet --release --offline --locked --manifest-path model/Cargo.toml --
 
 toolchain:
 	@command -v rt >/dev/null 2>&1 || { echo "the Rattle toolchain is missing: no command 'rt' on the PATH"; exit 1; }
 
 run: toolchain
-	@rt check vectors_frame
+	@echo "proving the program and what it stands on; the first time this takes some minutes"
+	@rt check bench_sweep >target-run.log 2>&1 || { tail -n 20 target-run.log; exit 1; }
+	@rm -f target-run.log
+	@cat samples/lockers.txt
+	@target/bin/bench_sweep <samples/lockers.txt
 
-test: toolchain
+vectors:
+	$(MODEL) write crates $(BLOCKS)
+
+vectors-check:
+	@if command -v cargo >/dev/null 2>&1; then $(MODEL) check crates $(BLOCKS); \
+	else echo "no cargo: the stored vectors are not compared with the model"; fi
+
+test: toolchain vectors-check
 	rt fmt --check
 	rt ci

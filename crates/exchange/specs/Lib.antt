@@ -1,3 +1,6 @@
 pub mod Exchange
 pub mod StepLaws
 pub mod ExchangeLaws
+pub mod RowExchange
+pub mod FineLaws
+pub mod RowExchangeLaws

@@ -2,3 +2,4 @@ pub mod Reader
 pub mod Calls
 pub mod ReaderLaws
 pub mod StepLaws
+pub mod CollisionLaws

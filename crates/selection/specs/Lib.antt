@@ -10,3 +10,4 @@ pub mod SealLaws
 pub mod SelectionLaws
 pub mod SakLaws
 pub mod AtsLaws
+pub mod ReadBackLaws
