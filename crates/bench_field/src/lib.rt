@@ -41,8 +41,12 @@ pub fn card_line(c: Collected, text: &[u8]) -> Collecting {
     if bench::word(text, 4).len() != 0 {
         return not_understood(c);
     }
-    let g = given(bench::word(text, 1));
-    let l = words(bench::word(text, 0), bench::word(text, 2), bench::word(text, 3));
+    let g = given_state(bench::word(text, 1));
+    let l = words(
+        bench::word(text, 0),
+        bench::word(text, 2),
+        bench::word(text, 3),
+    );
     if !l.is_understood {
         return not_understood(c);
     }
@@ -112,7 +116,7 @@ fn words(uid: &[u8], sak: &[u8], index: &[u8]) -> CardLine {
 }
 
 // `idle`, also where it is left out, `halt` or `off`.
-fn given(word: &[u8]) -> Given {
+fn given_state(word: &[u8]) -> Given {
     if word.len() == 0 {
         return Given::Idle;
     }
