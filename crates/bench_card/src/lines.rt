@@ -6,7 +6,13 @@ use bench_lines::RowLine;
 use refusal::Refusal;
 use uid::Made;
 
-pub fn script(bench: Bench, text: &[u8], bytes: &mut [u8], row: &mut [u8], out: &mut [u8]) -> Reply {
+pub fn script(
+    bench: Bench,
+    text: &[u8],
+    bytes: &mut [u8],
+    row: &mut [u8],
+    out: &mut [u8],
+) -> Reply {
     let name = bench::word(text, 0);
     if rows::is_same(name, b"card") {
         return new_card(bench, text, out);
@@ -25,7 +31,14 @@ pub fn script(bench: Bench, text: &[u8], bytes: &mut [u8], row: &mut [u8], out: 
 }
 
 // The lines that need a card.
-fn due(bench: Bench, name: &[u8], value: &[u8], bytes: &mut [u8], row: &mut [u8], out: &mut [u8]) -> Reply {
+fn due(
+    bench: Bench,
+    name: &[u8],
+    value: &[u8],
+    bytes: &mut [u8],
+    row: &mut [u8],
+    out: &mut [u8],
+) -> Reply {
     if rows::is_same(name, b"power") {
         return power(bench, value, out);
     }
@@ -47,7 +60,11 @@ fn new_card(bench: Bench, text: &[u8], out: &mut [u8]) -> Reply {
     if bench::word(text, 4).len() != 0 {
         return answers::none(bench);
     }
-    let l = bench_lines::card_line(bench::word(text, 1), bench::word(text, 2), bench::word(text, 3));
+    let l = bench_lines::card_line(
+        bench::word(text, 1),
+        bench::word(text, 2),
+        bench::word(text, 3),
+    );
     if !l.is_understood {
         return answers::none(bench);
     }

@@ -19,6 +19,13 @@ pub struct Reply {
     pub length: usize,
 }
 
+// The bench between two lines, the input, and whether that is over.
+pub struct Played {
+    pub bench: Bench,
+    pub input: bench_io::Input,
+    pub is_over: bool,
+}
+
 fn main() {
     let mut buffer = io::buffer();
     let mut line = [0u8; 16385];
@@ -31,18 +38,47 @@ fn main() {
 // Answers every line. A proved loop has to end, and nothing says that the input does: it counts its turns down from a number that no run
 // uses up.
 fn play(buffer: &mut [u8], line: &mut [u8], bytes: &mut [u8], row: &mut [u8], out: &mut [u8]) {
-    let mut bench = start();
-    let mut input = bench_io::start();
+    let mut p = Played {
+        bench: start(),
+        input: bench_io::start(),
+        is_over: false,
+    };
     let mut turns = u64::MAX;
     while turns > 0 {
         turns -= 1;
-        input = bench_io::next_line(input, buffer, line);
-        if !bench_io::has_line(input) {
+        p = answer_next(p, buffer, line, bytes, row, out);
+        if p.is_over {
             return;
         }
-        let r = answer(bench, input, line, bytes, row, out);
-        bench = r.bench;
-        bench_io::say(out, r.length);
+    }
+}
+
+// Reads the next line and answers it, unless the input is over.
+fn answer_next(
+    p: Played,
+    buffer: &mut [u8],
+    line: &mut [u8],
+    bytes: &mut [u8],
+    row: &mut [u8],
+    out: &mut [u8],
+) -> Played {
+    let bench = p.bench;
+    let before = p.input;
+    let input = bench_io::next_line(before, buffer, line);
+    if !bench_io::has_line(input) {
+        return Played {
+            bench,
+            input,
+            is_over: true,
+        };
+    }
+    let r = answer(bench, input, line, bytes, row, out);
+    let after = r.bench;
+    bench_io::say(out, r.length);
+    Played {
+        bench: after,
+        input,
+        is_over: false,
     }
 }
 
@@ -58,7 +94,14 @@ fn start() -> Bench {
     }
 }
 
-fn answer(bench: Bench, input: bench_io::Input, line: &[u8], bytes: &mut [u8], row: &mut [u8], out: &mut [u8]) -> Reply {
+fn answer(
+    bench: Bench,
+    input: bench_io::Input,
+    line: &[u8],
+    bytes: &mut [u8],
+    row: &mut [u8],
+    out: &mut [u8],
+) -> Reply {
     let text = bench_io::text(input, line);
     let kind = bench_io::kind(input, text);
     match kind {

@@ -5,7 +5,13 @@ use crate::answers;
 use bench_lines::RowLine;
 use refusal::Refusal;
 
-pub fn script(bench: Bench, text: &[u8], bytes: &mut [u8], row: &mut [u8], out: &mut [u8]) -> Reply {
+pub fn script(
+    bench: Bench,
+    text: &[u8],
+    bytes: &mut [u8],
+    row: &mut [u8],
+    out: &mut [u8],
+) -> Reply {
     let name = bench::word(text, 0);
     let value = bench::word(text, 1);
     if value.len() == 0 {
