@@ -1,0 +1,52 @@
+use borrow.Author.Needs.{needs}
+use Rattle.card_link.proofs.air.read_row.Statement.{statement}
+use Rattle.card_link.proofs.air.read_row.Tie as tie
+use Rattle.card_link.proofs.air.read_row.Reads as reads
+use Rattle.card_link.proofs.air.read_row.Lts as lts
+use Rattle.block.proofs.size_of.Reads as size-of-reads
+use Rattle.frame.proofs.within.read_crc_within.Reads as read-crc-within-reads
+
+-- src/air.rt:22:9
+size-of-requires : tie.Need-size-of-requires
+size-of-requires c κs = search needs
+
+-- src/air.rt:23:9
+read-crc-within-requires : tie.Need-read-crc-within-requires
+read-crc-within-requires c κs = ?
+
+-- src/air.rt:25:37
+enum-told : tie.Need-enum-told
+enum-told c = search needs
+
+-- src/air.rt:26:25
+enum-known-got : tie.Need-enum-known-got
+enum-known-got c = search needs
+
+-- src/air.rt:17:1
+same-length : tie.Need-same-length
+same-length c = search needs
+
+-- src/air.rt:17:1
+returns : tie.Need-returns
+returns c = ?
+
+-- src/air.rt:17:1
+same-length-2 : tie.Need-same-length-2
+same-length-2 c = search needs
+
+-- src/air.rt:17:1
+returns-2 : tie.Need-returns-2
+returns-2 c = ?
+
+pub read-row-spec : {M : Type 1} → statement M
+read-row-spec =
+    tie.close
+    (tie.spec
+    size-of-requires
+    read-crc-within-requires
+    enum-told
+    enum-known-got
+    same-length
+    returns
+    same-length-2
+    returns-2)

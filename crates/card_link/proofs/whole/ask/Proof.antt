@@ -1,0 +1,64 @@
+use borrow.Author.Needs.{needs}
+use Rattle.card_link.proofs.whole.ask.Statement.{statement}
+use Rattle.card_link.proofs.whole.ask.Tie as tie
+use Rattle.card_link.proofs.whole.ask.Reads as reads
+use Rattle.card_link.proofs.whole.ask.Lts as lts
+use Rattle.card_link.proofs.asks.Reads as asks-reads
+use Rattle.card_link.proofs.whole.declines.Reads as declines-reads
+use Rattle.card_link.proofs.whole.finish.Reads as finish-reads
+use Rattle.card_link.proofs.whole.is_owing.Reads as is-owing-reads
+
+-- src/whole.rt:266:9
+is-owing-requires : tie.Need-is-owing-requires
+is-owing-requires c κs = search needs
+
+-- src/whole.rt:267:9
+declines-requires : tie.Need-declines-requires
+declines-requires c κs = search needs
+
+-- src/whole.rt:267:9
+returns : tie.Need-returns
+returns c = ?
+
+-- src/whole.rt:270:9
+declines-requires-2 : tie.Need-declines-requires-2
+declines-requires-2 c κs = search needs
+
+-- src/whole.rt:270:9
+returns-2 : tie.Need-returns-2
+returns-2 c = ?
+
+-- src/whole.rt:274:9
+asks-requires : tie.Need-asks-requires
+asks-requires c κs = search needs
+
+-- src/whole.rt:276:24
+slice-aggregate-finish : tie.Need-slice-aggregate-finish
+slice-aggregate-finish c = search needs
+
+-- src/whole.rt:276:5
+finish-requires : tie.Need-finish-requires
+finish-requires c κs = search needs
+
+-- src/whole.rt:262:1
+same-length : tie.Need-same-length
+same-length c = search needs
+
+-- src/whole.rt:262:1
+returns-3 : tie.Need-returns-3
+returns-3 c = ?
+
+pub ask-spec : {M : Type 1} → statement M
+ask-spec =
+    tie.close
+    (tie.spec
+    is-owing-requires
+    declines-requires
+    returns
+    declines-requires-2
+    returns-2
+    asks-requires
+    slice-aggregate-finish
+    finish-requires
+    same-length
+    returns-3)

@@ -1,0 +1,22 @@
+use borrow.Author.Needs.{needs}
+use Rattle.card_link.proofs.whole.power_off.Statement.{statement}
+use Rattle.card_link.proofs.whole.power_off.Tie as tie
+use Rattle.card_link.proofs.whole.power_off.Reads as reads
+use Rattle.card_link.proofs.whole.power_off.Lts as lts
+use Rattle.card.proofs.power_off.Reads as power-off-reads
+use Rattle.card_link.proofs.open.Reads as open-reads
+
+-- src/whole.rt:65:9
+power-off-requires : tie.Need-power-off-requires
+power-off-requires c κs = search needs
+
+-- src/whole.rt:66:9
+open-requires : tie.Need-open-requires
+open-requires c κs = search needs
+
+-- src/whole.rt:61:1
+returns : tie.Need-returns
+returns c = ?
+
+pub power-off-spec : {M : Type 1} → statement M
+power-off-spec = tie.close (tie.spec power-off-requires open-requires returns)

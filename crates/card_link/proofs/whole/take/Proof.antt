@@ -1,0 +1,58 @@
+use borrow.Author.Needs.{needs}
+use Rattle.card_link.proofs.whole.take.Statement.{statement}
+use Rattle.card_link.proofs.whole.take.Tie as tie
+use Rattle.card_link.proofs.whole.take.Reads as reads
+use Rattle.card_link.proofs.whole.take.Lts as lts
+use Rattle.card_link.proofs.whole.declines.Reads as declines-reads
+use Rattle.card_link.proofs.whole.is_owing.Reads as is-owing-reads
+use Rattle.card_link.proofs.whole.take_due.Reads as take-due-reads
+
+-- src/whole.rt:235:8
+is-owing-requires : tie.Need-is-owing-requires
+is-owing-requires c κs = search needs
+
+-- src/whole.rt:236:9
+declines-requires : tie.Need-declines-requires
+declines-requires c κs = search needs
+
+-- src/whole.rt:236:9
+returns : tie.Need-returns
+returns c = ?
+
+-- src/whole.rt:239:9
+declines-requires-2 : tie.Need-declines-requires-2
+declines-requires-2 c κs = search needs
+
+-- src/whole.rt:239:9
+returns-2 : tie.Need-returns-2
+returns-2 c = ?
+
+-- src/whole.rt:241:5
+take-due-requires : tie.Need-take-due-requires
+take-due-requires c κs = search needs
+
+-- src/whole.rt:230:1
+same-length : tie.Need-same-length
+same-length c = search needs
+
+-- src/whole.rt:230:1
+same-length-2 : tie.Need-same-length-2
+same-length-2 c = search needs
+
+-- src/whole.rt:230:1
+returns-3 : tie.Need-returns-3
+returns-3 c = ?
+
+pub take-spec : {M : Type 1} → statement M
+take-spec =
+    tie.close
+    (tie.spec
+    is-owing-requires
+    declines-requires
+    returns
+    declines-requires-2
+    returns-2
+    take-due-requires
+    same-length
+    same-length-2
+    returns-3)

@@ -1,0 +1,137 @@
+use borrow.Author.Needs.{needs}
+use Rattle.card_link.proofs.whole.take_due.Statement.{statement}
+use Rattle.card_link.proofs.whole.take_due.Tie as tie
+use Rattle.card_link.proofs.whole.take_due.Reads as reads
+use Rattle.card_link.proofs.whole.take_due.Lts as lts
+use Rattle.card_link.proofs.whole.take_inside.Reads as take-inside-reads
+use Rattle.card_link.proofs.whole.take_outside.Reads as take-outside-reads
+
+-- src/whole.rt:219:48
+enum-told : tie.Need-enum-told
+enum-told c = search needs
+
+-- src/whole.rt:219:27
+take-outside-requires : tie.Need-take-outside-requires
+take-outside-requires c κs = search needs
+
+-- src/whole.rt:220:49
+enum-told-2 : tie.Need-enum-told-2
+enum-told-2 c = search needs
+
+-- src/whole.rt:220:28
+take-outside-requires-2 : tie.Need-take-outside-requires-2
+take-outside-requires-2 c κs = search needs
+
+-- src/whole.rt:221:53
+enum-told-3 : tie.Need-enum-told-3
+enum-told-3 c = search needs
+
+-- src/whole.rt:221:32
+take-outside-requires-3 : tie.Need-take-outside-requires-3
+take-outside-requires-3 c κs = search needs
+
+-- src/whole.rt:222:51
+enum-told-4 : tie.Need-enum-told-4
+enum-told-4 c = search needs
+
+-- src/whole.rt:222:30
+take-outside-requires-4 : tie.Need-take-outside-requires-4
+take-outside-requires-4 c κs = search needs
+
+-- src/whole.rt:223:49
+enum-told-5 : tie.Need-enum-told-5
+enum-told-5 c = search needs
+
+-- src/whole.rt:223:28
+take-outside-requires-5 : tie.Need-take-outside-requires-5
+take-outside-requires-5 c κs = search needs
+
+-- src/whole.rt:224:63
+enum-told-6 : tie.Need-enum-told-6
+enum-told-6 c = search needs
+
+-- src/whole.rt:224:35
+take-inside-requires : tie.Need-take-inside-requires
+take-inside-requires c κs = search needs
+
+-- src/whole.rt:210:1
+same-length : tie.Need-same-length
+same-length c = search needs
+
+-- src/whole.rt:210:1
+returns : tie.Need-returns
+returns c = ?
+
+-- src/whole.rt:210:1
+same-length-2 : tie.Need-same-length-2
+same-length-2 c = search needs
+
+-- src/whole.rt:210:1
+returns-2 : tie.Need-returns-2
+returns-2 c = ?
+
+-- src/whole.rt:210:1
+same-length-3 : tie.Need-same-length-3
+same-length-3 c = search needs
+
+-- src/whole.rt:210:1
+returns-3 : tie.Need-returns-3
+returns-3 c = ?
+
+-- src/whole.rt:210:1
+same-length-4 : tie.Need-same-length-4
+same-length-4 c = search needs
+
+-- src/whole.rt:210:1
+returns-4 : tie.Need-returns-4
+returns-4 c = ?
+
+-- src/whole.rt:210:1
+same-length-5 : tie.Need-same-length-5
+same-length-5 c = search needs
+
+-- src/whole.rt:210:1
+returns-5 : tie.Need-returns-5
+returns-5 c = ?
+
+-- src/whole.rt:210:1
+same-length-6 : tie.Need-same-length-6
+same-length-6 c = search needs
+
+-- src/whole.rt:210:1
+same-length-7 : tie.Need-same-length-7
+same-length-7 c = search needs
+
+-- src/whole.rt:210:1
+returns-6 : tie.Need-returns-6
+returns-6 c = ?
+
+pub take-due-spec : {M : Type 1} → statement M
+take-due-spec =
+    tie.close
+    (tie.spec
+    enum-told
+    take-outside-requires
+    enum-told-2
+    take-outside-requires-2
+    enum-told-3
+    take-outside-requires-3
+    enum-told-4
+    take-outside-requires-4
+    enum-told-5
+    take-outside-requires-5
+    enum-told-6
+    take-inside-requires
+    same-length
+    returns
+    same-length-2
+    returns-2
+    same-length-3
+    returns-3
+    same-length-4
+    returns-4
+    same-length-5
+    returns-5
+    same-length-6
+    same-length-7
+    returns-6)
