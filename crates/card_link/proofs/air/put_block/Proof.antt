@@ -1,3 +1,8 @@
+use mathlib.Core.Path.{_≡_, sym}
+use denote.Ref.{now}
+use native.Mathlib.Omega.{arith}
+use lib.ListN.{length, take, length-take}
+use Rattle.card_link.specs.WholeLaws.{row-put-none, count-is, row-put}
 use borrow.Author.Needs.{needs}
 use Rattle.card_link.proofs.air.put_block.Statement.{statement}
 use Rattle.card_link.proofs.air.put_block.Tie as tie
@@ -8,15 +13,15 @@ use Rattle.frame.proofs.within.put_bytes.Reads as put-bytes-reads
 
 -- src/air.rt:48:9
 returns : tie.Need-returns
-returns c = ?
+returns c = row-put-none (c .before .before .args .b .count) (c .before .before .args .b .bytes) (now (c .before .before .args .out)) (c .if1 .taken)
 
 -- src/air.rt:51:30
 array-share-prefix-bytes : tie.Need-array-share-prefix-bytes
-array-share-prefix-bytes c = ?
+array-share-prefix-bytes c = let l : length (c .before .before .before .args .b .bytes) ≡ 256 = search needs in omega (arith, c .before .before .before .pre .0)
 
 -- src/air.rt:51:30
 slice-aggregate-crc-bytes : tie.Need-slice-aggregate-crc-bytes
-slice-aggregate-crc-bytes c = ?
+slice-aggregate-crc-bytes c = let l : length (c .before .before .before .before .args .b .bytes) ≡ 256 = search needs in count-is _ _ (c .before .before .before .before .pre .0) l
 
 -- src/air.rt:51:15
 crc-bytes-requires : tie.Need-crc-bytes-requires
@@ -24,15 +29,17 @@ crc-bytes-requires c κs = search needs
 
 -- src/air.rt:52:38
 array-share-prefix-bytes-2 : tie.Need-array-share-prefix-bytes-2
-array-share-prefix-bytes-2 c = ?
+array-share-prefix-bytes-2 c = let l : length (c .before .before .before .before .before .before .args .b .bytes) ≡ 256 = search needs in omega (arith, c .before .before .before .before .before .before .pre .0)
 
 -- src/air.rt:52:38
 slice-aggregate-put-bytes : tie.Need-slice-aggregate-put-bytes
-slice-aggregate-put-bytes c = ?
+slice-aggregate-put-bytes c = let l : length (c .before .before .before .before .before .before .before .args .b .bytes) ≡ 256 = search needs in count-is _ _ (c .before .before .before .before .before .before .before .pre .0) l
 
 -- src/air.rt:52:5
 put-bytes-requires : tie.Need-put-bytes-requires
-put-bytes-requires c κs = ?
+put-bytes-requires c κs =
+    let l : length (c .before .before .before .before .before .before .before .args .b .bytes) ≡ 256 = search needs in
+    omega (arith, count-is (c .before .before .before .before .before .before .before .args .b .count) (c .before .before .before .before .before .before .before .args .b .bytes) (c .before .before .before .before .before .before .before .pre .0) l, c .before .before .before .before .before .before .before .pre .0, c .before .before .before .before .before .before .before .pre .1)
 
 -- src/air.rt:53:35
 mul-put-bytes : tie.Need-mul-put-bytes
@@ -60,7 +67,10 @@ same-length c = search needs
 
 -- src/air.rt:41:1
 returns-2 : tie.Need-returns-2
-returns-2 c = ?
+returns-2 c =
+    let a = c .before .before .before .before .before .before .before .before .before .before .before .before .before .before .before .args in
+    let l : length (a .b .bytes) ≡ 256 = search needs in
+    row-put (take (a .b .count) (a .b .bytes)) _ (now (a .out)) _ _ (a .b .count) (omega (arith, c .before .before .before .before .before .before .before .before .before .before .before .before .before .if1 .left)) (c .before .before .before .before .before .before .before .before .before .before .before .before .before .before .before .pre .0) (c .before .before .before .before .before .before .before .before .before .before .before .before .before .before .before .pre .1) (sym (count-is (a .b .count) (a .b .bytes) (c .before .before .before .before .before .before .before .before .before .before .before .before .before .before .before .pre .0) l)) (c .before .before .before .before .before .before .before .before .before .before .crc-bytes .ensures) (c .before .before .before .before .before .before .before .put-bytes .ensures) (c .before .before .put-bytes2 .ensures)
 
 pub put-block-spec : {M : Type 1} → statement M
 put-block-spec =

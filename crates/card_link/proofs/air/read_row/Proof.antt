@@ -1,3 +1,8 @@
+use denote.Ref.{now}
+use native.Mathlib.Omega.{arith}
+use lib.ListN.{length}
+use Rattle.selection.specs.SizeLaws.{size-most}
+use Rattle.card_link.specs.WholeLaws.{row-none, row-some}
 use borrow.Author.Needs.{needs}
 use Rattle.card_link.proofs.air.read_row.Statement.{statement}
 use Rattle.card_link.proofs.air.read_row.Tie as tie
@@ -12,7 +17,7 @@ size-of-requires c κs = search needs
 
 -- src/air.rt:23:9
 read-crc-within-requires : tie.Need-read-crc-within-requires
-read-crc-within-requires c κs = ?
+read-crc-within-requires c κs = omega (arith, c .before .size-of .ensures, size-most (c .before .before .before .before .args .own))
 
 -- src/air.rt:25:37
 enum-told : tie.Need-enum-told
@@ -28,7 +33,9 @@ same-length c = search needs
 
 -- src/air.rt:17:1
 returns : tie.Need-returns
-returns c = ?
+returns c =
+    let a = c .before .before .before .before .before .before .before .before .before .args in
+    row-none (a .own) (c .before .before .before .before .before .before .size-of .result) (length (now (a .out))) (now (a .row)) (now (a .out)) _ _ (c .before .before .before .before .before .before .size-of .ensures) (c .before .before .before .before .before .before .before .before .before .pre) (c .before .before .before .before .read-crc-within .ensures .0) (c .before .before .before .before .read-crc-within .ensures .1) _ (c .enum-told .given .1)
 
 -- src/air.rt:17:1
 same-length-2 : tie.Need-same-length-2
@@ -36,7 +43,9 @@ same-length-2 c = search needs
 
 -- src/air.rt:17:1
 returns-2 : tie.Need-returns-2
-returns-2 c = ?
+returns-2 c =
+    let a = c .before .before .before .before .before .before .before .before .before .before .args in
+    row-some (a .own) (c .before .before .before .before .before .before .before .size-of .result) (length (now (a .out))) (now (a .row)) (now (a .out)) _ _ (c .before .before .before .before .before .before .before .size-of .ensures) (c .before .before .before .before .before .before .before .before .before .before .pre) (c .before .before .before .before .before .read-crc-within .ensures .0) (c .before .before .before .before .before .read-crc-within .ensures .1) _ (c .before .got .given .1)
 
 pub read-row-spec : {M : Type 1} → statement M
 read-row-spec =

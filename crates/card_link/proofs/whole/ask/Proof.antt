@@ -1,3 +1,10 @@
+use mathlib.Core.Path.{sym, ap, _∙_}
+use mathlib.Core.List.{[]}
+use denote.Ref.{now}
+use borrow.Author.Tests.{not-true, not-false}
+use Rattle.card_link.specs.CardFrames.{cardOut, cardWtx}
+use Rattle.card_link.specs.CardCalls.{withRow, owing, askCall}
+use Rattle.card_link.specs.WholeLaws.{two, two-not-due, two-room, two-due}
 use borrow.Author.Needs.{needs}
 use Rattle.card_link.proofs.whole.ask.Statement.{statement}
 use Rattle.card_link.proofs.whole.ask.Tie as tie
@@ -18,7 +25,10 @@ declines-requires c κs = search needs
 
 -- src/whole.rt:267:9
 returns : tie.Need-returns
-returns c = ?
+unfolding askCall
+returns c =
+    let a = c .before .before .before .before .args in
+    two-not-due (owing (a .x)) (a .x) _ (now (a .out)) (sym (c .before .before .is-owing .ensures) ∙ not-true _ (c .before .if1 .taken)) (c .declines .ensures)
 
 -- src/whole.rt:270:9
 declines-requires-2 : tie.Need-declines-requires-2
@@ -26,7 +36,10 @@ declines-requires-2 c κs = search needs
 
 -- src/whole.rt:270:9
 returns-2 : tie.Need-returns-2
-returns-2 c = ?
+unfolding askCall
+returns-2 c =
+    let a = c .before .before .before .before .before .args in
+    two-room (owing (a .x)) (a .x) _ (now (a .out)) (sym (c .before .before .before .is-owing .ensures) ∙ not-false _ (c .before .before .if1 .left)) (c .before .if2 .taken) (c .declines2 .ensures)
 
 -- src/whole.rt:274:9
 asks-requires : tie.Need-asks-requires
@@ -46,7 +59,10 @@ same-length c = search needs
 
 -- src/whole.rt:262:1
 returns-3 : tie.Need-returns-3
-returns-3 c = ?
+unfolding askCall cardWtx
+returns-3 c =
+    let a = c .before .before .before .before .before .before .before .before .before .before .before .before .args in
+    two-due (owing (a .x)) (a .x) _ (now (a .out)) (sym (c .before .before .before .before .before .before .before .before .before .before .is-owing .ensures) ∙ not-false _ (c .before .before .before .before .before .before .before .before .before .if1 .left)) (c .before .before .before .before .before .before .before .before .if2 .left) (two (now (a .out)) (ap (λ s. withRow (a .x .card) (cardOut s [] [] 0 [])) (c .before .before .before .before .before .asks .ensures)) (c .before .before .finish .ensures))
 
 pub ask-spec : {M : Type 1} → statement M
 ask-spec =

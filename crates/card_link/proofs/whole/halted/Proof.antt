@@ -11,7 +11,7 @@ open-requires c κs = search needs
 
 -- src/whole.rt:126:1
 returns : tie.Need-returns
-returns c = ?
+returns c = rw (c .open .ensures)
 
 pub halted-spec : {M : Type 1} → statement M
 halted-spec = tie.close (tie.spec open-requires returns)

@@ -55,27 +55,27 @@ open-requires-6 c κs = search needs
 
 -- src/whole.rt:102:1
 returns : tie.Need-returns
-returns c = ?
+returns c = rw (c .open .ensures, c .before .enum-told .given .1)
 
 -- src/whole.rt:102:1
 returns-2 : tie.Need-returns-2
-returns-2 c = ?
+returns-2 c = rw (c .open2 .ensures, c .before .enum-told2 .given .1)
 
 -- src/whole.rt:102:1
 returns-3 : tie.Need-returns-3
-returns-3 c = ?
+returns-3 c = rw (c .open3 .ensures, c .before .enum-told3 .given .1)
 
 -- src/whole.rt:102:1
 returns-4 : tie.Need-returns-4
-returns-4 c = ?
+returns-4 c = rw (c .open4 .ensures, c .before .enum-told4 .given .1)
 
 -- src/whole.rt:102:1
 returns-5 : tie.Need-returns-5
-returns-5 c = ?
+returns-5 c = rw (c .open5 .ensures, c .before .enum-told5 .given .1)
 
 -- src/whole.rt:102:1
 returns-6 : tie.Need-returns-6
-returns-6 c = ?
+returns-6 c = rw (c .open6 .ensures, c .before .before .s .given .1)
 
 pub link-in-spec : {M : Type 1} → statement M
 link-in-spec =

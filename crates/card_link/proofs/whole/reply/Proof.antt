@@ -1,3 +1,11 @@
+use mathlib.Core.Path.{sym, ap, _∙_}
+use mathlib.Core.List.{[]}
+use denote.Ref.{now}
+use borrow.Author.Tests.{not-true, not-false}
+use lib.ListN.{length}
+use Rattle.card_link.specs.CardFrames.{cardOut, cardReply}
+use Rattle.card_link.specs.CardCalls.{withRow, owing, replyCall}
+use Rattle.card_link.specs.WholeLaws.{two, two-not-due, two-room, two-due}
 use borrow.Author.Needs.{needs}
 use Rattle.card_link.proofs.whole.reply.Statement.{statement}
 use Rattle.card_link.proofs.whole.reply.Tie as tie
@@ -18,7 +26,10 @@ declines-requires c κs = search needs
 
 -- src/whole.rt:250:9
 returns : tie.Need-returns
-returns c = ?
+unfolding replyCall
+returns c =
+    let a = c .before .before .before .before .before .args in
+    two-not-due (owing (a .x)) (a .x) _ (now (a .out)) (sym (c .before .before .is-owing .ensures) ∙ not-true _ (c .before .if1 .taken)) (c .declines .ensures)
 
 -- src/whole.rt:253:9
 declines-requires-2 : tie.Need-declines-requires-2
@@ -26,7 +37,10 @@ declines-requires-2 c κs = search needs
 
 -- src/whole.rt:253:9
 returns-2 : tie.Need-returns-2
-returns-2 c = ?
+unfolding replyCall
+returns-2 c =
+    let a = c .before .before .before .before .before .before .args in
+    two-room (owing (a .x)) (a .x) _ (now (a .out)) (sym (c .before .before .before .is-owing .ensures) ∙ not-false _ (c .before .before .if1 .left)) (c .before .if2 .taken) (c .declines2 .ensures)
 
 -- src/whole.rt:257:9
 replies-requires : tie.Need-replies-requires
@@ -42,7 +56,10 @@ same-length c = search needs
 
 -- src/whole.rt:245:1
 returns-3 : tie.Need-returns-3
-returns-3 c = ?
+unfolding replyCall cardReply
+returns-3 c =
+    let a = c .before .before .before .before .before .before .before .before .before .before .before .before .args in
+    two-due (owing (a .x)) (a .x) _ (now (a .out)) (sym (c .before .before .before .before .before .before .before .before .before .is-owing .ensures) ∙ not-false _ (c .before .before .before .before .before .before .before .before .if1 .left)) (c .before .before .before .before .before .before .before .if2 .left) (two (now (a .out)) (ap (λ s. withRow (a .x .card) (cardOut s (now (a .answer)) [] 0 [])) (c .before .before .before .before .replies .ensures)) (c .before .before .finish .ensures))
 
 pub reply-spec : {M : Type 1} → statement M
 reply-spec =

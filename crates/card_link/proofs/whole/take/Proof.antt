@@ -1,3 +1,6 @@
+use mathlib.Core.Path.{sym, _∙_}
+use denote.Ref.{now}
+use Rattle.card_link.specs.WholeLaws.{take-not-due, take-room, take-due}
 use borrow.Author.Needs.{needs}
 use Rattle.card_link.proofs.whole.take.Statement.{statement}
 use Rattle.card_link.proofs.whole.take.Tie as tie
@@ -17,7 +20,9 @@ declines-requires c κs = search needs
 
 -- src/whole.rt:236:9
 returns : tie.Need-returns
-returns c = ?
+returns c =
+    let a = c .before .before .before .before .before .before .before .args in
+    take-not-due (a .x) (now (a .row)) (now (a .answer)) (now (a .buffer)) (now (a .out)) (sym (c .before .before .is-owing .ensures) ∙ c .before .if1 .taken) (c .declines .ensures)
 
 -- src/whole.rt:239:9
 declines-requires-2 : tie.Need-declines-requires-2
@@ -25,7 +30,9 @@ declines-requires-2 c κs = search needs
 
 -- src/whole.rt:239:9
 returns-2 : tie.Need-returns-2
-returns-2 c = ?
+returns-2 c =
+    let a = c .before .before .before .before .before .before .before .before .args in
+    take-room (a .x) (now (a .row)) (now (a .answer)) (now (a .buffer)) (now (a .out)) (sym (c .before .before .before .is-owing .ensures) ∙ c .before .before .if1 .left) (c .before .if2 .taken) (c .declines2 .ensures)
 
 -- src/whole.rt:241:5
 take-due-requires : tie.Need-take-due-requires
@@ -41,7 +48,9 @@ same-length-2 c = search needs
 
 -- src/whole.rt:230:1
 returns-3 : tie.Need-returns-3
-returns-3 c = ?
+returns-3 c =
+    let a = c .before .before .before .before .before .before .before .before .before .before .before .before .before .before .args in
+    take-due (a .x) (now (a .row)) (now (a .answer)) (now (a .buffer)) (now (a .out)) (sym (c .before .before .before .before .before .before .before .before .before .is-owing .ensures) ∙ c .before .before .before .before .before .before .before .before .if1 .left) (c .before .before .before .before .before .before .before .if2 .left) (c .before .before .before .before .take-due .ensures)
 
 pub take-spec : {M : Type 1} → statement M
 take-spec =

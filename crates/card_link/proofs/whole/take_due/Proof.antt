@@ -1,3 +1,6 @@
+use mathlib.Core.Path.{refl}
+use denote.Ref.{now}
+use Rattle.card_link.specs.WholeLaws.{due-outside, due-inside}
 use borrow.Author.Needs.{needs}
 use Rattle.card_link.proofs.whole.take_due.Statement.{statement}
 use Rattle.card_link.proofs.whole.take_due.Tie as tie
@@ -60,7 +63,9 @@ same-length c = search needs
 
 -- src/whole.rt:210:1
 returns : tie.Need-returns
-returns c = ?
+returns c =
+    let a = c .before .before .before .before .before .before .before .before .before .before .before .args in
+    due-outside (a .x) (now (a .row)) (now (a .answer)) (now (a .buffer)) (now (a .out)) (c .before .before .before .before .enum-told .given .1) refl (c .before .before .take-outside .ensures)
 
 -- src/whole.rt:210:1
 same-length-2 : tie.Need-same-length-2
@@ -68,7 +73,9 @@ same-length-2 c = search needs
 
 -- src/whole.rt:210:1
 returns-2 : tie.Need-returns-2
-returns-2 c = ?
+returns-2 c =
+    let a = c .before .before .before .before .before .before .before .before .before .before .before .args in
+    due-outside (a .x) (now (a .row)) (now (a .answer)) (now (a .buffer)) (now (a .out)) (c .before .before .before .before .enum-told2 .given .1) refl (c .before .before .take-outside2 .ensures)
 
 -- src/whole.rt:210:1
 same-length-3 : tie.Need-same-length-3
@@ -76,7 +83,9 @@ same-length-3 c = search needs
 
 -- src/whole.rt:210:1
 returns-3 : tie.Need-returns-3
-returns-3 c = ?
+returns-3 c =
+    let a = c .before .before .before .before .before .before .before .before .before .before .before .args in
+    due-outside (a .x) (now (a .row)) (now (a .answer)) (now (a .buffer)) (now (a .out)) (c .before .before .before .before .enum-told3 .given .1) refl (c .before .before .take-outside3 .ensures)
 
 -- src/whole.rt:210:1
 same-length-4 : tie.Need-same-length-4
@@ -84,7 +93,9 @@ same-length-4 c = search needs
 
 -- src/whole.rt:210:1
 returns-4 : tie.Need-returns-4
-returns-4 c = ?
+returns-4 c =
+    let a = c .before .before .before .before .before .before .before .before .before .before .before .args in
+    due-outside (a .x) (now (a .row)) (now (a .answer)) (now (a .buffer)) (now (a .out)) (c .before .before .before .before .enum-told4 .given .1) refl (c .before .before .take-outside4 .ensures)
 
 -- src/whole.rt:210:1
 same-length-5 : tie.Need-same-length-5
@@ -92,7 +103,9 @@ same-length-5 c = search needs
 
 -- src/whole.rt:210:1
 returns-5 : tie.Need-returns-5
-returns-5 c = ?
+returns-5 c =
+    let a = c .before .before .before .before .before .before .before .before .before .before .before .args in
+    due-outside (a .x) (now (a .row)) (now (a .answer)) (now (a .buffer)) (now (a .out)) (c .before .before .before .before .enum-told5 .given .1) refl (c .before .before .take-outside5 .ensures)
 
 -- src/whole.rt:210:1
 same-length-6 : tie.Need-same-length-6
@@ -104,7 +117,9 @@ same-length-7 c = search needs
 
 -- src/whole.rt:210:1
 returns-6 : tie.Need-returns-6
-returns-6 c = ?
+returns-6 c =
+    let a = c .before .before .before .before .before .before .before .before .before .before .before .before .before .before .args in
+    due-inside (a .x) (now (a .row)) (now (a .answer)) (now (a .buffer)) (now (a .out)) (c .before .before .before .before .before .before .before .enum-told6 .given .1) refl (c .before .before .before .before .take-inside .ensures)
 
 pub take-due-spec : {M : Type 1} → statement M
 take-due-spec =

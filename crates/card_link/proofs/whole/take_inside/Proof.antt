@@ -1,3 +1,5 @@
+use denote.Ref.{now}
+use Rattle.card_link.specs.WholeLaws.{inside-made}
 use borrow.Author.Needs.{needs}
 use Rattle.card_link.proofs.whole.take_inside.Statement.{statement}
 use Rattle.card_link.proofs.whole.take_inside.Tie as tie
@@ -24,7 +26,9 @@ same-length-2 c = search needs
 
 -- src/whole.rt:197:1
 returns : tie.Need-returns
-returns c = ?
+returns c =
+    let a = c .before .before .before .before .before .before .before .before .before .before .before .before .before .before .args in
+    inside-made (a .x) (now (a .row)) (now (a .answer)) (now (a .buffer)) (now (a .out)) (c .before .before .before .before .before .before .hear-row .result) (c .before .before .before .before .before .before .hear-row .ensures) (c .before .before .finish .ensures)
 
 pub take-inside-spec : {M : Type 1} → statement M
 take-inside-spec =

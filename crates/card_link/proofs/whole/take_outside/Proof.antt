@@ -1,3 +1,5 @@
+use denote.Ref.{now}
+use Rattle.card_link.specs.WholeLaws.{outside-made}
 use borrow.Author.Needs.{needs}
 use Rattle.card_link.proofs.whole.take_outside.Statement.{statement}
 use Rattle.card_link.proofs.whole.take_outside.Tie as tie
@@ -25,7 +27,9 @@ same-length c = search needs
 
 -- src/whole.rt:175:1
 returns : tie.Need-returns
-returns c = ?
+returns c =
+    let a = c .before .before .before .before .before .before .before .before .before .before .args in
+    outside-made (a .x) (now (a .row)) (now (a .out)) _ (c .before .before .before .before .before .take-rules .result) (c .before .link-in .result) (c .bits-in .result) (c .before .before .before .before .before .take-rules .ensures) (c .before .link-in .ensures) (c .bits-in .ensures)
 
 pub take-outside-spec : {M : Type 1} → statement M
 take-outside-spec =
