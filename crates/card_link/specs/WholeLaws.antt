@@ -1,6 +1,6 @@
 -- The whole card's calls, step by step. Assumes nothing.
 use mathlib.Core.Path.{_≡_, refl, sym, ap, ap₂, _∙_}
-use Prim.Native.Nat.{ℕ, suc, _+_, _*_, _≤_, _<_}
+use Prim.Native.Nat.{ℕ, _+_, _*_, _≤_, _<_}
 use native.Mathlib.Omega.{arith}
 use mathlib.Core.Bool.{Bool, true, false, cond, not}
 use mathlib.Core.List.{List, [], _∷_, _++_}
@@ -10,16 +10,16 @@ use borrow.Author.Tests.{lt-ltb, le-ltb}
 use Rattle.rows.specs.Rows.{overlay}
 use Rattle.rows.specs.RowLaws.{overlay-nil, overlay-next, overlay-front}
 use Rattle.crc.specs.Crc.{crcBytes, withCrc}
-use Rattle.frame.specs.Frame.{standard, Verdict, Good, Fault, readCrc}
+use Rattle.frame.specs.Frame.{standard, readCrc}
 use Rattle.frame.specs.FrameLaws.{length-standard, standard-append}
-use Rattle.frame.specs.Calls.{goodBytes, received, readAnswer, bytesAfter}
+use Rattle.frame.specs.Calls.{goodBytes, readAnswer, bytesAfter}
 use Rattle.frame.specs.CallLaws.{read-verdict, refused-verdict}
 use Rattle.frame.specs.declared.Received.{Received}
 use Rattle.frame.specs.declared.Received.the-variants.{Bytes, NotReceived}
 use Rattle.selection.specs.Selection.{size}
 use Rattle.refusal.specs.declared.Refusal.{Refusal}
 use Rattle.refusal.specs.declared.Refusal.the-variants.{Room, NotDue}
-use Rattle.card.specs.Card.{rules, takes, answers, withState}
+use Rattle.card.specs.Card.{rules, takes, answers}
 use Rattle.card.specs.Calls.{taken, answerOf}
 use Rattle.card.specs.declared.Card.{Card}
 use Rattle.card.specs.declared.CardAnswer.{CardAnswer}
@@ -29,7 +29,6 @@ use Rattle.card.specs.declared.Taken.{Taken}
 use Rattle.block.specs.declared.Block.{Block}
 use Rattle.block.specs.declared.Block.the-variants.{I, Ack, Nak, Deselect, Wtx, Unknown, Nothing}
 use Rattle.block.specs.declared.BlockBytes.{BlockBytes}
-use Rattle.block.specs.declared.Told.{Told}
 use Rattle.block.specs.declared.Told.the-variants.{Quiet}
 use Rattle.block.specs.Block.{blockBytes, bytesIn, behind}
 use Rattle.block.specs.Cut.{payloadMax, part}
@@ -110,9 +109,10 @@ unfolding withCrc crcBytes
 row-put l crc out q r n h m room e k eq er =
     let b : blockRow l ≡ standard l ++ standard crc = row-is l (omega arith) ∙ rw (← k) (standard-append l crc) in
     let c : length crc ≡ 2 = rw k in
-    let a : 9 * n ≡ 0 + length (standard l) = omega (arith, length-standard l) in
-    (rw (b, length-append) (omega (arith, length-standard l, length-standard crc)),
-     er ∙ rw (b, eq, a) (overlay-next out 0 (standard l) (standard crc) (omega (arith, length-standard l, length-standard crc))))
+    let a : 9 * n ≡ 0 + length (standard l) = omega (arith, length-standard l) in (
+      rw (b, length-append) (omega (arith, length-standard l, length-standard crc)),
+      er ∙ rw (b, eq, a) (overlay-next out 0 (standard l) (standard crc) (omega (arith, length-standard l, length-standard crc))),
+    )
 
 -- the bytes of a block, and how many there are at most
 made-row : (b : BlockBytes) (l : List ℕ) → b ≡ bytesIn l → take (b .count) (b .bytes) ≡ l
@@ -140,7 +140,7 @@ pub finished : (card : Card) (s : CardStep) (m out out′ : List ℕ) (b : Block
     → b ≡ bytesIn (blockBytes (s .send) (part (s .link .reader) (s .link .at) m)) → k ≡ leftBy (s .told) card (s .link)
     → (bits ≡ length (blockRow (take (b .count) (b .bytes)))) × (out′ ≡ overlay out 0 (blockRow (take (b .count) (b .bytes))))
     → (_≡_ {A = CardTurn} (record { card = k; bits = bits; told = s .told }) (turnOf (withRow card (cardOut s m [] 0 []))))
-      × (out′ ≡ overlay out 0 (withRow card (cardOut s m [] 0 []) .sent))
+    × (out′ ≡ overlay out 0 (withRow card (cardOut s m [] 0 []) .sent))
 unfolding cardOut
 finished card s m out out′ b k bits eb ek h =
     let t = made-row b (blockBytes (s .send) (part (s .link .reader) (s .link .at) m)) eb in
@@ -167,7 +167,7 @@ pub outside-made : (x : LinkCard) (f out out′ : List ℕ) (t : Taken) (l : Car
     → (t ≡ taken (x .card) (rules (x .card) (x .card .state) f)) × (out′ ≡ overlay out 0 (rules (x .card) (x .card .state) f .1))
     → l ≡ linkIn (x .card) (t .card .state) → n ≡ bitsIn (t .answer)
     → (_≡_ {A = CardTurn} (record { card = record { card = t .card; link = l }; bits = n; told = Quiet }) (turnOf (takesOutside x f [])))
-      × (out′ ≡ overlay out 0 (takesOutside x f [] .sent))
+    × (out′ ≡ overlay out 0 (takesOutside x f [] .sent))
 unfolding takesOutside takes answers
 outside-made x f out out′ t l n et el en =
     let k : Card = takes (x .card) f in
@@ -178,7 +178,7 @@ outside-made x f out out′ t l n et el en =
 
 pub inside-made : (x : LinkCard) (f m buffer out : List ℕ) (s : CardStep) {r : CardTurn} {b′ out′ : List ℕ}
     → (s ≡ cardHears (x .link) (goodBytes (heardRow (x .link .own) f)) (length buffer) (length m))
-      × (b′ ≡ cond (s .joins) (overlay buffer (x .link .joined) (behind (goodBytes (heardRow (x .link .own) f)))) buffer)
+    × (b′ ≡ cond (s .joins) (overlay buffer (x .link .joined) (behind (goodBytes (heardRow (x .link .own) f)))) buffer)
     → (r ≡ turnOf (withRow (x .card) (cardOut s m [] 0 []))) × (out′ ≡ overlay out 0 (withRow (x .card) (cardOut s m [] 0 []) .sent))
     → (r ≡ turnOf (takesInside x f m buffer)) × ((b′ ≡ takesInside x f m buffer .buffer) × (out′ ≡ overlay out 0 (takesInside x f m buffer .sent)))
 unfolding takesInside cardOut
@@ -193,14 +193,14 @@ module _ (x : LinkCard) (f m buffer out : List ℕ) {s : CardState} {r : CardTur
   pub due-outside : takesIn s x f m buffer ≡ takesOutside x f buffer
       → (r ≡ turnOf (takesOutside x f [])) × (out′ ≡ overlay out 0 (takesOutside x f [] .sent))
       → (r ≡ turnOf (takesIn (x .card .state) x f m buffer)) × ((buffer ≡ takesIn (x .card .state) x f m buffer .buffer)
-        × (out′ ≡ overlay out 0 (takesIn (x .card .state) x f m buffer .sent)))
+      × (out′ ≡ overlay out 0 (takesIn (x .card .state) x f m buffer .sent)))
   unfolding takesOutside
   due-outside k h = three out (sym (ap (λ s. takesIn s x f m buffer) e ∙ k)) (h .0, (refl, h .1))
 
   pub due-inside : {b′ : List ℕ} → takesIn s x f m buffer ≡ takesInside x f m buffer
       → (r ≡ turnOf (takesInside x f m buffer)) × ((b′ ≡ takesInside x f m buffer .buffer) × (out′ ≡ overlay out 0 (takesInside x f m buffer .sent)))
       → (r ≡ turnOf (takesIn (x .card .state) x f m buffer)) × ((b′ ≡ takesIn (x .card .state) x f m buffer .buffer)
-        × (out′ ≡ overlay out 0 (takesIn (x .card .state) x f m buffer .sent)))
+      × (out′ ≡ overlay out 0 (takesIn (x .card .state) x f m buffer .sent)))
   due-inside k h = three out (sym (ap (λ s. takesIn s x f m buffer) e ∙ k)) h
 
 -- ---- a call
@@ -235,20 +235,20 @@ module _ (due : Bool) (x : LinkCard) (o : Out LinkCard) (out : List ℕ) {r : Ca
 module _ (x : LinkCard) (f m buffer out : List ℕ) {r : CardTurn} where
   pub take-not-due : owing x ≡ true → r ≡ turnOf (declined x [] NotDue)
       → (r ≡ turnOf (takeCall x f m buffer (length out))) × ((buffer ≡ takeCall x f m buffer (length out) .buffer)
-        × (out ≡ overlay out 0 (takeCall x f m buffer (length out) .sent)))
+      × (out ≡ overlay out 0 (takeCall x f m buffer (length out) .sent)))
   unfolding takeCall
   take-not-due w h = three out (sym (call-not-due (not (owing x)) x buffer (length out) _ (rw w))) (h, (refl, sym (overlay-nil out 0)))
 
   pub take-room : owing x ≡ false → length out < 2304 → r ≡ turnOf (declined x [] Room)
       → (r ≡ turnOf (takeCall x f m buffer (length out))) × ((buffer ≡ takeCall x f m buffer (length out) .buffer)
-        × (out ≡ overlay out 0 (takeCall x f m buffer (length out) .sent)))
+      × (out ≡ overlay out 0 (takeCall x f m buffer (length out) .sent)))
   unfolding takeCall
   take-room w n h = three out (sym (call-room (not (owing x)) x buffer (length out) _ (rw w) n)) (h, (refl, sym (overlay-nil out 0)))
 
   pub take-due : {b′ out′ : List ℕ} → owing x ≡ false → 2304 ≤ length out
       → (r ≡ turnOf (takesIn (x .card .state) x f m buffer)) × ((b′ ≡ takesIn (x .card .state) x f m buffer .buffer)
-        × (out′ ≡ overlay out 0 (takesIn (x .card .state) x f m buffer .sent)))
+      × (out′ ≡ overlay out 0 (takesIn (x .card .state) x f m buffer .sent)))
       → (r ≡ turnOf (takeCall x f m buffer (length out))) × ((b′ ≡ takeCall x f m buffer (length out) .buffer)
-        × (out′ ≡ overlay out 0 (takeCall x f m buffer (length out) .sent)))
+      × (out′ ≡ overlay out 0 (takeCall x f m buffer (length out) .sent)))
   unfolding takeCall
   take-due w n h = three out (sym (call-due (not (owing x)) x buffer (length out) _ (rw w) n)) h

@@ -8,9 +8,9 @@ ghost use Rattle.frame.specs.Calls.{goodBytes};
 ghost use Rattle.block.specs.Block.{behind};
 ghost use Rattle.block.specs.Row.{blockRow, heardRow};
 ghost use Rattle.card_link.specs.CardFrames.{cardHears};
-use block::BlockBytes;
 use crate::CardLink;
 use crate::CardStep;
+use block::BlockBytes;
 use frame::Received;
 
 // Reads a row to the front of lent bytes as an end of this size index takes it; silence and a damaged frame have no bytes.

@@ -8,14 +8,14 @@ ghost use Rattle.card.specs.Calls.{newCard};
 ghost use Rattle.card_link.specs.CardFrames.{cardOut};
 ghost use Rattle.card_link.specs.CardCalls.{noLink, linkIn, leftBy, withRow, takesOutside, takesInside, takesIn, owing, declined, takeCall, replyCall, askCall, poweredOn, poweredOff, turnOf};
 ghost use Rattle.card_link.specs.WholeLaws.{bitsIn};
-use block::Told;
-use card::Card;
-use card::CardAnswer;
-use card::CardState;
 use crate::CardLink;
 use crate::CardStep;
 use crate::CardTurn;
 use crate::LinkCard;
+use block::Told;
+use card::Card;
+use card::CardAnswer;
+use card::CardState;
 use refusal::Refusal;
 use uid::Made;
 
@@ -36,10 +36,7 @@ pub fn new_card(bytes: &[u8], blocks: bool, index: u8) -> NewLinkCard
     let made = new.made;
     let link = crate::open(0, 0);
     NewLinkCard {
-        card: LinkCard {
-            card,
-            link,
-        },
+        card: LinkCard { card, link },
         made,
     }
 }
@@ -51,10 +48,7 @@ pub fn power_on(x: LinkCard) -> LinkCard
     let card = x.card;
     let link = x.link;
     let on = card::power_on(card);
-    LinkCard {
-        card: on,
-        link,
-    }
+    LinkCard { card: on, link }
 }
 
 // Power is lost: Off from anywhere, and no link.
@@ -64,10 +58,7 @@ pub fn power_off(x: LinkCard) -> LinkCard
     let card = x.card;
     let off = card::power_off(card);
     let link = crate::open(0, 0);
-    LinkCard {
-        card: off,
-        link,
-    }
+    LinkCard { card: off, link }
 }
 
 fn is_owing(x: LinkCard) -> bool
@@ -134,10 +125,7 @@ fn halted(c: Card) -> LinkCard
         state: CardState::Halt,
     };
     let link = crate::open(0, 0);
-    LinkCard {
-        card,
-        link,
-    }
+    LinkCard { card, link }
 }
 
 // The card by the link's news: DESELECT leads to Halt.
@@ -184,17 +172,20 @@ fn take_outside(x: LinkCard, row: &[u8], out: &mut [u8]) -> CardTurn
     let s = card.state;
     let link = link_in(old, s);
     CardTurn {
-        card: LinkCard {
-            card,
-            link,
-        },
+        card: LinkCard { card, link },
         bits: bits_in(answer),
         told: Told::Quiet,
     }
 }
 
 // .. in Protocol.
-fn take_inside(x: LinkCard, row: &[u8], answer: &[u8], buffer: &mut [u8], out: &mut [u8]) -> CardTurn
+fn take_inside(
+    x: LinkCard,
+    row: &[u8],
+    answer: &[u8],
+    buffer: &mut [u8],
+    out: &mut [u8],
+) -> CardTurn
     requires { ⌜ 2304 ≤ length (now out) ⌝ }
     ensures { λ r. ⌜ r ≡ turnOf (takesInside x (now (row .entry)) (now (answer .entry)) (now (buffer .entry))) ⌝ }
     ensures { λ _. ⌜ now (buffer .exit) ≡ takesInside x (now (row .entry)) (now (answer .entry)) (now (buffer .entry)) .buffer ⌝ }

@@ -1,3 +1,4 @@
+-- `card_link::air::read_row` meets its contract, by that of `read_crc_within`. Assumes nothing.
 use denote.Ref.{now}
 use native.Mathlib.Omega.{arith}
 use lib.ListN.{length}
@@ -6,42 +7,30 @@ use Rattle.card_link.specs.WholeLaws.{row-none, row-some}
 use borrow.Author.Needs.{needs}
 use Rattle.card_link.proofs.air.read_row.Statement.{statement}
 use Rattle.card_link.proofs.air.read_row.Tie as tie
-use Rattle.card_link.proofs.air.read_row.Reads as reads
-use Rattle.card_link.proofs.air.read_row.Lts as lts
-use Rattle.block.proofs.size_of.Reads as size-of-reads
-use Rattle.frame.proofs.within.read_crc_within.Reads as read-crc-within-reads
 
--- src/air.rt:22:9
 size-of-requires : tie.Need-size-of-requires
 size-of-requires c κs = search needs
 
--- src/air.rt:23:9
 read-crc-within-requires : tie.Need-read-crc-within-requires
 read-crc-within-requires c κs = omega (arith, c .before .size-of .ensures, size-most (c .before .before .before .before .args .own))
 
--- src/air.rt:25:37
 enum-told : tie.Need-enum-told
 enum-told c = search needs
 
--- src/air.rt:26:25
 enum-known-got : tie.Need-enum-known-got
 enum-known-got c = search needs
 
--- src/air.rt:17:1
 same-length : tie.Need-same-length
 same-length c = search needs
 
--- src/air.rt:17:1
 returns : tie.Need-returns
 returns c =
     let a = c .before .before .before .before .before .before .before .before .before .args in
     row-none (a .own) (c .before .before .before .before .before .before .size-of .result) (length (now (a .out))) (now (a .row)) (now (a .out)) _ _ (c .before .before .before .before .before .before .size-of .ensures) (c .before .before .before .before .before .before .before .before .before .pre) (c .before .before .before .before .read-crc-within .ensures .0) (c .before .before .before .before .read-crc-within .ensures .1) _ (c .enum-told .given .1)
 
--- src/air.rt:17:1
 same-length-2 : tie.Need-same-length-2
 same-length-2 c = search needs
 
--- src/air.rt:17:1
 returns-2 : tie.Need-returns-2
 returns-2 c =
     let a = c .before .before .before .before .before .before .before .before .before .before .args in

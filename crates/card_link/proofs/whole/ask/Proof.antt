@@ -1,3 +1,4 @@
+-- `card_link::whole::ask` meets its contract, by those of `asks` and `finish`. Assumes nothing.
 use mathlib.Core.Path.{sym, ap, _∙_}
 use mathlib.Core.List.{[]}
 use denote.Ref.{now}
@@ -8,56 +9,40 @@ use Rattle.card_link.specs.WholeLaws.{two, two-not-due, two-room, two-du
 use borrow.Author.Needs.{needs}
 use Rattle.card_link.proofs.whole.ask.Statement.{statement}
 use Rattle.card_link.proofs.whole.ask.Tie as tie
-use Rattle.card_link.proofs.whole.ask.Reads as reads
-use Rattle.card_link.proofs.whole.ask.Lts as lts
-use Rattle.card_link.proofs.asks.Reads as asks-reads
-use Rattle.card_link.proofs.whole.declines.Reads as declines-reads
-use Rattle.card_link.proofs.whole.finish.Reads as finish-reads
-use Rattle.card_link.proofs.whole.is_owing.Reads as is-owing-reads
 
--- src/whole.rt:266:9
 is-owing-requires : tie.Need-is-owing-requires
 is-owing-requires c κs = search needs
 
--- src/whole.rt:267:9
 declines-requires : tie.Need-declines-requires
 declines-requires c κs = search needs
 
--- src/whole.rt:267:9
 returns : tie.Need-returns
 unfolding askCall
 returns c =
     let a = c .before .before .before .before .args in
     two-not-due (owing (a .x)) (a .x) _ (now (a .out)) (sym (c .before .before .is-owing .ensures) ∙ not-true _ (c .before .if1 .taken)) (c .declines .ensures)
 
--- src/whole.rt:270:9
 declines-requires-2 : tie.Need-declines-requires-2
 declines-requires-2 c κs = search needs
 
--- src/whole.rt:270:9
 returns-2 : tie.Need-returns-2
 unfolding askCall
 returns-2 c =
     let a = c .before .before .before .before .before .args in
     two-room (owing (a .x)) (a .x) _ (now (a .out)) (sym (c .before .before .before .is-owing .ensures) ∙ not-false _ (c .before .before .if1 .left)) (c .before .if2 .taken) (c .declines2 .ensures)
 
--- src/whole.rt:274:9
 asks-requires : tie.Need-asks-requires
 asks-requires c κs = search needs
 
--- src/whole.rt:276:24
 slice-aggregate-finish : tie.Need-slice-aggregate-finish
 slice-aggregate-finish c = search needs
 
--- src/whole.rt:276:5
 finish-requires : tie.Need-finish-requires
 finish-requires c κs = search needs
 
--- src/whole.rt:262:1
 same-length : tie.Need-same-length
 same-length c = search needs
 
--- src/whole.rt:262:1
 returns-3 : tie.Need-returns-3
 unfolding askCall cardWtx
 returns-3 c =

@@ -1,79 +1,58 @@
 use borrow.Author.Needs.{needs}
 use Rattle.card_link.proofs.whole.link_in.Statement.{statement}
 use Rattle.card_link.proofs.whole.link_in.Tie as tie
-use Rattle.card_link.proofs.whole.link_in.Reads as reads
-use Rattle.card_link.proofs.whole.link_in.Lts as lts
-use Rattle.card_link.proofs.open.Reads as open-reads
 
--- src/whole.rt:106:27
 enum-told : tie.Need-enum-told
 enum-told c = search needs
 
--- src/whole.rt:106:27
 open-requires : tie.Need-open-requires
 open-requires c κs = search needs
 
--- src/whole.rt:107:28
 enum-told-2 : tie.Need-enum-told-2
 enum-told-2 c = search needs
 
--- src/whole.rt:107:28
 open-requires-2 : tie.Need-open-requires-2
 open-requires-2 c κs = search needs
 
--- src/whole.rt:108:32
 enum-told-3 : tie.Need-enum-told-3
 enum-told-3 c = search needs
 
--- src/whole.rt:108:32
 open-requires-3 : tie.Need-open-requires-3
 open-requires-3 c κs = search needs
 
--- src/whole.rt:109:30
 enum-told-4 : tie.Need-enum-told-4
 enum-told-4 c = search needs
 
--- src/whole.rt:109:30
 open-requires-4 : tie.Need-open-requires-4
 open-requires-4 c κs = search needs
 
--- src/whole.rt:110:28
 enum-told-5 : tie.Need-enum-told-5
 enum-told-5 c = search needs
 
--- src/whole.rt:110:28
 open-requires-5 : tie.Need-open-requires-5
 open-requires-5 c κs = search needs
 
--- src/whole.rt:111:29
 enum-known-s : tie.Need-enum-known-s
 enum-known-s c = search needs
 
--- src/whole.rt:111:35
 open-requires-6 : tie.Need-open-requires-6
 open-requires-6 c κs = search needs
 
--- src/whole.rt:102:1
 returns : tie.Need-returns
 returns c = rw (c .open .ensures, c .before .enum-told .given .1)
 
--- src/whole.rt:102:1
 returns-2 : tie.Need-returns-2
 returns-2 c = rw (c .open2 .ensures, c .before .enum-told2 .given .1)
 
--- src/whole.rt:102:1
 returns-3 : tie.Need-returns-3
 returns-3 c = rw (c .open3 .ensures, c .before .enum-told3 .given .1)
 
--- src/whole.rt:102:1
 returns-4 : tie.Need-returns-4
 returns-4 c = rw (c .open4 .ensures, c .before .enum-told4 .given .1)
 
--- src/whole.rt:102:1
 returns-5 : tie.Need-returns-5
 returns-5 c = rw (c .open5 .ensures, c .before .enum-told5 .given .1)
 
--- src/whole.rt:102:1
 returns-6 : tie.Need-returns-6
 returns-6 c = rw (c .open6 .ensures, c .before .before .s .given .1)
 

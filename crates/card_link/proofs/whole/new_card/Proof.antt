@@ -2,20 +2,13 @@ use mathlib.Core.Path.{ap}
 use borrow.Author.Needs.{needs}
 use Rattle.card_link.proofs.whole.new_card.Statement.{statement}
 use Rattle.card_link.proofs.whole.new_card.Tie as tie
-use Rattle.card_link.proofs.whole.new_card.Reads as reads
-use Rattle.card_link.proofs.whole.new_card.Lts as lts
-use Rattle.card.proofs.new_card.Reads as new-card-reads
-use Rattle.card_link.proofs.open.Reads as open-reads
 
--- src/whole.rt:34:9
 new-card-requires : tie.Need-new-card-requires
 new-card-requires c κs = search needs
 
--- src/whole.rt:37:9
 open-requires : tie.Need-open-requires
 open-requires c κs = search needs
 
--- src/whole.rt:29:1
 returns : tie.Need-returns
 returns c = (ap (λ n. n .card) (c .before .before .new-card .ensures), (c .open .ensures, ap (λ n. n .made) (c .before .before .new-card .ensures)))
 

@@ -2,20 +2,13 @@ use mathlib.Core.Path.{ap₂}
 use borrow.Author.Needs.{needs}
 use Rattle.card_link.proofs.whole.power_off.Statement.{statement}
 use Rattle.card_link.proofs.whole.power_off.Tie as tie
-use Rattle.card_link.proofs.whole.power_off.Reads as reads
-use Rattle.card_link.proofs.whole.power_off.Lts as lts
-use Rattle.card.proofs.power_off.Reads as power-off-reads
-use Rattle.card_link.proofs.open.Reads as open-reads
 
--- src/whole.rt:65:9
 power-off-requires : tie.Need-power-off-requires
 power-off-requires c κs = search needs
 
--- src/whole.rt:66:9
 open-requires : tie.Need-open-requires
 open-requires c κs = search needs
 
--- src/whole.rt:61:1
 returns : tie.Need-returns
 returns c = ap₂ (λ c l. record { card = c; link = l }) (c .before .power-off .ensures) (c .open .ensures)
 

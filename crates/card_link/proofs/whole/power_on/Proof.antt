@@ -2,15 +2,10 @@ use mathlib.Core.Path.{ap}
 use borrow.Author.Needs.{needs}
 use Rattle.card_link.proofs.whole.power_on.Statement.{statement}
 use Rattle.card_link.proofs.whole.power_on.Tie as tie
-use Rattle.card_link.proofs.whole.power_on.Reads as reads
-use Rattle.card_link.proofs.whole.power_on.Lts as lts
-use Rattle.card.proofs.power_on.Reads as power-on-reads
 
--- src/whole.rt:53:9
 power-on-requires : tie.Need-power-on-requires
 power-on-requires c κs = search needs
 
--- src/whole.rt:48:1
 returns : tie.Need-returns
 returns c = ap (λ k. record { card = k; link = c .before .before .before .args .x .link }) (c .power-on .ensures)
 

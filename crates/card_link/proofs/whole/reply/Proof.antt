@@ -1,60 +1,45 @@
+-- `card_link::whole::reply` meets its contract, by those of `replies` and `finish`. Assumes nothing.
 use mathlib.Core.Path.{sym, ap, _∙_}
 use mathlib.Core.List.{[]}
 use denote.Ref.{now}
 use borrow.Author.Tests.{not-true, not-false}
-use lib.ListN.{length}
 use Rattle.card_link.specs.CardFrames.{cardOut, cardReply}
 use Rattle.card_link.specs.CardCalls.{withRow, owing, replyCall}
 use Rattle.card_link.specs.WholeLaws.{two, two-not-due, two-room, two-due}
 use borrow.Author.Needs.{needs}
 use Rattle.card_link.proofs.whole.reply.Statement.{statement}
 use Rattle.card_link.proofs.whole.reply.Tie as tie
-use Rattle.card_link.proofs.whole.reply.Reads as reads
-use Rattle.card_link.proofs.whole.reply.Lts as lts
-use Rattle.card_link.proofs.replies.Reads as replies-reads
-use Rattle.card_link.proofs.whole.declines.Reads as declines-reads
-use Rattle.card_link.proofs.whole.finish.Reads as finish-reads
-use Rattle.card_link.proofs.whole.is_owing.Reads as is-owing-reads
 
--- src/whole.rt:249:9
 is-owing-requires : tie.Need-is-owing-requires
 is-owing-requires c κs = search needs
 
--- src/whole.rt:250:9
 declines-requires : tie.Need-declines-requires
 declines-requires c κs = search needs
 
--- src/whole.rt:250:9
 returns : tie.Need-returns
 unfolding replyCall
 returns c =
     let a = c .before .before .before .before .before .args in
     two-not-due (owing (a .x)) (a .x) _ (now (a .out)) (sym (c .before .before .is-owing .ensures) ∙ not-true _ (c .before .if1 .taken)) (c .declines .ensures)
 
--- src/whole.rt:253:9
 declines-requires-2 : tie.Need-declines-requires-2
 declines-requires-2 c κs = search needs
 
--- src/whole.rt:253:9
 returns-2 : tie.Need-returns-2
 unfolding replyCall
 returns-2 c =
     let a = c .before .before .before .before .before .before .args in
     two-room (owing (a .x)) (a .x) _ (now (a .out)) (sym (c .before .before .before .is-owing .ensures) ∙ not-false _ (c .before .before .if1 .left)) (c .before .if2 .taken) (c .declines2 .ensures)
 
--- src/whole.rt:257:9
 replies-requires : tie.Need-replies-requires
 replies-requires c κs = search needs
 
--- src/whole.rt:258:5
 finish-requires : tie.Need-finish-requires
 finish-requires c κs = search needs
 
--- src/whole.rt:245:1
 same-length : tie.Need-same-length
 same-length c = search needs
 
--- src/whole.rt:245:1
 returns-3 : tie.Need-returns-3
 unfolding replyCall cardReply
 returns-3 c =

@@ -1,52 +1,39 @@
+-- `card_link::whole::take` meets its contract, by that of `take_due`. Assumes nothing.
 use mathlib.Core.Path.{sym, _∙_}
 use denote.Ref.{now}
 use Rattle.card_link.specs.WholeLaws.{take-not-due, take-room, take-due}
 use borrow.Author.Needs.{needs}
 use Rattle.card_link.proofs.whole.take.Statement.{statement}
 use Rattle.card_link.proofs.whole.take.Tie as tie
-use Rattle.card_link.proofs.whole.take.Reads as reads
-use Rattle.card_link.proofs.whole.take.Lts as lts
-use Rattle.card_link.proofs.whole.declines.Reads as declines-reads
-use Rattle.card_link.proofs.whole.is_owing.Reads as is-owing-reads
-use Rattle.card_link.proofs.whole.take_due.Reads as take-due-reads
 
--- src/whole.rt:235:8
 is-owing-requires : tie.Need-is-owing-requires
 is-owing-requires c κs = search needs
 
--- src/whole.rt:236:9
 declines-requires : tie.Need-declines-requires
 declines-requires c κs = search needs
 
--- src/whole.rt:236:9
 returns : tie.Need-returns
 returns c =
     let a = c .before .before .before .before .before .before .before .args in
     take-not-due (a .x) (now (a .row)) (now (a .answer)) (now (a .buffer)) (now (a .out)) (sym (c .before .before .is-owing .ensures) ∙ c .before .if1 .taken) (c .declines .ensures)
 
--- src/whole.rt:239:9
 declines-requires-2 : tie.Need-declines-requires-2
 declines-requires-2 c κs = search needs
 
--- src/whole.rt:239:9
 returns-2 : tie.Need-returns-2
 returns-2 c =
     let a = c .before .before .before .before .before .before .before .before .args in
     take-room (a .x) (now (a .row)) (now (a .answer)) (now (a .buffer)) (now (a .out)) (sym (c .before .before .before .is-owing .ensures) ∙ c .before .before .if1 .left) (c .before .if2 .taken) (c .declines2 .ensures)
 
--- src/whole.rt:241:5
 take-due-requires : tie.Need-take-due-requires
 take-due-requires c κs = search needs
 
--- src/whole.rt:230:1
 same-length : tie.Need-same-length
 same-length c = search needs
 
--- src/whole.rt:230:1
 same-length-2 : tie.Need-same-length-2
 same-length-2 c = search needs
 
--- src/whole.rt:230:1
 returns-3 : tie.Need-returns-3
 returns-3 c =
     let a = c .before .before .before .before .before .before .before .before .before .before .before .before .before .before .args in

@@ -1,121 +1,93 @@
+-- `card_link::whole::take_due` meets its contract, state by state. Assumes nothing.
 use mathlib.Core.Path.{refl}
 use denote.Ref.{now}
 use Rattle.card_link.specs.WholeLaws.{due-outside, due-inside}
 use borrow.Author.Needs.{needs}
 use Rattle.card_link.proofs.whole.take_due.Statement.{statement}
 use Rattle.card_link.proofs.whole.take_due.Tie as tie
-use Rattle.card_link.proofs.whole.take_due.Reads as reads
-use Rattle.card_link.proofs.whole.take_due.Lts as lts
-use Rattle.card_link.proofs.whole.take_inside.Reads as take-inside-reads
-use Rattle.card_link.proofs.whole.take_outside.Reads as take-outside-reads
 
--- src/whole.rt:219:48
 enum-told : tie.Need-enum-told
 enum-told c = search needs
 
--- src/whole.rt:219:27
 take-outside-requires : tie.Need-take-outside-requires
 take-outside-requires c κs = search needs
 
--- src/whole.rt:220:49
 enum-told-2 : tie.Need-enum-told-2
 enum-told-2 c = search needs
 
--- src/whole.rt:220:28
 take-outside-requires-2 : tie.Need-take-outside-requires-2
 take-outside-requires-2 c κs = search needs
 
--- src/whole.rt:221:53
 enum-told-3 : tie.Need-enum-told-3
 enum-told-3 c = search needs
 
--- src/whole.rt:221:32
 take-outside-requires-3 : tie.Need-take-outside-requires-3
 take-outside-requires-3 c κs = search needs
 
--- src/whole.rt:222:51
 enum-told-4 : tie.Need-enum-told-4
 enum-told-4 c = search needs
 
--- src/whole.rt:222:30
 take-outside-requires-4 : tie.Need-take-outside-requires-4
 take-outside-requires-4 c κs = search needs
 
--- src/whole.rt:223:49
 enum-told-5 : tie.Need-enum-told-5
 enum-told-5 c = search needs
 
--- src/whole.rt:223:28
 take-outside-requires-5 : tie.Need-take-outside-requires-5
 take-outside-requires-5 c κs = search needs
 
--- src/whole.rt:224:63
 enum-told-6 : tie.Need-enum-told-6
 enum-told-6 c = search needs
 
--- src/whole.rt:224:35
 take-inside-requires : tie.Need-take-inside-requires
 take-inside-requires c κs = search needs
 
--- src/whole.rt:210:1
 same-length : tie.Need-same-length
 same-length c = search needs
 
--- src/whole.rt:210:1
 returns : tie.Need-returns
 returns c =
     let a = c .before .before .before .before .before .before .before .before .before .before .before .args in
     due-outside (a .x) (now (a .row)) (now (a .answer)) (now (a .buffer)) (now (a .out)) (c .before .before .before .before .enum-told .given .1) refl (c .before .before .take-outside .ensures)
 
--- src/whole.rt:210:1
 same-length-2 : tie.Need-same-length-2
 same-length-2 c = search needs
 
--- src/whole.rt:210:1
 returns-2 : tie.Need-returns-2
 returns-2 c =
     let a = c .before .before .before .before .before .before .before .before .before .before .before .args in
     due-outside (a .x) (now (a .row)) (now (a .answer)) (now (a .buffer)) (now (a .out)) (c .before .before .before .before .enum-told2 .given .1) refl (c .before .before .take-outside2 .ensures)
 
--- src/whole.rt:210:1
 same-length-3 : tie.Need-same-length-3
 same-length-3 c = search needs
 
--- src/whole.rt:210:1
 returns-3 : tie.Need-returns-3
 returns-3 c =
     let a = c .before .before .before .before .before .before .before .before .before .before .before .args in
     due-outside (a .x) (now (a .row)) (now (a .answer)) (now (a .buffer)) (now (a .out)) (c .before .before .before .before .enum-told3 .given .1) refl (c .before .before .take-outside3 .ensures)
 
--- src/whole.rt:210:1
 same-length-4 : tie.Need-same-length-4
 same-length-4 c = search needs
 
--- src/whole.rt:210:1
 returns-4 : tie.Need-returns-4
 returns-4 c =
     let a = c .before .before .before .before .before .before .before .before .before .before .before .args in
     due-outside (a .x) (now (a .row)) (now (a .answer)) (now (a .buffer)) (now (a .out)) (c .before .before .before .before .enum-told4 .given .1) refl (c .before .before .take-outside4 .ensures)
 
--- src/whole.rt:210:1
 same-length-5 : tie.Need-same-length-5
 same-length-5 c = search needs
 
--- src/whole.rt:210:1
 returns-5 : tie.Need-returns-5
 returns-5 c =
     let a = c .before .before .before .before .before .before .before .before .before .before .before .args in
     due-outside (a .x) (now (a .row)) (now (a .answer)) (now (a .buffer)) (now (a .out)) (c .before .before .before .before .enum-told5 .given .1) refl (c .before .before .take-outside5 .ensures)
 
--- src/whole.rt:210:1
 same-length-6 : tie.Need-same-length-6
 same-length-6 c = search needs
 
--- src/whole.rt:210:1
 same-length-7 : tie.Need-same-length-7
 same-length-7 c = search needs
 
--- src/whole.rt:210:1
 returns-6 : tie.Need-returns-6
 returns-6 c =
     let a = c .before .before .before .before .before .before .before .before .before .before .before .before .before .before .args in

@@ -1,30 +1,22 @@
+-- `card_link::whole::take_inside` meets its contract, by those of `hear_row` and `finish`. Assumes nothing.
 use denote.Ref.{now}
 use Rattle.card_link.specs.WholeLaws.{inside-made}
 use borrow.Author.Needs.{needs}
 use Rattle.card_link.proofs.whole.take_inside.Statement.{statement}
 use Rattle.card_link.proofs.whole.take_inside.Tie as tie
-use Rattle.card_link.proofs.whole.take_inside.Reads as reads
-use Rattle.card_link.proofs.whole.take_inside.Lts as lts
-use Rattle.card_link.proofs.air.hear_row.Reads as hear-row-reads
-use Rattle.card_link.proofs.whole.finish.Reads as finish-reads
 
--- src/whole.rt:205:9
 hear-row-requires : tie.Need-hear-row-requires
 hear-row-requires c κs = search needs
 
--- src/whole.rt:206:5
 finish-requires : tie.Need-finish-requires
 finish-requires c κs = search needs
 
--- src/whole.rt:197:1
 same-length : tie.Need-same-length
 same-length c = search needs
 
--- src/whole.rt:197:1
 same-length-2 : tie.Need-same-length-2
 same-length-2 c = search needs
 
--- src/whole.rt:197:1
 returns : tie.Need-returns
 returns c =
     let a = c .before .before .before .before .before .before .before .before .before .before .before .before .before .before .args in
