@@ -15,7 +15,9 @@ pub mod within;
 
 // "over 16 cards" is 6; "The sweep asks for 8,192 bytes of log and 176 of list".
 pub const MOST_CARDS: usize = 16;
+
 pub const LOG_ROOM: usize = 8192;
+
 pub const LIST_ROOM: usize = 176;
 
 // After a sweep: the reader and its last answer, Finishes or why the sweep was declined; the cards; how many frames the reader sent, how many
