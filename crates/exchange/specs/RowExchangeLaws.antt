@@ -1,5 +1,4 @@
--- The exchange on rows is the exchange on bytes. Assumes that a frame with CRC_A which is not too long reads back as the bytes that were
--- sent.
+-- The exchange on rows is the exchange on bytes, since a frame with CRC_A which is not too long reads back as the bytes that were sent.
 use mathlib.Core.Path.{_≡_, refl, sym, ap, _∙_}
 use mathlib.Core.Bool.{Bool, true, false, cond, not, false≢true}
 use mathlib.Core.List.{List, [], _∷_, _++_, map}
@@ -10,6 +9,7 @@ use lib.Dec.{leb, ltb}
 use borrow.Author.Tests.{le-leb}
 use Rattle.rows.specs.Rows.{Bytes, overlay}
 use Rattle.crc.specs.Crc.{withCrc}
+use Rattle.frame.specs.FrameLaws.{read-crc-standard}
 use Rattle.frame.specs.Frame.{standard, readCrc, Verdict, Good}
 use Rattle.card.specs.declared.Card.{Card}
 use Rattle.card.specs.declared.CardState.the-variants.{Protocol}
@@ -173,15 +173,14 @@ send-out : (k : ReaderLink) (m up : List ℕ)
 unfolding readerSend readerOut
 send-out k m up = rw (starts-join k (length m))
 
-module _ (back : (most : ℕ) (l : List ℕ) → Bytes l → 1 ≤ length l → length l + 2 ≤ most → readCrc 3 most (standard (withCrc l)) ≡ Good l)
-    (c : Card) (i : ℕ) (s : c .state ≡ Protocol i) (r : Reader) (room : ℕ) (h : rowRoom ≤ room) (m a : List ℕ) (hm : Bytes m) (ha : Bytes a) where
+module _ (c : Card) (i : ℕ) (s : c .state ≡ Protocol i) (r : Reader) (room : ℕ) (h : rowRoom ≤ room) (m a : List ℕ) (hm : Bytes m) (ha : Bytes a) where
   -- what the card does with the row of a fine block, and with its host's answer
   card-takes : (e : Ends) (b : Block) (p : List ℕ) (v : Out CardLink) → Fine b → Bytes p → FineOut v
       → cardBlock (e .card) (verdict (e .card .own) (blockBytes b p)) (e .lent) (e .down) ≡ v
       → takeCall (record { card = c; link = e .card }) (blockRow (blockBytes b p)) (e .lent) (e .down) room
       ≡ record { link = record { card = c; link = v .link }; sent = blockRow (v .sent); told = v .told; buffer = v .buffer }
   card-takes e b p v f hp x ev =
-      take-block (record { card = c; link = e .card }) i room s h back (blockBytes b p) (e .lent) (e .down) (fine-bytes b p f hp)
+      take-block (record { card = c; link = e .card }) i room s h read-crc-standard (blockBytes b p) (e .lent) (e .down) (fine-bytes b p f hp)
       ∙ rw (ev, left-stays (v .told) c (v .link) (x .stays))
 
   card-replies : (k : CardLink) → owes (k .phase) ≡ true → FineOut (cardReply k a [])
@@ -197,7 +196,7 @@ module _ (back : (most : ℕ) (l : List ℕ) → Bytes l → 1 ≤ length l → 
   unfolding linking
   reader-hears e f hf t o eo =
       rw (linked-talks r (e .reader .phase) (e .reader) t, ← eo)
-      (hear-block (record { reader = r; link = Linked (e .reader) }) (e .reader) room refl h back f m (e .up) hf (talks-awaits (e .reader .phase) t))
+      (hear-block (record { reader = r; link = Linked (e .reader) }) (e .reader) room refl h read-crc-standard f m (e .up) hf (talks-awaits (e .reader .phase) t))
 
   -- a round on rows is a round on bytes
   abbrev rows : Passed → RowPassed
