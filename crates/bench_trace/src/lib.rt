@@ -67,7 +67,7 @@ fn silence(next: usize, after: Name, out: &mut [u8]) -> TraceLine {
 }
 
 fn sent(row: &[u8], next: usize, out: &mut [u8]) -> TraceLine {
-    let after = frames::name(row);
+    let after = frames::name_of(row);
     let p = bench_text::put(out, 0, b"> ");
     let q = frames::put_sent_name(out, p, row, after);
     TraceLine {
@@ -91,8 +91,10 @@ fn heard(row: &[u8], next: usize, after: Name, out: &mut [u8]) -> TraceLine {
 
 // The bits of a record, 2 where a mark is set, into the lent row as far as it has room.
 fn unpack(log: &[u8], start: usize, marks: usize, bits: usize, row: &mut [u8]) {
-    let n = bench::front(row, bits).len();
-    for i in 0..n {
+    for i in 0..row.len() {
+        if bits <= i {
+            return;
+        }
         row[i] = shown(log::bit_at(log, start, i), log::bit_at(log, marks, i));
     }
 }
