@@ -1,6 +1,6 @@
 # Two commands: `make run` shows the main job, `make test` is the gate.
 # `make vectors` writes the programs' scripts and expected output anew, from the independent model.
-.PHONY: run test toolchain vectors vectors-check
+.PHONY: run test toolchain vectors vectors-check impostors
 
 BLOCKS = --no-blocks
 MODEL = cargo run --quiet --release --offline --locked --manifest-path model/Cargo.toml --
@@ -21,6 +21,13 @@ vectors:
 vectors-check:
 	@if command -v cargo >/dev/null 2>&1; then $(MODEL) check crates $(BLOCKS); \
 	else echo "no cargo: the stored vectors are not compared with the model"; fi
+
+# Every must-fail edit, those of crates/*/impostors too, in a copy of the repository. This takes an hour or two.
+impostors: toolchain
+	@rm -rf target-impostors && git clone --quiet . target-impostors
+	@cd target-impostors && for d in crates/*/impostors; do mkdir -p "$${d%impostors}must-fail" && cp "$$d"/*.edit "$${d%impostors}must-fail/"; done
+	@cd target-impostors && rt must-fail
+	@rm -rf target-impostors
 
 test: toolchain vectors-check
 	rt fmt --check

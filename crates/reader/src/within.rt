@@ -80,7 +80,7 @@ pub fn put_frame(r: Reader, out: &mut [u8])
             rows::within::put(out, 0, &row);
         }
         Phase::AnticollisionSent(l) => {
-            selection::split::put_anticollision(l, k, five, out);
+            selection::within::put_anticollision(l, k, five, out);
         }
         Phase::SelectSent(l) => {
             let row = selection::sent::select(l, five);

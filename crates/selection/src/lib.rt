@@ -2,10 +2,11 @@
 // reader reads them.
 pub mod ats;
 pub mod heard;
-pub mod level;
+mod level;
 pub mod numbers;
 pub mod sent;
 pub mod split;
+pub mod within;
 
 use refusal::Refusal;
 

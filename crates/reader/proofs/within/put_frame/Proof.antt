@@ -12,7 +12,7 @@ use Rattle.rows.proofs.within.put.Reads as put-reads
 use Rattle.selection.proofs.sent.hlta.Reads as hlta-reads
 use Rattle.selection.proofs.sent.reqa.Reads as reqa-reads
 use Rattle.selection.proofs.sent.select.Reads as select-reads
-use Rattle.selection.proofs.split.put_anticollision.Reads as put-anticollision-reads
+use Rattle.selection.proofs.within.put_anticollision.Reads as put-anticollision-reads
 
 enum-told : tie.Need-enum-told
 enum-told c = search needs

@@ -14,7 +14,7 @@ use Rattle.selection.proofs.split.is_anticollision.Reads as reads
 use Rattle.selection.proofs.split.is_anticollision.Lts as lts
 use Rattle.rows.proofs.is_same.Reads as is-same-reads
 use Rattle.selection.proofs.split.anticollision_bits.Reads as anticollision-bits-reads
-use Rattle.selection.proofs.split.put_anticollision.Reads as put-anticollision-reads
+use Rattle.selection.proofs.within.put_anticollision.Reads as put-anticollision-reads
 
 -- src/split.rt:33:35
 slice-aggregate-put-anticollision : tie.Need-slice-aggregate-put-anticollision

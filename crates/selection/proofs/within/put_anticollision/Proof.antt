@@ -5,10 +5,10 @@ use lib.ListN.{length, take, length-take}
 use Rattle.rows.specs.RowLaws.{length-overlay}
 use Rattle.selection.specs.SentLaws.{anti-made}
 use borrow.Author.Needs.{needs}
-use Rattle.selection.proofs.split.put_anticollision.Statement.{statement}
-use Rattle.selection.proofs.split.put_anticollision.Tie as tie
-use Rattle.selection.proofs.split.put_anticollision.Reads as reads
-use Rattle.selection.proofs.split.put_anticollision.Lts as lts
+use Rattle.selection.proofs.within.put_anticollision.Statement.{statement}
+use Rattle.selection.proofs.within.put_anticollision.Tie as tie
+use Rattle.selection.proofs.within.put_anticollision.Reads as reads
+use Rattle.selection.proofs.within.put_anticollision.Lts as lts
 use Rattle.frame.proofs.within.put_bytes.Reads as put-bytes-reads
 use Rattle.rows.proofs.within.put.Reads as put-reads
 use Rattle.selection.proofs.numbers.cut.Reads as cut-reads
