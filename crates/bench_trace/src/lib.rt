@@ -15,13 +15,24 @@ pub struct TraceLine {
     pub after: Name,
 }
 
-// What a log begins with.
-pub fn start() -> Name {
-    Name::Other
+// Before the first record.
+pub fn start() -> TraceLine {
+    TraceLine {
+        is_end: false,
+        length: 0,
+        next: 0,
+        after: Name::Other,
+    }
 }
 
-// The line of the record at a place of the log, at the front of out. The lent row is for the record's bits.
-pub fn line(log: &[u8], at: usize, after: Name, row: &mut [u8], out: &mut [u8]) -> TraceLine {
+// The line of the next record, at the front of out. The lent row is for the record's bits.
+pub fn next_line(log: &[u8], last: TraceLine, row: &mut [u8], out: &mut [u8]) -> TraceLine {
+    let after = last.after;
+    record_line(log, last.next, after, row, out)
+}
+
+// The line of the record at a place of the log.
+fn record_line(log: &[u8], at: usize, after: Name, row: &mut [u8], out: &mut [u8]) -> TraceLine {
     let r = log::record_at(log, at);
     match r {
         Record::Sent { start, bits, next } => {
