@@ -3,3 +3,4 @@ pub mod CardFrames
 pub mod CardCalls
 pub mod CardLaws
 pub mod CardRowLaws
+pub mod WholeLaws

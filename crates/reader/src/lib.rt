@@ -6,7 +6,7 @@ ghost use mathlib.Core.Bool.{true, false};
 ghost use lib.ListN.{length};
 ghost use Rattle.reader.specs.declared.Phase.the-variants.{New};
 ghost use Rattle.reader.specs.declared.Answer.the-variants.{Declines};
-ghost use Rattle.reader.specs.Reader.{blank, isNew, turn};
+ghost use Rattle.reader.specs.Reader.{blank, turn};
 ghost use Rattle.reader.specs.Calls.{awaits, hearCall, beginCall, rowAfter};
 use refusal::Refusal;
 use uid::Level;
@@ -57,21 +57,6 @@ pub fn new_reader() -> Reader
     within::blank(Phase::New, false)
 }
 
-fn is_new(p: Phase) -> bool
-    ensures { λ r. ⌜ r ≡ isNew p ⌝ }
-{
-    match p {
-        Phase::New => true,
-        Phase::ReqaSent => false,
-        Phase::AnticollisionSent(_) => false,
-        Phase::SelectSent(_) => false,
-        Phase::HltaSent => false,
-        Phase::Selected => false,
-        Phase::Finished => false,
-        Phase::Stopped => false,
-    }
-}
-
 fn is_awaiting(p: Phase) -> bool
     ensures { λ r. ⌜ r ≡ awaits p ⌝ }
 {
@@ -102,7 +87,7 @@ fn begin(sweeps: bool, r: Reader, out: &mut [u8]) -> Turn
     ensures { λ t. ⌜ now (out .exit) ≡ rowAfter t (now (out .entry)) ⌝ }
 {
     let p = r.phase;
-    if !is_new(p) {
+    if !within::is_new(p) {
         return declines(r, Refusal::NotDue);
     }
     if out.len() < 81 {

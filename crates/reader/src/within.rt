@@ -7,7 +7,7 @@ ghost use lib.ListN.{length};
 ghost use Rattle.rows.specs.Rows.{overlay, isNil};
 ghost use Rattle.uid.specs.Uid.{place};
 ghost use Rattle.uid.specs.declared.UidSize.the-variants.{Single};
-ghost use Rattle.reader.specs.Reader.{uid, reader, blank, frame, turn, sends, finds, stop, opens, longer, completes, afterAtqa, hearAtqa, afterRest, hearRest, afterSak, hearSak, hearSilence, hear, b3};
+ghost use Rattle.reader.specs.Reader.{uid, reader, blank, isNew, frame, turn, sends, finds, stop, opens, longer, completes, afterAtqa, hearAtqa, afterRest, hearRest, afterSak, hearSak, hearSilence, hear, b3};
 ghost use Rattle.reader.specs.Calls.{sentBy};
 ghost use Rattle.reader.specs.declared.Answer.the-variants.{Declines};
 ghost use Rattle.refusal.specs.declared.Refusal.the-variants.{NotDue};
@@ -47,8 +47,23 @@ pub fn blank(p: Phase, s: bool) -> Reader
     }
 }
 
+pub fn is_new(p: Phase) -> bool
+    ensures { λ r. ⌜ r ≡ isNew p ⌝ }
+{
+    match p {
+        Phase::New => true,
+        Phase::ReqaSent => false,
+        Phase::AnticollisionSent(_) => false,
+        Phase::SelectSent(_) => false,
+        Phase::HltaSent => false,
+        Phase::Selected => false,
+        Phase::Finished => false,
+        Phase::Stopped => false,
+    }
+}
+
 // How many bits the frame has that a reader has sent.
-fn frame_bits(r: Reader) -> usize
+pub fn frame_bits(r: Reader) -> usize
     ensures { λ n. ⌜ n ≡ length (frame r) ⌝ }
 {
     let p = r.phase;

@@ -11,7 +11,6 @@ use Rattle.reader.proofs.begin.Tie as tie
 use Rattle.reader.proofs.begin.Reads as reads
 use Rattle.reader.proofs.begin.Lts as lts
 use Rattle.reader.proofs.declines.Reads as declines-reads
-use Rattle.reader.proofs.is_new.Reads as is-new-reads
 use Rattle.reader.proofs.within.blank.Reads as blank-reads
 use Rattle.reader.proofs.within.put_sent.Reads as put-sent-reads
 use Rattle.reader.proofs.within.sends.Reads as sends-reads

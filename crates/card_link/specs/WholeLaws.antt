@@ -1,0 +1,254 @@
+-- The whole card's calls, step by step. Assumes nothing.
+use mathlib.Core.Path.{_≡_, refl, sym, ap, ap₂, _∙_}
+use Prim.Native.Nat.{ℕ, _+_, _*_, _≤_, _<_}
+use native.Mathlib.Omega.{arith}
+use mathlib.Core.Bool.{Bool, true, false, cond, not}
+use mathlib.Core.List.{List, [], _∷_, _++_}
+use lib.ListN.{length, take, drop, replicate, length-append, length-take}
+use lib.Seq.{length-take-le}
+use borrow.Author.Tests.{lt-ltb, le-ltb}
+use Rattle.rows.specs.Rows.{overlay}
+use Rattle.rows.specs.RowLaws.{overlay-nil, overlay-next, overlay-front}
+use Rattle.crc.specs.Crc.{crcBytes, withCrc}
+use Rattle.frame.specs.Frame.{standard, readCrc}
+use Rattle.frame.specs.FrameLaws.{length-standard, standard-append}
+use Rattle.frame.specs.Calls.{goodBytes, readAnswer, bytesAfter}
+use Rattle.frame.specs.CallLaws.{read-verdict, refused-verdict}
+use Rattle.frame.specs.declared.Received.{Received}
+use Rattle.frame.specs.declared.Received.the-variants.{Bytes, NotReceived}
+use Rattle.selection.specs.Selection.{size}
+use Rattle.refusal.specs.declared.Refusal.{Refusal}
+use Rattle.refusal.specs.declared.Refusal.the-variants.{Room, NotDue}
+use Rattle.card.specs.Card.{rules, takes, answers}
+use Rattle.card.specs.Calls.{taken, answerOf}
+use Rattle.card.specs.declared.Card.{Card}
+use Rattle.card.specs.declared.CardAnswer.{CardAnswer}
+use Rattle.card.specs.declared.CardAnswer.the-variants.{Sends, Silent, NotTaken}
+use Rattle.card.specs.declared.CardState.{CardState}
+use Rattle.card.specs.declared.Taken.{Taken}
+use Rattle.block.specs.declared.Block.{Block}
+use Rattle.block.specs.declared.Block.the-variants.{I, Ack, Nak, Deselect, Wtx, Unknown, Nothing}
+use Rattle.block.specs.declared.BlockBytes.{BlockBytes}
+use Rattle.block.specs.declared.Told.the-variants.{Quiet}
+use Rattle.block.specs.Block.{blockBytes, bytesIn, behind}
+use Rattle.block.specs.Cut.{payloadMax, part}
+use Rattle.block.specs.CutLaws.{payload-most}
+use Rattle.block.specs.HeardLaws.{heard-good}
+use Rattle.block.specs.Out.{Out}
+use Rattle.block.specs.Row.{blockRow, heardRow}
+use Rattle.card_link.specs.declared.CardLink.{CardLink}
+use Rattle.card_link.specs.declared.CardStep.{CardStep}
+use Rattle.card_link.specs.declared.CardTurn.{CardTurn}
+use Rattle.card_link.specs.declared.LinkCard.{LinkCard}
+use Rattle.card_link.specs.CardFrames.{cardHears, cardOut, cardBlock}
+use Rattle.card_link.specs.CardLaws.{block-bytes}
+use Rattle.card_link.specs.CardCalls.{withRow, linkIn, leftBy, takesOutside, takesInside, takesIn, owing, declined, called, takeCall, turnOf}
+
+-- how many air bits an answer has
+abbrev pub bitsIn : CardAnswer → ℕ
+bitsIn (Sends n) = n
+bitsIn Silent = 0
+bitsIn (NotTaken e) = 0
+
+-- ---- a row that is read
+
+front-fits : (d s : List ℕ) → length s ≤ length (overlay d 0 s)
+unfolding overlay
+front-fits d s = simp length-append (omega arith)
+
+module _ (own most room : ℕ) (row out out′ : List ℕ) (r : Received) (s : most ≡ size own) (h : 256 ≤ room) (a : r ≡ readAnswer room (readCrc 3 most row)) (m : out′ ≡ bytesAfter r (readCrc 3 most row) out) where
+  good : goodBytes (heardRow own row) ≡ goodBytes (readCrc 3 most row)
+  good = heard-good own row ∙ ap (λ n. goodBytes (readCrc 3 n row)) (sym s)
+
+  -- a frame that is not good has no bytes, and nothing is written
+  pub row-none : (e : Refusal) → r ≡ NotReceived e
+      → (0 ≡ length (goodBytes (heardRow own row))) × (out′ ≡ overlay out 0 (goodBytes (heardRow own row)))
+  row-none e k =
+      let g : goodBytes (heardRow own row) ≡ [] = good ∙ ap goodBytes (refused-verdict room (readCrc 3 most row) r e h a k) in
+      (rw g, m ∙ rw (k, g) (sym (overlay-nil out 0)))
+
+  -- the bytes of one that is stand at the front
+  pub row-some : (n : ℕ) → r ≡ Bytes n
+      → (n ≡ length (goodBytes (heardRow own row))) × (out′ ≡ overlay out 0 (goodBytes (heardRow own row)))
+  row-some n k =
+      let v = read-verdict room (readCrc 3 most row) r n out out′ a k m in
+      let g : goodBytes (heardRow own row) ≡ take n out′ = good ∙ ap goodBytes (v .0) in
+      (sym (rw g (v .1)), m ∙ rw (k, good))
+
+-- bytes read to the front of a row are no more than it holds, and are its first ones
+pub read-fits : (n : ℕ) (out out′ l : List ℕ) → n ≡ length l → out′ ≡ overlay out 0 l → n ≤ length out′
+read-fits n out out′ l e m = rw (e, m) (front-fits out l)
+
+pub read-front : (n : ℕ) (out out′ l : List ℕ) → n ≡ length l → out′ ≡ overlay out 0 l → take n out′ ≡ l
+read-front n out out′ l e m = rw (e, m) (overlay-front out l)
+
+-- what is done with a frame's bytes is done with equal ones
+pub heard-as : (c : CardLink) (room len : ℕ) (buffer : List ℕ) {l g b′ : List ℕ} {s : CardStep} → l ≡ g
+    → (s ≡ cardHears c l room len) × (b′ ≡ cond (s .joins) (overlay buffer (c .joined) (behind l)) buffer)
+    → (s ≡ cardHears c g room len) × (b′ ≡ cond (s .joins) (overlay buffer (c .joined) (behind g)) buffer)
+heard-as c room len buffer {l} {g} {b′} {s} e h =
+    (h .0 ∙ ap (λ l. cardHears c l room len) e, h .1 ∙ ap (λ l. cond (s .joins) (overlay buffer (c .joined) (behind l)) buffer) e)
+
+-- ---- a row that is sent
+
+row-is : (l : List ℕ) → 0 < length l → blockRow l ≡ standard (withCrc l)
+row-is [] h = absurd (omega arith)
+row-is (f ∷ p) h = refl
+
+pub row-put-none : (n : ℕ) (d out : List ℕ) → n ≡ 0 → (0 ≡ length (blockRow (take n d))) × (out ≡ overlay out 0 (blockRow (take n d)))
+row-put-none n d out e = rw e (refl, sym (overlay-nil out 0))
+
+pub count-is : (n : ℕ) (d : List ℕ) → n ≤ 254 → length d ≡ 256 → n ≡ length (take n d)
+count-is n d h e = sym (length-take-le n d (omega arith))
+
+-- bytes, and behind them their CRC_A
+pub row-put : (l crc out q r : List ℕ) (n : ℕ) → 0 < n → n ≤ 254 → 2304 ≤ length out → length l ≡ n → crc ≡ crcBytes l
+    → q ≡ overlay out 0 (standard l) → r ≡ overlay q (9 * n) (standard crc)
+    → (9 * n + 18 ≡ length (blockRow l)) × (r ≡ overlay out 0 (blockRow l))
+unfolding withCrc crcBytes
+row-put l crc out q r n h m room e k eq er =
+    let b : blockRow l ≡ standard l ++ standard crc = row-is l (omega arith) ∙ rw (← k) (standard-append l crc) in
+    let c : length crc ≡ 2 = rw k in
+    let a : 9 * n ≡ 0 + length (standard l) = omega (arith, length-standard l) in (
+      rw (b, length-append) (omega (arith, length-standard l, length-standard crc)),
+      er ∙ rw (b, eq, a) (overlay-next out 0 (standard l) (standard crc) (omega (arith, length-standard l, length-standard crc))),
+    )
+
+-- the bytes of a block, and how many there are at most
+made-row : (b : BlockBytes) (l : List ℕ) → b ≡ bytesIn l → take (b .count) (b .bytes) ≡ l
+unfolding bytesIn
+made-row b l e = rw e (overlay-front (replicate 256 0) l)
+
+block-most : (b : Block) (i at : ℕ) (m : List ℕ) → length (blockBytes b (part i at m)) ≤ 254
+unfolding part
+block-most (I n chained) i at m =
+    let e : length (take (payloadMax i) (drop at m)) ≤ payloadMax i = rw length-take (omega arith) in
+    omega (arith, e, payload-most i)
+block-most (Ack n) i at m = omega arith
+block-most (Nak n) i at m = omega arith
+block-most Deselect i at m = omega arith
+block-most (Wtx v) i at m = omega arith
+block-most Unknown i at m = omega arith
+block-most Nothing i at m = omega arith
+
+pub sent-most : (b : BlockBytes) (k : Block) (i at : ℕ) (m : List ℕ) → b ≡ bytesIn (blockBytes k (part i at m)) → b .count ≤ 254
+unfolding bytesIn
+sent-most b k i at m e = rw e (block-most k i at m)
+
+-- a step of the link, handed back
+pub finished : (card : Card) (s : CardStep) (m out out′ : List ℕ) (b : BlockBytes) (k : LinkCard) (bits : ℕ)
+    → b ≡ bytesIn (blockBytes (s .send) (part (s .link .reader) (s .link .at) m)) → k ≡ leftBy (s .told) card (s .link)
+    → (bits ≡ length (blockRow (take (b .count) (b .bytes)))) × (out′ ≡ overlay out 0 (blockRow (take (b .count) (b .bytes))))
+    → (_≡_ {A = CardTurn} (record { card = k; bits = bits; told = s .told }) (turnOf (withRow card (cardOut s m [] 0 []))))
+    × (out′ ≡ overlay out 0 (withRow card (cardOut s m [] 0 []) .sent))
+unfolding cardOut
+finished card s m out out′ b k bits eb ek h =
+    let t = made-row b (blockBytes (s .send) (part (s .link .reader) (s .link .at) m)) eb in
+    (ap₂ (λ k n. record { card = k; bits = n; told = s .told }) ek (h .0 ∙ ap (λ l. length (blockRow l)) t), h .1 ∙ ap (λ l. overlay out 0 (blockRow l)) t)
+
+-- ---- what is handed back
+
+-- what was handed back for what a definition gives is what is asked for what is equal
+pub two : (out : List ℕ) {o p : Out LinkCard} {r : CardTurn} {out′ : List ℕ} → o ≡ p
+    → (r ≡ turnOf o) × (out′ ≡ overlay out 0 (o .sent)) → (r ≡ turnOf p) × (out′ ≡ overlay out 0 (p .sent))
+two out e h = (h .0 ∙ ap turnOf e, h .1 ∙ ap (λ o. overlay out 0 (o .sent)) e)
+
+pub three : (out : List ℕ) {o p : Out LinkCard} {r : CardTurn} {b′ out′ : List ℕ} → o ≡ p
+    → (r ≡ turnOf o) × ((b′ ≡ o .buffer) × (out′ ≡ overlay out 0 (o .sent))) → (r ≡ turnOf p) × ((b′ ≡ p .buffer) × (out′ ≡ overlay out 0 (p .sent)))
+three out e h = (h .0 ∙ ap turnOf e, (h .1 .0 ∙ ap (λ o. o .buffer) e, h .1 .1 ∙ ap (λ o. overlay out 0 (o .sent)) e))
+
+-- ---- a frame
+
+bits-answer : (r : List ℕ) → bitsIn (answerOf r) ≡ length r
+bits-answer [] = refl
+bits-answer (x ∷ r) = refl
+
+pub outside-made : (x : LinkCard) (f out out′ : List ℕ) (t : Taken) (l : CardLink) (n : ℕ)
+    → (t ≡ taken (x .card) (rules (x .card) (x .card .state) f)) × (out′ ≡ overlay out 0 (rules (x .card) (x .card .state) f .1))
+    → l ≡ linkIn (x .card) (t .card .state) → n ≡ bitsIn (t .answer)
+    → (_≡_ {A = CardTurn} (record { card = record { card = t .card; link = l }; bits = n; told = Quiet }) (turnOf (takesOutside x f [])))
+    × (out′ ≡ overlay out 0 (takesOutside x f [] .sent))
+unfolding takesOutside takes answers
+outside-made x f out out′ t l n et el en =
+    let k : Card = takes (x .card) f in
+    let ec : t .card ≡ k = ap (λ t. t .card) (et .0) in
+    let e₁ : l ≡ linkIn (x .card) (k .state) = el ∙ ap (λ c. linkIn (x .card) (c .state)) ec in
+    let e₂ : n ≡ length (answers (x .card) f) = en ∙ ap (λ t. bitsIn (t .answer)) (et .0) ∙ bits-answer (answers (x .card) f) in
+    (ap₂ (λ (y : LinkCard) (n : ℕ). record { card = y; bits = n; told = Quiet }) (ap₂ (λ c l. record { card = c; link = l }) ec e₁) e₂, et .1)
+
+pub inside-made : (x : LinkCard) (f m buffer out : List ℕ) (s : CardStep) {r : CardTurn} {b′ out′ : List ℕ}
+    → (s ≡ cardHears (x .link) (goodBytes (heardRow (x .link .own) f)) (length buffer) (length m))
+    × (b′ ≡ cond (s .joins) (overlay buffer (x .link .joined) (behind (goodBytes (heardRow (x .link .own) f)))) buffer)
+    → (r ≡ turnOf (withRow (x .card) (cardOut s m [] 0 []))) × (out′ ≡ overlay out 0 (withRow (x .card) (cardOut s m [] 0 []) .sent))
+    → (r ≡ turnOf (takesInside x f m buffer)) × ((b′ ≡ takesInside x f m buffer .buffer) × (out′ ≡ overlay out 0 (takesInside x f m buffer .sent)))
+unfolding takesInside cardOut
+inside-made x f m buffer out s e h =
+    let v = heardRow (x .link .own) f in
+    let q : cardOut s m buffer (x .link .joined) (behind (goodBytes v)) ≡ cardBlock (x .link) v m buffer =
+    ap (λ s. cardOut s m buffer (x .link .joined) (behind (goodBytes v))) (e .0) ∙ sym (block-bytes (x .link) v m buffer) in
+    three out (ap (withRow (x .card)) q) (h .0, (e .1, h .1))
+
+-- by the card's state
+module _ (x : LinkCard) (f m buffer out : List ℕ) {s : CardState} {r : CardTurn} {out′ : List ℕ} (e : x .card .state ≡ s) where
+  pub due-outside : takesIn s x f m buffer ≡ takesOutside x f buffer
+      → (r ≡ turnOf (takesOutside x f [])) × (out′ ≡ overlay out 0 (takesOutside x f [] .sent))
+      → (r ≡ turnOf (takesIn (x .card .state) x f m buffer)) × ((buffer ≡ takesIn (x .card .state) x f m buffer .buffer)
+      × (out′ ≡ overlay out 0 (takesIn (x .card .state) x f m buffer .sent)))
+  unfolding takesOutside
+  due-outside k h = three out (sym (ap (λ s. takesIn s x f m buffer) e ∙ k)) (h .0, (refl, h .1))
+
+  pub due-inside : {b′ : List ℕ} → takesIn s x f m buffer ≡ takesInside x f m buffer
+      → (r ≡ turnOf (takesInside x f m buffer)) × ((b′ ≡ takesInside x f m buffer .buffer) × (out′ ≡ overlay out 0 (takesInside x f m buffer .sent)))
+      → (r ≡ turnOf (takesIn (x .card .state) x f m buffer)) × ((b′ ≡ takesIn (x .card .state) x f m buffer .buffer)
+      × (out′ ≡ overlay out 0 (takesIn (x .card .state) x f m buffer .sent)))
+  due-inside k h = three out (sym (ap (λ s. takesIn s x f m buffer) e ∙ k)) h
+
+-- ---- a call
+
+module _ (due : Bool) (x : LinkCard) (buffer : List ℕ) (room : ℕ) (o : Out LinkCard) where
+  call-not-due : due ≡ false → called due x buffer room o ≡ declined x buffer NotDue
+  unfolding called
+  call-not-due d = rw d
+
+  call-room : due ≡ true → room < 2304 → called due x buffer room o ≡ declined x buffer Room
+  unfolding called
+  call-room d h = rw (d, lt-ltb room 2304 h)
+
+  call-due : due ≡ true → 2304 ≤ room → called due x buffer room o ≡ o
+  unfolding called
+  call-due d h = rw (d, le-ltb room 2304 h)
+
+-- a refused one of two rows changes neither
+module _ (due : Bool) (x : LinkCard) (o : Out LinkCard) (out : List ℕ) {r : CardTurn} where
+  pub two-not-due : due ≡ false → r ≡ turnOf (declined x [] NotDue)
+      → (r ≡ turnOf (called due x [] (length out) o)) × (out ≡ overlay out 0 (called due x [] (length out) o .sent))
+  two-not-due d h = two out (sym (call-not-due due x [] (length out) o d)) (h, sym (overlay-nil out 0))
+
+  pub two-room : due ≡ true → length out < 2304 → r ≡ turnOf (declined x [] Room)
+      → (r ≡ turnOf (called due x [] (length out) o)) × (out ≡ overlay out 0 (called due x [] (length out) o .sent))
+  two-room d n h = two out (sym (call-room due x [] (length out) o d n)) (h, sym (overlay-nil out 0))
+
+  pub two-due : {out′ : List ℕ} → due ≡ true → 2304 ≤ length out → (r ≡ turnOf o) × (out′ ≡ overlay out 0 (o .sent))
+      → (r ≡ turnOf (called due x [] (length out) o)) × (out′ ≡ overlay out 0 (called due x [] (length out) o .sent))
+  two-due d n h = two out (sym (call-due due x [] (length out) o d n)) h
+
+module _ (x : LinkCard) (f m buffer out : List ℕ) {r : CardTurn} where
+  pub take-not-due : owing x ≡ true → r ≡ turnOf (declined x [] NotDue)
+      → (r ≡ turnOf (takeCall x f m buffer (length out))) × ((buffer ≡ takeCall x f m buffer (length out) .buffer)
+      × (out ≡ overlay out 0 (takeCall x f m buffer (length out) .sent)))
+  unfolding takeCall
+  take-not-due w h = three out (sym (call-not-due (not (owing x)) x buffer (length out) _ (rw w))) (h, (refl, sym (overlay-nil out 0)))
+
+  pub take-room : owing x ≡ false → length out < 2304 → r ≡ turnOf (declined x [] Room)
+      → (r ≡ turnOf (takeCall x f m buffer (length out))) × ((buffer ≡ takeCall x f m buffer (length out) .buffer)
+      × (out ≡ overlay out 0 (takeCall x f m buffer (length out) .sent)))
+  unfolding takeCall
+  take-room w n h = three out (sym (call-room (not (owing x)) x buffer (length out) _ (rw w) n)) (h, (refl, sym (overlay-nil out 0)))
+
+  pub take-due : {b′ out′ : List ℕ} → owing x ≡ false → 2304 ≤ length out
+      → (r ≡ turnOf (takesIn (x .card .state) x f m buffer)) × ((b′ ≡ takesIn (x .card .state) x f m buffer .buffer)
+      × (out′ ≡ overlay out 0 (takesIn (x .card .state) x f m buffer .sent)))
+      → (r ≡ turnOf (takeCall x f m buffer (length out))) × ((b′ ≡ takeCall x f m buffer (length out) .buffer)
+      × (out′ ≡ overlay out 0 (takeCall x f m buffer (length out) .sent)))
+  unfolding takeCall
+  take-due w n h = three out (sym (call-due (not (owing x)) x buffer (length out) _ (rw w) n)) h

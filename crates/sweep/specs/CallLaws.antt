@@ -1,0 +1,75 @@
+-- Laws of the call of a sweep: which of its tests applies. Where it declines, the field or what was lent is not within demand 3's terms.
+-- Assumes nothing.
+use mathlib.Core.Path.{_≡_, sym, ap, _∙_}
+use Prim.Native.Nat.{ℕ, _≤_, _<_}
+use native.Mathlib.Omega.{arith}
+use mathlib.Core.Bool.{true, false, false≢true}
+use mathlib.Core.List.{List}
+use lib.ListN.{length, take}
+use borrow.Author.Tests.{lt-ltb, le-ltb}
+use Rattle.rows.specs.Rows.{overlay}
+use Rattle.reader.specs.Reader.{isNew}
+use Rattle.log.specs.Log.{logBytes, listBytes}
+use Rattle.sweep_rules.specs.Limits.{mostCards, logRoom, listRoom}
+use Rattle.sweep_rules.specs.Run.{Out, sweep}
+use Rattle.sweep_rules.specs.Terms.{within}
+use Rattle.card.specs.declared.Card.{Card}
+use Rattle.reader.specs.declared.Reader.{Reader}
+use Rattle.refusal.specs.declared.Refusal.{Refusal}
+use Rattle.refusal.specs.declared.Refusal.the-variants.{Room, Argument, NotDue}
+use Rattle.sweep.specs.Sweep.{call, refused, done, sweepOf}
+use Rattle.sweep.specs.Promise.{Terms, Sweeps}
+use Rattle.sweep.specs.Steps.{ends}
+use Rattle.sweep.specs.declared.Swept.{Swept}
+use Rattle.sweep.specs.declared.within.Progress.{Progress}
+
+-- what the contract says of a call that gave s, log₁ and list₁
+abbrev pub Promised : Reader → List Card → ℕ → List ℕ → List ℕ → Swept → List ℕ → List ℕ → Type 0
+Promised r cards n log list s log₁ list₁ =
+    (call s log₁ list₁ ≡ sweepOf r cards n log list) × (Terms r cards n log list → Sweeps cards n log list s log₁ list₁)
+
+-- what the loop leaves is what the call gives
+abbrev pub sweptAt : Progress → Swept
+sweptAt p = record { reader = p .turn .reader; answer = p .turn .answer; cards = p .cards; frames = p .frames; logged = p .logged; found = p .found }
+
+pub ends-call : (cards : List Card) (n : ℕ) (log list : List ℕ) (o : Out) (p : Progress) (log₁ list₁ : List ℕ) → p ≡ ends cards n o
+    → log₁ ≡ overlay log 0 (logBytes (o .exchanges)) → list₁ ≡ overlay list 0 (listBytes (o .found)) → call (sweptAt p) log₁ list₁ ≡ done cards n log list o
+unfolding done
+ends-call cards n log list o p log₁ list₁ e a b = rw (e, a, b)
+
+module _ (r : Reader) (cards : List Card) (n : ℕ) (log list : List ℕ) where
+  declines : (e : Refusal) (s : Swept) → s ≡ refused r cards e → call (refused r cards e) log list ≡ sweepOf r cards n log list → (Terms r cards n log list → ⊥)
+      → Promised r cards n log list s log list
+  declines e s h k never = (ap (λ x. call x log list) h ∙ k, λ t. absurd (never t))
+
+  pub not-due : (s : Swept) → s ≡ refused r cards NotDue → isNew (r .phase) ≡ false → Promised r cards n log list s log list
+  unfolding sweepOf
+  not-due s h new = declines NotDue s h (rw new) (λ t. false≢true (sym new ∙ t .new))
+
+  module _ (new : isNew (r .phase) ≡ true) where
+    pub no-log : (s : Swept) → s ≡ refused r cards Room → length log < logRoom → Promised r cards n log list s log list
+    unfolding sweepOf
+    no-log s h k = declines Room s h (rw (new, lt-ltb (length log) logRoom k)) (λ t. omega (arith, t .log-room))
+
+    module _ (hlog : logRoom ≤ length log) where
+      pub no-list : (s : Swept) → s ≡ refused r cards Room → length list < listRoom → Promised r cards n log list s log list
+      unfolding sweepOf
+      no-list s h k =
+          declines Room s h (rw (new, le-ltb (length log) logRoom hlog, lt-ltb (length list) listRoom k)) (λ t. omega (arith, t .list-room))
+
+      module _ (hlist : listRoom ≤ length list) where
+        pub too-many : (s : Swept) → s ≡ refused r cards Argument → mostCards < n → Promised r cards n log list s log list
+        unfolding sweepOf
+        too-many s h k =
+            declines Argument s h (rw (new, le-ltb (length log) logRoom hlog, le-ltb (length list) listRoom hlist, lt-ltb mostCards n k)) (λ t. omega (arith, t .few))
+
+        module _ (few : n ≤ mostCards) where
+          pub no-field : (s : Swept) → s ≡ refused r cards Argument → within (take n cards) ≡ false → Promised r cards n log list s log list
+          unfolding sweepOf
+          no-field s h k =
+              declines Argument s h (rw (new, le-ltb (length log) logRoom hlog, le-ltb (length list) listRoom hlist, le-ltb mostCards n few, k))
+              (λ t. false≢true (sym k ∙ t .field))
+
+          pub runs : within (take n cards) ≡ true → done cards n log list (sweep (take n cards)) ≡ sweepOf r cards n log list
+          unfolding sweepOf
+          runs k = rw (new, le-ltb (length log) logRoom hlog, le-ltb (length list) listRoom hlist, le-ltb mostCards n few, k)

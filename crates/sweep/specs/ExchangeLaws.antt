@@ -1,0 +1,49 @@
+-- Laws of one exchange: rows at the front of the arrays into which they were written, and the two records in the log. Assumes nothing.
+use mathlib.Core.Path.{_≡_, refl, sym, ap, _∙_}
+use Prim.Native.Nat.{ℕ, _+_, _≤_}
+use native.Mathlib.Omega.{arith}
+use mathlib.Core.Bool.{true}
+use mathlib.Core.List.{List, [], _∷_, _++_}
+use lib.ListN.{length, take, drop, length-append}
+use Rattle.rows.specs.Rows.{overlay, clean}
+use Rattle.rows.specs.RowLaws.{overlay-front, overlay-next}
+use Rattle.field.specs.Calls.{together}
+use Rattle.field.specs.Field.{heardFrom}
+use Rattle.field.specs.TakeLaws.{front-fits}
+use Rattle.field.specs.declared.within.Together.{Together}
+use Rattle.log.specs.Log.{exchangeBytes, sentRecord, heardRecord}
+use Rattle.card.specs.declared.Card.{Card}
+
+-- the first n bits of the row r are s
+pub record Front (s : List ℕ) (n : ℕ) (r : List ℕ) : Type 0 where
+  pub count : n ≡ length s
+  pub fits : n ≤ length r
+  pub bits : take n r ≡ s
+
+pub front-of : (d s : List ℕ) (n : ℕ) (r : List ℕ) → n ≡ length s → r ≡ overlay d 0 s → Front s n r
+front-of d s n r e o =
+    record {
+      count = e;
+      fits = omega (arith, front-fits d s (length r) (sym (ap length o)));
+      bits = rw (e, o) (overlay-front d s);
+    }
+
+-- what is heard, after the frame f that stands in the first bits of a row
+pub heard-front : (f : List ℕ) (n : ℕ) (r : List ℕ) → Front f n r → (cards : List Card) (k : ℕ) (t : Together) → t ≡ together cards k (take n r)
+    → (d h : List ℕ) → h ≡ overlay d 0 (heardFrom (take n r) (take k cards)) → Front (heardFrom f (take k cards)) (t .bits) h
+heard-front f n r u cards k t e d h o =
+    front-of d (heardFrom f (take k cards)) (t .bits) h
+    (ap (λ x. x .bits) e ∙ ap (λ x. length (heardFrom x (take k cards))) (u .bits))
+    (o ∙ ap (λ x. overlay d 0 (heardFrom x (take k cards))) (u .bits))
+
+-- the two records one behind the other
+pub length-exchange : (f h : List ℕ) → length (exchangeBytes (f, h)) ≡ length (sentRecord f) + length (heardRecord h)
+unfolding exchangeBytes
+length-exchange f h = length-append (sentRecord f) (heardRecord h)
+
+pub exchange-written : (log : List ℕ) (at : ℕ) (f h log₁ log₂ : List ℕ) (a : ℕ) → at + length (exchangeBytes (f, h)) ≤ length log
+    → a ≡ length (sentRecord f) → log₁ ≡ overlay log at (sentRecord f) → log₂ ≡ overlay log₁ (at + a) (heardRecord h)
+    → log₂ ≡ overlay log at (exchangeBytes (f, h))
+unfolding exchangeBytes
+exchange-written log at f h log₁ log₂ a room e o₁ o₂ =
+    o₂ ∙ rw (o₁, e) (overlay-next log at (sentRecord f) (heardRecord h) (omega (arith, length-exchange f h)))

@@ -1,0 +1,84 @@
+// Document 01, "The reader and the sweep": the plain sweep, over values.
+ghost use mathlib.Core.Path.{_≡_};
+ghost use Rattle.sweep.specs.Sweep.{call, refused, sweepOf};
+ghost use Rattle.sweep.specs.Promise.{Terms, Sweeps};
+use card::Card;
+use reader::Answer;
+use reader::Reader;
+use refusal::Refusal;
+
+// The fields that a sweep takes.
+pub mod terms;
+
+// Functions with conditions on what they are called with. Only the crates of this repository call them.
+pub mod within;
+
+// "over 16 cards" is 6; "The sweep asks for 8,192 bytes of log and 176 of list".
+pub const MOST_CARDS: usize = 16;
+
+pub const LOG_ROOM: usize = 8192;
+
+pub const LIST_ROOM: usize = 176;
+
+// After a sweep: the reader and its last answer, Finishes or why the sweep was declined; the cards; how many frames the reader sent, how many
+// bytes of the log are written, and how many UIDs stand in the list.
+pub struct Swept {
+    pub reader: Reader,
+    pub answer: Answer,
+    pub cards: [Card; 16],
+    pub frames: usize,
+    pub logged: usize,
+    pub found: usize,
+}
+
+// Declined before a frame is sent.
+fn refused(r: Reader, cards: [Card; 16], e: Refusal) -> Swept
+    ensures { λ s. ⌜ s ≡ refused r cards e ⌝ }
+{
+    Swept {
+        reader: r,
+        answer: Answer::Declines(e),
+        cards: cards,
+        frames: 0,
+        logged: 0,
+        found: 0,
+    }
+}
+
+// The reader finds every idle card of a field, the first n cards, and halts it. Each frame and what was heard after it goes into the lent log,
+// each UID into the lent list, from their fronts on. Declined, with all unchanged: 11, the reader is not new; 1, log or list is too short; 6,
+// the field is not one that a sweep takes.
+pub fn sweep(r: Reader, cards: [Card; 16], n: usize, log: &mut [u8], list: &mut [u8]) -> Swept
+    ensures { λ s. ⌜ call s (now (log .exit)) (now (list .exit)) ≡ sweepOf r cards n (now (log .entry)) (now (list .entry)) ⌝ }
+    ensures { λ s. ⌜ (Terms r cards n (now (log .entry)) (now (list .entry)) → Sweeps cards n (now (log .entry)) (now (list .entry)) s (now (log .exit)) (now (list .exit))) ⌝ }
+{
+    let phase = r.phase;
+    if !reader::within::is_new(phase) {
+        return refused(r, cards, Refusal::NotDue);
+    }
+    if log.len() < LOG_ROOM {
+        return refused(r, cards, Refusal::Room);
+    }
+    if list.len() < LIST_ROOM {
+        return refused(r, cards, Refusal::Room);
+    }
+    if n > MOST_CARDS {
+        return refused(r, cards, Refusal::Argument);
+    }
+    if !terms::is_within(cards, n) {
+        return refused(r, cards, Refusal::Argument);
+    }
+    let p = within::run(cards, n, log, list);
+    let turn = p.turn;
+    let last = turn.reader;
+    let answer = turn.answer;
+    let after = p.cards;
+    Swept {
+        reader: last,
+        answer: answer,
+        cards: after,
+        frames: p.frames,
+        logged: p.logged,
+        found: p.found,
+    }
+}
