@@ -1,4 +1,4 @@
--- `bench_trace::unpack` meets its contract. Assumes nothing.
+-- `bench_trace::unpack` meets its contract. The loop's invariant: the row keeps its length. Assumes nothing.
 use Prim.Native.Nat.{_-_, _≤_}
 use mathlib.Core.Path.{_≡_, refl}
 use native.Mathlib.Omega.{arith}

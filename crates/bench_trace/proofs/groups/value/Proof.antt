@@ -1,4 +1,4 @@
--- `bench_trace::groups::value` meets its contract. Assumes nothing.
+-- `bench_trace::groups::value` meets its contract. The loop's invariant: the number is a byte. Assumes nothing.
 use Prim.Native.Nat.{_≤_, _<_, _-_}
 use native.Mathlib.Omega.{arith}
 use Rattle.bench_trace.proofs.groups.value.Statement.{statement}
