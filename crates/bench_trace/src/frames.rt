@@ -10,7 +10,7 @@ pub enum Name {
 }
 
 // What a reader's frame is.
-pub fn name(row: &[u8]) -> Name {
+pub fn name_of(row: &[u8]) -> Name {
     if row.len() == 7 {
         return short_name(groups::value(row));
     }

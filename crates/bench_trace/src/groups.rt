@@ -1,4 +1,5 @@
 // A row for people: groups separated by spaces.
+ghost use Prim.Native.Nat.{_≤_};
 
 // n elements of a row from a place on, as far as it has them.
 pub fn part(row: &[u8], from: usize, n: usize) -> &[u8] {
@@ -18,7 +19,9 @@ pub fn value(row: &[u8]) -> u8 {
 }
 
 // A bit of a row; 0 past its end and for a collided one.
-fn bit(row: &[u8], i: usize) -> u8 {
+fn bit(row: &[u8], i: usize) -> u8
+    ensures { λ r. ⌜ r ≤ 1 ⌝ }
+{
     if row.len() <= i {
         return 0;
     }
@@ -38,7 +41,7 @@ pub fn put_heard(out: &mut [u8], at: usize, row: &[u8], left: usize) -> usize {
     if left == 0 {
         return put_groups(out, at, row);
     }
-    let missing = if left < 8 { 8 - left } else { 0 };
+    let missing = rest_of(left);
     let p = bench_text::put_bits(out, at, part(row, 0, missing));
     let behind = part(row, missing + 1, row.len());
     if behind.len() == 0 {
@@ -48,16 +51,28 @@ pub fn put_heard(out: &mut [u8], at: usize, row: &[u8], left: usize) -> usize {
     put_groups(out, q, behind)
 }
 
+// How many bits of a byte are missing where so many were sent.
+fn rest_of(left: usize) -> usize
+    ensures { λ r. ⌜ r ≤ 8 ⌝ }
+{
+    if left < 8 { 8 - left } else { 0 }
+}
+
 // Whole bytes with parity, then left-over bits.
 fn put_groups(out: &mut [u8], at: usize, row: &[u8]) -> usize {
     let mut p = put_group(out, at, part(row, 0, 9));
     let mut from = 9;
     while from < row.len() {
-        p = bench_text::put(out, p, b" ");
-        p = put_group(out, p, part(row, from, 9));
+        p = put_next(out, p, part(row, from, 9));
         from += 9;
     }
     p
+}
+
+// A group behind another.
+fn put_next(out: &mut [u8], at: usize, bits: &[u8]) -> usize {
+    let p = bench_text::put(out, at, b" ");
+    put_group(out, p, bits)
 }
 
 // A whole byte in two capitals, or in its eight bits where one collided; left-over bits as they are.

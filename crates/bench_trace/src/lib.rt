@@ -15,13 +15,24 @@ pub struct TraceLine {
     pub after: Name,
 }
 
-// What a log begins with.
-pub fn start() -> Name {
-    Name::Other
+// Before the first record.
+pub fn start() -> TraceLine {
+    TraceLine {
+        is_end: false,
+        length: 0,
+        next: 0,
+        after: Name::Other,
+    }
 }
 
-// The line of the record at a place of the log, at the front of out. The lent row is for the record's bits.
-pub fn line(log: &[u8], at: usize, after: Name, row: &mut [u8], out: &mut [u8]) -> TraceLine {
+// The line of the next record, at the front of out. The lent row is for the record's bits.
+pub fn next_line(log: &[u8], last: TraceLine, row: &mut [u8], out: &mut [u8]) -> TraceLine {
+    let after = last.after;
+    record_line(log, last.next, after, row, out)
+}
+
+// The line of the record at a place of the log.
+fn record_line(log: &[u8], at: usize, after: Name, row: &mut [u8], out: &mut [u8]) -> TraceLine {
     let r = log::record_at(log, at);
     match r {
         Record::Sent { start, bits, next } => {
@@ -67,7 +78,7 @@ fn silence(next: usize, after: Name, out: &mut [u8]) -> TraceLine {
 }
 
 fn sent(row: &[u8], next: usize, out: &mut [u8]) -> TraceLine {
-    let after = frames::name(row);
+    let after = frames::name_of(row);
     let p = bench_text::put(out, 0, b"> ");
     let q = frames::put_sent_name(out, p, row, after);
     TraceLine {
@@ -91,8 +102,10 @@ fn heard(row: &[u8], next: usize, after: Name, out: &mut [u8]) -> TraceLine {
 
 // The bits of a record, 2 where a mark is set, into the lent row as far as it has room.
 fn unpack(log: &[u8], start: usize, marks: usize, bits: usize, row: &mut [u8]) {
-    let n = bench::front(row, bits).len();
-    for i in 0..n {
+    for i in 0..row.len() {
+        if bits <= i {
+            return;
+        }
         row[i] = shown(log::bit_at(log, start, i), log::bit_at(log, marks, i));
     }
 }
