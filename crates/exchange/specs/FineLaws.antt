@@ -30,16 +30,7 @@ use Rattle.reader_link.specs.declared.ReaderPhase.the-variants.{Open, Talking, 
 use Rattle.reader_link.specs.declared.ReaderLink.{ReaderLink}
 use Rattle.reader_link.specs.declared.ReaderStep.{ReaderStep}
 use Rattle.reader_link.specs.ReaderRules.{readerKeeps, stops, readerI, readerAgain, ackOwn, ackOther, readerJoins, asksAgain, awaitsI, readerRepeats, readerEchoes, readerTakesI, readerTakesAck, readerRules, readerTakes, isOpen, readerStarts}
-use Rattle.exchange.specs.Exchange.{isQuiet}
-
-abbrev pub Fine : Block → Type 0
-Fine (Wtx v) = v < 256
-Fine Deselect = ⊥
-Fine (I n chained) = Unit
-Fine (Ack n) = Unit
-Fine (Nak n) = Unit
-Fine Unknown = Unit
-Fine Nothing = Unit
+use Rattle.exchange.specs.Exchange.{isQuiet, Fine}
 
 -- the bytes of such a block are bytes
 pub fine-bytes : (b : Block) (p : List ℕ) → Fine b → Bytes p → Bytes (blockBytes b p)
