@@ -5,8 +5,7 @@ use mathlib.Core.Bool.{cond}
 use mathlib.Core.Path.{_≡_}
 use mathlib.Core.List.{List, [], _∷_, _++_, map}
 use lib.ListN.{length}
-use Rattle.rows.specs.Rows.{overlay, Bytes}
-use Rattle.refusal.specs.declared.Refusal.{Refusal}
+use Rattle.rows.specs.Rows.{overlay}
 use Rattle.card.specs.declared.CardState.the-variants.{Protocol}
 use Rattle.reader.specs.declared.Answer.{Answer}
 use Rattle.reader.specs.declared.Answer.the-variants.{Sends, Finds, Selects, Finishes, Declines}

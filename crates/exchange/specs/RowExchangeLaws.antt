@@ -1,15 +1,12 @@
 -- The exchange on rows is the exchange on bytes, since a frame with CRC_A which is not too long reads back as the bytes that were sent.
 use mathlib.Core.Path.{_≡_, refl, sym, ap, _∙_}
-use mathlib.Core.Bool.{Bool, true, false, cond, not, false≢true}
-use mathlib.Core.List.{List, [], _∷_, _++_, map}
+use mathlib.Core.Bool.{Bool, true, false, cond, false≢true}
+use mathlib.Core.List.{List, [], map}
 use Prim.Native.Nat.{ℕ, zero, suc, _+_, _≤_}
-use native.Mathlib.Omega.{arith}
 use lib.ListN.{length, replicate}
-use lib.Dec.{leb, ltb}
-use borrow.Author.Tests.{le-leb}
-use Rattle.rows.specs.Rows.{Bytes, overlay}
-use Rattle.crc.specs.Crc.{withCrc}
-use Rattle.frame.specs.Frame.{standard, readCrc, Verdict, Good}
+use lib.Dec.{leb}
+use Rattle.rows.specs.Rows.{Bytes}
+use Rattle.frame.specs.Frame.{Verdict}
 use Rattle.card.specs.declared.Card.{Card}
 use Rattle.card.specs.declared.CardState.the-variants.{Protocol}
 use Rattle.reader.specs.declared.Reader.{Reader}
@@ -23,24 +20,22 @@ use Rattle.block.specs.Out.{Out}
 use Rattle.block.specs.Row.{blockRow}
 use Rattle.card_link.specs.declared.CardLink.{CardLink}
 use Rattle.card_link.specs.declared.CardStep.{CardStep}
-use Rattle.card_link.specs.declared.LinkCard.{LinkCard}
 use Rattle.card_link.specs.CardRules.{cardOpen, owes, cardSilent, cardI, cardTakes, cardReplies}
 use Rattle.card_link.specs.CardFrames.{cardOut, cardBlock, cardReply}
-use Rattle.card_link.specs.CardCalls.{rowRoom, leftBy, withRow, owing, takeCall, replyCall}
+use Rattle.card_link.specs.CardCalls.{rowRoom, leftBy, owing, takeCall, replyCall}
 use Rattle.card_link.specs.CardRowLaws.{take-block, reply-block}
 use Rattle.reader_link.specs.declared.ReaderPhase.{ReaderPhase}
 use Rattle.reader_link.specs.declared.ReaderPhase.the-variants.{Open, Talking, Leaving, Finished, Stopped}
 use Rattle.reader_link.specs.declared.ReaderLink.{ReaderLink}
 use Rattle.reader_link.specs.declared.Link.{Link}
 use Rattle.reader_link.specs.declared.Link.the-variants.{Linked}
-use Rattle.reader_link.specs.declared.LinkReader.{LinkReader}
 use Rattle.reader_link.specs.declared.LinkAnswer.the-variants.{Blocks}
 use Rattle.reader_link.specs.declared.ReaderStep.{ReaderStep}
 use Rattle.reader_link.specs.ReaderRules.{readerOpen, readerKeeps, readerI, readerTakes, isOpen, readerStarts}
 use Rattle.reader_link.specs.ReaderFrames.{readerOut, readerBlock, readerSend}
-use Rattle.reader_link.specs.ReaderCalls.{Called, linked, linking, awaitsBlock, hearCall}
+use Rattle.reader_link.specs.ReaderCalls.{linked, linking, awaitsBlock, hearCall}
 use Rattle.reader_link.specs.ReaderRowLaws.{hear-block, send-block}
-use Rattle.exchange.specs.Exchange.{Ends, Answers, clean, acts, Passed, passes, Run, isQuiet, exchange, talk, Fine, Between, Exchanged}
+use Rattle.exchange.specs.Exchange.{Ends, clean, Passed, passes, Run, isQuiet, exchange, talk, Fine, Between, Exchanged}
 use Rattle.exchange.specs.ExchangeLaws.{passed, exchanged-in, after-ats}
 use Rattle.exchange.specs.RowExchange.{RowEnds, RowPassed, rowPasses, RowRun, rowExchange, rowTalk, RowBetween, Terms, RowExchanged}
 use Rattle.exchange.specs.FineLaws.{fine-bytes, part-bytes, leaves, FineCard, takes-fine, replies-fine, talks, fine-heard, Goes, FineReader, hears-fine, starts-fine, quiet-talks}
