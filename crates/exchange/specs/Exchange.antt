@@ -9,18 +9,18 @@ use Rattle.block.specs.declared.Block.{Block}
 use Rattle.block.specs.declared.Block.the-variants.{I, Ack, Nak, Deselect, Wtx, Unknown, Nothing}
 use Rattle.block.specs.declared.Told.{Told}
 use Rattle.block.specs.declared.Told.the-variants.{Quiet, Message, Granted, Deselected, Refused}
-use Rattle.card_link.specs.declared.CardPhase.the-variants.{Receiving}
-use Rattle.card_link.specs.declared.CardLink.{CardLink}
-use Rattle.reader_link.specs.declared.ReaderLink.{ReaderLink}
+use Rattle.card_blocks.specs.declared.CardPhase.the-variants.{Receiving}
+use Rattle.card_blocks.specs.declared.CardLink.{CardLink}
+use Rattle.reader_blocks.specs.declared.ReaderLink.{ReaderLink}
 use Rattle.rows.specs.Rows.{overlay}
 use Rattle.frame.specs.Frame.{Verdict, Good, Fault}
 use Rattle.block.specs.Cut.{fewest}
 use Rattle.block.specs.Out.{Out}
 use Rattle.block.specs.Block.{verdict, heardBlock}
-use Rattle.card_link.specs.CardRules.{owes}
-use Rattle.card_link.specs.CardFrames.{cardBlock, cardReply, cardWtx}
-use Rattle.reader_link.specs.ReaderRules.{readerOpen}
-use Rattle.reader_link.specs.ReaderFrames.{readerBlock, readerSend}
+use Rattle.card_blocks.specs.CardRules.{owes}
+use Rattle.card_blocks.specs.CardFrames.{cardBlock, cardReply, cardWtx}
+use Rattle.reader_blocks.specs.ReaderRules.{readerOpen}
+use Rattle.reader_blocks.specs.ReaderFrames.{readerBlock, readerSend}
 
 -- a frame on its way arrives, or fails one of the tests 7, 2, 8, 3, 4 where it is heard
 pub data Fate : Type 0 where

@@ -13,11 +13,11 @@ use Rattle.block.specs.declared.Block.{Block}
 use Rattle.block.specs.declared.Block.the-variants.{I, Ack, Nothing}
 use Rattle.block.specs.declared.Told.{Told}
 use Rattle.block.specs.declared.Told.the-variants.{Quiet, Message}
-use Rattle.card_link.specs.declared.CardPhase.the-variants.{Receiving, Owing, Answering}
-use Rattle.card_link.specs.declared.CardLink.{CardLink}
-use Rattle.reader_link.specs.declared.ReaderLink.{ReaderLink}
-use Rattle.reader_link.specs.declared.Turn.{Turn}
-use Rattle.reader_link.specs.declared.Turn.the-variants.{Sending, Awaiting, Joining}
+use Rattle.card_blocks.specs.declared.CardPhase.the-variants.{Receiving, Owing, Answering}
+use Rattle.card_blocks.specs.declared.CardLink.{CardLink}
+use Rattle.reader_blocks.specs.declared.ReaderLink.{ReaderLink}
+use Rattle.reader_blocks.specs.declared.Turn.{Turn}
+use Rattle.reader_blocks.specs.declared.Turn.the-variants.{Sending, Awaiting, Joining}
 use Rattle.rows.specs.Rows.{overlay}
 use Rattle.rows.specs.RowLaws.{overlay-nil, overlay-next, length-overlay}
 use Rattle.frame.specs.Frame.{Good}
@@ -25,10 +25,10 @@ use Rattle.block.specs.Cut.{payloadMax, follows, part, fewest, messageMax}
 use Rattle.block.specs.Out.{Out}
 use Rattle.block.specs.Block.{kind, verdict, heardBlock, blockBytes}
 use Rattle.block.specs.CutLaws.{fewest-last, fewest-next, fewest-some, fewest-most, part-full, part-fits, part-rest, part-in, take-part}
-use Rattle.card_link.specs.CardRules.{cardOpen, owes}
-use Rattle.card_link.specs.CardFrames.{cardBlock}
-use Rattle.reader_link.specs.ReaderRules.{lastIsOut, readerOpen}
-use Rattle.reader_link.specs.ReaderFrames.{readerBlock, readerSend}
+use Rattle.card_blocks.specs.CardRules.{cardOpen, owes}
+use Rattle.card_blocks.specs.CardFrames.{cardBlock}
+use Rattle.reader_blocks.specs.ReaderRules.{lastIsOut, readerOpen}
+use Rattle.reader_blocks.specs.ReaderFrames.{readerBlock, readerSend}
 use Rattle.exchange.specs.Exchange.{Round, Answers, clean, Ends, carried, acts, delivered, passes, Run, isQuiet, over, exchange, talk, isI, countI, Between, Exchanged}
 use Rattle.exchange.specs.StepLaws.{card, reader, card-chained, card-last, card-reply, card-acked, reader-start, reader-acked, reader-chained, reader-last}
 

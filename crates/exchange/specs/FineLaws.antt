@@ -18,18 +18,18 @@ use Rattle.frame.specs.Frame.{Good, Fault}
 use Rattle.selection.specs.Selection.{size}
 use Rattle.refusal.specs.declared.Refusal.the-variants.{Length}
 use Rattle.block.specs.Block.{blockBytes, wtxOk, kind, heardBlock, verdict}
-use Rattle.card_link.specs.declared.CardPhase.{CardPhase}
-use Rattle.card_link.specs.declared.CardPhase.the-variants.{Receiving, Owing, Waiting, Answering}
-use Rattle.card_link.specs.declared.CardLink.{CardLink}
-use Rattle.card_link.specs.declared.CardStep.{CardStep}
-use Rattle.card_link.specs.CardRules.{cardSilent, cardI, cardJoins, cardNext, cardGranted, cardTakesI, cardTakesAck, cardTakesNak, cardRules, owes, cardTakes, cardReplies}
-use Rattle.reader_link.specs.declared.Turn.{Turn}
-use Rattle.reader_link.specs.declared.Turn.the-variants.{Sending, Awaiting, Joining}
-use Rattle.reader_link.specs.declared.ReaderPhase.{ReaderPhase}
-use Rattle.reader_link.specs.declared.ReaderPhase.the-variants.{Open, Talking, Leaving, Finished, Stopped}
-use Rattle.reader_link.specs.declared.ReaderLink.{ReaderLink}
-use Rattle.reader_link.specs.declared.ReaderStep.{ReaderStep}
-use Rattle.reader_link.specs.ReaderRules.{stops, readerI, readerAgain, ackOwn, ackOther, readerJoins, asksAgain, awaitsI, readerRepeats, readerEchoes, readerTakesI, readerTakesAck, readerRules, readerTakes, isOpen, readerStarts}
+use Rattle.card_blocks.specs.declared.CardPhase.{CardPhase}
+use Rattle.card_blocks.specs.declared.CardPhase.the-variants.{Receiving, Owing, Waiting, Answering}
+use Rattle.card_blocks.specs.declared.CardLink.{CardLink}
+use Rattle.card_blocks.specs.declared.CardStep.{CardStep}
+use Rattle.card_blocks.specs.CardRules.{cardSilent, cardI, cardJoins, cardNext, cardGranted, cardTakesI, cardTakesAck, cardTakesNak, cardRules, owes, cardTakes, cardReplies}
+use Rattle.reader_blocks.specs.declared.Turn.{Turn}
+use Rattle.reader_blocks.specs.declared.Turn.the-variants.{Sending, Awaiting, Joining}
+use Rattle.reader_blocks.specs.declared.ReaderPhase.{ReaderPhase}
+use Rattle.reader_blocks.specs.declared.ReaderPhase.the-variants.{Open, Talking, Leaving, Finished, Stopped}
+use Rattle.reader_blocks.specs.declared.ReaderLink.{ReaderLink}
+use Rattle.reader_blocks.specs.declared.ReaderStep.{ReaderStep}
+use Rattle.reader_blocks.specs.ReaderRules.{stops, readerI, readerAgain, ackOwn, ackOther, readerJoins, asksAgain, awaitsI, readerRepeats, readerEchoes, readerTakesI, readerTakesAck, readerRules, readerTakes, isOpen, readerStarts}
 use Rattle.exchange.specs.Exchange.{isQuiet, Fine}
 
 -- the bytes of such a block are bytes

@@ -17,13 +17,13 @@ use Rattle.block.specs.Block.{heardBlock, payload}
 use Rattle.block.specs.Cut.{fits}
 use Rattle.block.specs.CutLaws.{fits-true}
 use Rattle.block.specs.Row.{heardRow}
-use Rattle.card_link.specs.declared.CardPhase.{CardPhase}
-use Rattle.card_link.specs.declared.CardPhase.the-variants.{Receiving, Owing, Waiting, Answering}
-use Rattle.card_link.specs.declared.CardLink.{CardLink}
-use Rattle.card_link.specs.declared.CardStep.{CardStep}
+use Rattle.card_blocks.specs.declared.CardPhase.{CardPhase}
+use Rattle.card_blocks.specs.declared.CardPhase.the-variants.{Receiving, Owing, Waiting, Answering}
+use Rattle.card_blocks.specs.declared.CardLink.{CardLink}
+use Rattle.card_blocks.specs.declared.CardStep.{CardStep}
 use Rattle.card_link.specs.declared.LinkCard.{LinkCard}
-use Rattle.card_link.specs.CardRules.{cardSilent, cardI, cardJoins, cardNext, cardGranted, cardTakesI, cardTakesAck, cardTakesNak, cardRules, owes, cardTakes}
-use Rattle.card_link.specs.CardFrames.{cardOut, cardBlock}
+use Rattle.card_blocks.specs.CardRules.{cardSilent, cardI, cardJoins, cardNext, cardGranted, cardTakesI, cardTakesAck, cardTakesNak, cardRules, owes, cardTakes}
+use Rattle.card_blocks.specs.CardFrames.{cardOut, cardBlock}
 use Rattle.card_link.specs.CardCalls.{owing, declined, called, takesOutside, takesInside, takesIn, takeCall}
 
 -- how many bytes the message has that a host is told of

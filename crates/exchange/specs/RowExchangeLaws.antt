@@ -18,21 +18,21 @@ use Rattle.block.specs.Cut.{messageMax, fewest, part}
 use Rattle.block.specs.Block.{verdict, heardBlock, payload, blockBytes}
 use Rattle.block.specs.Out.{Out}
 use Rattle.block.specs.Row.{blockRow}
-use Rattle.card_link.specs.declared.CardLink.{CardLink}
-use Rattle.card_link.specs.declared.CardStep.{CardStep}
-use Rattle.card_link.specs.CardRules.{cardOpen, owes, cardSilent, cardI, cardTakes, cardReplies}
-use Rattle.card_link.specs.CardFrames.{cardOut, cardBlock, cardReply}
+use Rattle.card_blocks.specs.declared.CardLink.{CardLink}
+use Rattle.card_blocks.specs.declared.CardStep.{CardStep}
+use Rattle.card_blocks.specs.CardRules.{cardOpen, owes, cardSilent, cardI, cardTakes, cardReplies}
+use Rattle.card_blocks.specs.CardFrames.{cardOut, cardBlock, cardReply}
 use Rattle.card_link.specs.CardCalls.{rowRoom, leftBy, owing, takeCall, replyCall}
 use Rattle.card_link.specs.CardRowLaws.{take-block, reply-block}
-use Rattle.reader_link.specs.declared.ReaderPhase.{ReaderPhase}
-use Rattle.reader_link.specs.declared.ReaderPhase.the-variants.{Open, Talking, Leaving, Finished, Stopped}
-use Rattle.reader_link.specs.declared.ReaderLink.{ReaderLink}
+use Rattle.reader_blocks.specs.declared.ReaderPhase.{ReaderPhase}
+use Rattle.reader_blocks.specs.declared.ReaderPhase.the-variants.{Open, Talking, Leaving, Finished, Stopped}
+use Rattle.reader_blocks.specs.declared.ReaderLink.{ReaderLink}
 use Rattle.reader_link.specs.declared.Link.{Link}
 use Rattle.reader_link.specs.declared.Link.the-variants.{Linked}
 use Rattle.reader_link.specs.declared.LinkAnswer.the-variants.{Blocks}
-use Rattle.reader_link.specs.declared.ReaderStep.{ReaderStep}
-use Rattle.reader_link.specs.ReaderRules.{readerOpen, readerKeeps, readerI, readerTakes, isOpen, readerStarts}
-use Rattle.reader_link.specs.ReaderFrames.{readerOut, readerBlock, readerSend}
+use Rattle.reader_blocks.specs.declared.ReaderStep.{ReaderStep}
+use Rattle.reader_blocks.specs.ReaderRules.{readerOpen, readerKeeps, readerI, readerTakes, isOpen, readerStarts}
+use Rattle.reader_blocks.specs.ReaderFrames.{readerOut, readerBlock, readerSend}
 use Rattle.reader_link.specs.ReaderCalls.{linked, linking, awaitsBlock, hearCall}
 use Rattle.reader_link.specs.ReaderRowLaws.{hear-block, send-block}
 use Rattle.exchange.specs.Exchange.{Ends, clean, Passed, passes, Run, isQuiet, exchange, talk, Fine, Between, Exchanged}

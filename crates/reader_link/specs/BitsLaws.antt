@@ -28,7 +28,7 @@ use Rattle.reader.specs.declared.Turn.{Turn}
 use Rattle.reader.specs.Reader.{sends, finds, opens, afterAtqa, hearAtqa, afterRest, hearRest, completes, afterSak, b3, sakHeard, hearSak, hearSilence, hearIn, hear}
 use Rattle.reader.specs.Calls.{sentBy}
 use Rattle.block.specs.Out.{Out}
-use Rattle.reader_link.specs.declared.ReaderLink.{ReaderLink}
+use Rattle.reader_blocks.specs.declared.ReaderLink.{ReaderLink}
 use Rattle.reader_link.specs.declared.Link.{Link}
 use Rattle.reader_link.specs.declared.Link.the-variants.{NoLink, RatsSent, Linked}
 use Rattle.reader_link.specs.declared.LinkReader.{LinkReader}

@@ -32,17 +32,17 @@ use Rattle.block.specs.declared.Told.{Told}
 use Rattle.block.specs.declared.Told.the-variants.{Quiet, Refused}
 use Rattle.block.specs.Out.{Out}
 use Rattle.block.specs.Row.{blockRow, heardRow}
-use Rattle.reader_link.specs.declared.ReaderPhase.{ReaderPhase}
-use Rattle.reader_link.specs.declared.ReaderPhase.the-variants.{Open, Talking, Leaving, Finished, Stopped}
-use Rattle.reader_link.specs.declared.ReaderLink.{ReaderLink}
+use Rattle.reader_blocks.specs.declared.ReaderPhase.{ReaderPhase}
+use Rattle.reader_blocks.specs.declared.ReaderPhase.the-variants.{Open, Talking, Leaving, Finished, Stopped}
+use Rattle.reader_blocks.specs.declared.ReaderLink.{ReaderLink}
 use Rattle.reader_link.specs.declared.Link.{Link}
 use Rattle.reader_link.specs.declared.Link.the-variants.{NoLink, RatsSent, Linked}
 use Rattle.reader_link.specs.declared.LinkReader.{LinkReader}
 use Rattle.reader_link.specs.declared.LinkAnswer.{LinkAnswer}
 use Rattle.reader_link.specs.declared.LinkAnswer.the-variants.{Selection, Opens, Blocks}
 use Rattle.reader_link.specs.declared.LinkTurn.{LinkTurn}
-use Rattle.reader_link.specs.ReaderRules.{readerOpen, isOpen}
-use Rattle.reader_link.specs.ReaderFrames.{readerBlock, readerSend, readerDeselect}
+use Rattle.reader_blocks.specs.ReaderRules.{readerOpen, isOpen}
+use Rattle.reader_blocks.specs.ReaderFrames.{readerBlock, readerSend, readerDeselect}
 
 -- no frame sent yet
 abbrev pub newReader : LinkReader

@@ -23,15 +23,15 @@ use Rattle.block.specs.Block.{blockBytes, bytesIn, behind}
 use Rattle.block.specs.Cut.{part}
 use Rattle.block.specs.AirLaws.{made-row}
 use Rattle.block.specs.Row.{blockRow, heardRow}
-use Rattle.reader_link.specs.declared.ReaderLink.{ReaderLink}
-use Rattle.reader_link.specs.declared.ReaderStep.{ReaderStep}
+use Rattle.reader_blocks.specs.declared.ReaderLink.{ReaderLink}
+use Rattle.reader_blocks.specs.declared.ReaderStep.{ReaderStep}
 use Rattle.reader_link.specs.declared.Link.{Link}
 use Rattle.reader_link.specs.declared.Link.the-variants.{NoLink, RatsSent, Linked}
 use Rattle.reader_link.specs.declared.LinkReader.{LinkReader}
 use Rattle.reader_link.specs.declared.LinkAnswer.the-variants.{Blocks}
 use Rattle.reader_link.specs.declared.LinkTurn.{LinkTurn}
-use Rattle.reader_link.specs.ReaderFrames.{readerHears, readerOut, readerBlock}
-use Rattle.reader_link.specs.ReaderLaws.{block-bytes}
+use Rattle.reader_blocks.specs.ReaderFrames.{readerHears, readerOut, readerBlock}
+use Rattle.reader_blocks.specs.ReaderLaws.{block-bytes}
 use Rattle.reader_link.specs.ReaderCalls.{Called, called, declinedBy, tested, selecting, linked, linking, afterAts, hearsIn, isNewIn}
 
 -- ---- what is handed back

@@ -2,7 +2,7 @@
 use mathlib.Core.Path.{refl, sym, ap, _∙_}
 use mathlib.Core.List.{[]}
 use denote.Ref.{now}
-use Rattle.reader_link.specs.ReaderFrames.{readerOut, readerSend}
+use Rattle.reader_blocks.specs.ReaderFrames.{readerOut, readerSend}
 use Rattle.reader_link.specs.ReaderCalls.{linking, sendIn}
 use Rattle.reader_link.specs.WholeLaws.{two, declined-at}
 use borrow.Author.Needs.{needs}
