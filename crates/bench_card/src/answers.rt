@@ -1,9 +1,10 @@
 // The answers: a result, ` ; ` and the state after it.
 use crate::Bench;
 use crate::Reply;
-use card::Card;
-use card::CardAnswer;
+use block::Told;
 use card::CardState;
+use card_link::CardTurn;
+use card_link::LinkCard;
 use refusal::Refusal;
 use uid::Level;
 
@@ -12,18 +13,18 @@ pub fn none(bench: Bench) -> Reply {
     Reply { bench, length: 0 }
 }
 
-pub fn with_card(bench: Bench, card: Card) -> Bench {
+// The bench with this card.
+pub fn with_card(bench: Bench, card: LinkCard) -> Bench {
     Bench {
-        has_card: bench.has_card,
+        has_card: true,
         card,
         room: bench.room,
-        message: bench.message,
+        answer: bench.answer,
     }
 }
 
 pub fn ok(bench: Bench, out: &mut [u8]) -> Reply {
-    let n = bench_text::put(out, 0, b"ok");
-    state(bench, out, n)
+    result(bench, b"ok", out)
 }
 
 pub fn refused(bench: Bench, e: Refusal, out: &mut [u8]) -> Reply {
@@ -38,20 +39,60 @@ pub fn room(bench: Bench, out: &mut [u8]) -> Reply {
     Reply { bench, length }
 }
 
-// What the card answers to a row; the bits that it sends stand at the front of sent.
-pub fn taken(bench: Bench, answer: CardAnswer, sent: &[u8], out: &mut [u8]) -> Reply {
-    match answer {
-        CardAnswer::Sends(n) => {
-            let p = bench_text::put(out, 0, b"answer ");
-            let q = bench_text::put_row(out, p, bench::front(sent, n));
-            state(bench, out, q)
-        }
-        CardAnswer::Silent => {
-            let p = bench_text::put(out, 0, b"silent");
-            state(bench, out, p)
-        }
-        CardAnswer::NotTaken(e) => refused(bench, e, out),
+// What comes of a frame; the bits that the card sends stand at the front of sent, a whole message at the front of message.
+pub fn taken(bench: Bench, t: CardTurn, sent: &[u8], message: &[u8], out: &mut [u8]) -> Reply {
+    let card = t.card;
+    let told = t.told;
+    let after = with_card(bench, card);
+    match told {
+        Told::Quiet => answer(after, bench::front(sent, t.bits), out),
+        Told::Message(n) => delivered(after, bench::front(message, n), out),
+        Told::Granted => result(after, b"again", out),
+        Told::Deselected => answer(after, bench::front(sent, t.bits), out),
+        Told::Refused(e) => declined(after, e, out),
     }
+}
+
+// What comes of a host's call: it sends, or it is refused.
+pub fn called(bench: Bench, t: CardTurn, sent: &[u8], out: &mut [u8]) -> Reply {
+    let card = t.card;
+    let told = t.told;
+    let after = with_card(bench, card);
+    let Told::Refused(e) = told else {
+        return answer(after, bench::front(sent, t.bits), out);
+    };
+    refused(after, e, out)
+}
+
+// A frame that is declined. An I that does not fit is silence on the air, and its host is told 10.
+fn declined(bench: Bench, e: Refusal, out: &mut [u8]) -> Reply {
+    if refusal::number(e) == 10 {
+        return result(bench, b"told 10", out);
+    }
+    refused(bench, e, out)
+}
+
+// `answer ROW`, or `silent` where it is empty.
+fn answer(bench: Bench, row: &[u8], out: &mut [u8]) -> Reply {
+    if row.len() == 0 {
+        return result(bench, b"silent", out);
+    }
+    let p = bench_text::put(out, 0, b"answer ");
+    let q = bench_text::put_row(out, p, row);
+    state(bench, out, q)
+}
+
+// `delivered HEX`
+fn delivered(bench: Bench, message: &[u8], out: &mut [u8]) -> Reply {
+    let p = bench_text::put(out, 0, b"delivered ");
+    let q = bench_text::put_hex(out, p, message);
+    state(bench, out, q)
+}
+
+// A result of words alone.
+fn result(bench: Bench, words: &[u8], out: &mut [u8]) -> Reply {
+    let n = bench_text::put(out, 0, words);
+    state(bench, out, n)
 }
 
 // ` ; ` and the state, behind a result.
@@ -61,7 +102,8 @@ fn state(bench: Bench, out: &mut [u8], at: usize) -> Reply {
         let length = bench_text::put(out, p, b"none");
         return Reply { bench, length };
     }
-    let card = bench.card;
+    let link_card = bench.card;
+    let card = link_card.card;
     let s = card.state;
     let length = put_state(out, p, s);
     Reply { bench, length }

@@ -1,16 +1,16 @@
 // The lines. Each function answers the bench after the line, and how many bytes of out are the answer: 0 where the line is not understood.
+// The host's answer and the message buffer are lent from line to line.
 use crate::Bench;
 use crate::Reply;
 use crate::answers;
 use bench_lines::RowLine;
-use refusal::Refusal;
 use uid::Made;
 
 pub fn script(
     bench: Bench,
     text: &[u8],
-    bytes: &mut [u8],
-    row: &mut [u8],
+    answer: &mut [u8],
+    message: &mut [u8],
     out: &mut [u8],
 ) -> Reply {
     let name = bench::word(text, 0);
@@ -27,7 +27,7 @@ pub fn script(
     if !bench.has_card {
         return answers::none(bench);
     }
-    due(bench, name, value, bytes, row, out)
+    due(bench, name, value, answer, message, out)
 }
 
 // The lines that need a card.
@@ -35,24 +35,20 @@ fn due(
     bench: Bench,
     name: &[u8],
     value: &[u8],
-    bytes: &mut [u8],
-    row: &mut [u8],
+    answer: &mut [u8],
+    message: &mut [u8],
     out: &mut [u8],
 ) -> Reply {
     if rows::is_same(name, b"power") {
         return power(bench, value, out);
     }
     if rows::is_same(name, b"reply") {
-        return reply(bench, value, bytes, out);
+        return reply(bench, value, answer, out);
     }
     if rows::is_same(name, b"wtx") {
         return wtx(bench, value, out);
     }
-    let r = bench_lines::row_line(name, value, bytes, row);
-    match r {
-        RowLine::Bits(n) => take(bench, bench::front(row, n), out),
-        RowLine::NotUnderstood => answers::none(bench),
-    }
+    frame(bench, name, value, answer, message, out)
 }
 
 // `card UID SAK INDEX`
@@ -60,27 +56,20 @@ fn new_card(bench: Bench, text: &[u8], out: &mut [u8]) -> Reply {
     if bench::word(text, 4).len() != 0 {
         return answers::none(bench);
     }
-    let l = bench_lines::card_line(
+    let w = bench_lines::card_words(
         bench::word(text, 1),
         bench::word(text, 2),
         bench::word(text, 3),
     );
-    if !l.is_understood {
+    if !w.is_understood {
         return answers::none(bench);
     }
-    let new = l.new;
+    let bytes = w.uid;
+    let new = card_link::whole::new_card(bench::front(&bytes, w.length), w.blocks, w.index);
     let made = new.made;
     let card = new.card;
     match made {
-        Made::Good => answers::ok(
-            Bench {
-                has_card: true,
-                card,
-                room: bench.room,
-                message: bench.message,
-            },
-            out,
-        ),
+        Made::Good => answers::ok(answers::with_card(bench, card), out),
         Made::NotMade(e) => answers::refused(bench, e, out),
     }
 }
@@ -97,7 +86,7 @@ fn room(bench: Bench, value: &[u8], out: &mut [u8]) -> Reply {
             has_card: bench.has_card,
             card,
             room: n,
-            message: bench.message,
+            answer: bench.answer,
         },
         out,
     )
@@ -107,37 +96,73 @@ fn room(bench: Bench, value: &[u8], out: &mut [u8]) -> Reply {
 fn power(bench: Bench, value: &[u8], out: &mut [u8]) -> Reply {
     let card = bench.card;
     if rows::is_same(value, b"on") {
-        return answers::ok(answers::with_card(bench, card::power_on(card)), out);
+        return answers::ok(
+            answers::with_card(bench, card_link::whole::power_on(card)),
+            out,
+        );
     }
     if rows::is_same(value, b"off") {
-        return answers::ok(answers::with_card(bench, card::power_off(card)), out);
+        return answers::ok(
+            answers::with_card(bench, card_link::whole::power_off(card)),
+            out,
+        );
     }
     answers::none(bench)
 }
 
-// `reply HEX`: the message is kept until the next one.
-fn reply(bench: Bench, value: &[u8], bytes: &mut [u8], out: &mut [u8]) -> Reply {
-    let n = bench_lines::count_bytes(value, bytes);
-    if bytes.len() < n {
+// `reply HEX`: the host's answer, kept until the next one, also where the core declines it.
+fn reply(bench: Bench, value: &[u8], answer: &mut [u8], out: &mut [u8]) -> Reply {
+    let n = bench_lines::count_bytes(value, answer);
+    if answer.len() < n {
         return answers::none(bench);
     }
-    answers::refused(bench, Refusal::NotDue, out)
+    let mut sent = [0u8; 2304];
+    let card = bench.card;
+    let t = card_link::whole::reply(card, bench::front(answer, n), &mut sent);
+    let after = Bench {
+        has_card: bench.has_card,
+        card,
+        room: bench.room,
+        answer: n,
+    };
+    answers::called(after, t, &sent, out)
 }
 
 // `wtx N`, 0 to 255
 fn wtx(bench: Bench, value: &[u8], out: &mut [u8]) -> Reply {
-    if bench_lines::small_number(value) > 255 {
+    let n = bench_lines::small_number(value);
+    if n > 255 {
         return answers::none(bench);
     }
-    answers::refused(bench, Refusal::NotDue, out)
+    let mut sent = [0u8; 2304];
+    let card = bench.card;
+    let t = card_link::whole::ask(card, bench_lines::within_byte(n), &mut sent);
+    answers::called(bench, t, &sent, out)
+}
+
+// The lines that hand the card a row.
+fn frame(
+    bench: Bench,
+    name: &[u8],
+    value: &[u8],
+    answer: &[u8],
+    message: &mut [u8],
+    out: &mut [u8],
+) -> Reply {
+    let mut row = [0u8; 73746];
+    let r = bench_lines::row_line(name, value, &mut row);
+    match r {
+        RowLine::Bits(n) => take(bench, bench::front(&row, n), answer, message, out),
+        RowLine::NotUnderstood => answers::none(bench),
+    }
 }
 
 // The card takes a row.
-fn take(bench: Bench, heard: &[u8], out: &mut [u8]) -> Reply {
-    let mut sent = [0u8; 45];
+fn take(bench: Bench, heard: &[u8], answer: &[u8], message: &mut [u8], out: &mut [u8]) -> Reply {
+    let mut sent = [0u8; 2304];
     let card = bench.card;
-    let t = card::take(card, heard, &mut sent);
-    let answer = t.answer;
-    let after = t.card;
-    answers::taken(answers::with_card(bench, after), answer, &sent, out)
+    let host = bench::front(answer, bench.answer);
+    let room = bench_text::within::least(bench.room, message.len());
+    let t = card_link::whole::take(card, heard, host, &mut message[..room], &mut sent);
+    answers::taken(bench, t, &sent, message, out)
 }
