@@ -4,6 +4,7 @@ use crate::Bench;
 use crate::Reply;
 use crate::answers;
 use bench_lines::RowLine;
+use card_link::whole;
 use uid::Made;
 
 pub fn script(
@@ -65,7 +66,7 @@ fn new_card(bench: Bench, text: &[u8], out: &mut [u8]) -> Reply {
         return answers::none(bench);
     }
     let bytes = w.uid;
-    let new = card_link::whole::new_card(bench::front(&bytes, w.length), w.blocks, w.index);
+    let new = whole::new_card(bench::front(&bytes, w.length), w.blocks, w.index);
     let made = new.made;
     let card = new.card;
     match made {
@@ -96,16 +97,10 @@ fn room(bench: Bench, value: &[u8], out: &mut [u8]) -> Reply {
 fn power(bench: Bench, value: &[u8], out: &mut [u8]) -> Reply {
     let card = bench.card;
     if rows::is_same(value, b"on") {
-        return answers::ok(
-            answers::with_card(bench, card_link::whole::power_on(card)),
-            out,
-        );
+        return answers::ok(answers::with_card(bench, whole::power_on(card)), out);
     }
     if rows::is_same(value, b"off") {
-        return answers::ok(
-            answers::with_card(bench, card_link::whole::power_off(card)),
-            out,
-        );
+        return answers::ok(answers::with_card(bench, whole::power_off(card)), out);
     }
     answers::none(bench)
 }
@@ -118,7 +113,7 @@ fn reply(bench: Bench, value: &[u8], answer: &mut [u8], out: &mut [u8]) -> Reply
     }
     let mut sent = [0u8; 2304];
     let card = bench.card;
-    let t = card_link::whole::reply(card, bench::front(answer, n), &mut sent);
+    let t = whole::reply(card, bench::front(answer, n), &mut sent);
     let after = Bench {
         has_card: bench.has_card,
         card,
@@ -136,7 +131,7 @@ fn wtx(bench: Bench, value: &[u8], out: &mut [u8]) -> Reply {
     }
     let mut sent = [0u8; 2304];
     let card = bench.card;
-    let t = card_link::whole::ask(card, bench_lines::within_byte(n), &mut sent);
+    let t = whole::ask(card, bench_lines::within_byte(n), &mut sent);
     answers::called(bench, t, &sent, out)
 }
 
@@ -163,6 +158,6 @@ fn take(bench: Bench, heard: &[u8], answer: &[u8], message: &mut [u8], out: &mut
     let card = bench.card;
     let host = bench::front(answer, bench.answer);
     let room = bench_text::within::least(bench.room, message.len());
-    let t = card_link::whole::take(card, heard, host, &mut message[..room], &mut sent);
+    let t = whole::take(card, heard, host, &mut message[..room], &mut sent);
     answers::taken(bench, t, &sent, message, out)
 }
