@@ -1,15 +1,14 @@
 -- Laws of sizes and of cutting a message. Assumes nothing.
 use mathlib.Core.Path.{_≡_, refl, sym, _∙_}
 use mathlib.Core.Bool.{Bool, true, false}
-use mathlib.Core.List.{List, [], _∷_, _++_, append-nil}
+use mathlib.Core.List.{List, [], _∷_, _++_}
 use Prim.Native.Nat.{ℕ, zero, suc, _+_, _-_, _*_, _/_, _≤_, _<_, max, min}
-use native.Mathlib.Nat.{mul-suc, zero-add, not-suc-le-zero, lt-of-not-le}
+use native.Mathlib.Nat.{mul-suc, not-suc-le-zero, lt-of-not-le}
 use native.Mathlib.Omega.{arith}
 use lib.Dec.{leb, ltb}
-use lib.ListN.{length, take, drop, getD, List·getD-eq-default, drop-of-length-le, length-append, length-take, length-drop}
-use lib.Seq.{take-add, take-all, drop-drop}
+use lib.ListN.{length, take, drop, getD, List·getD-eq-default, length-append, length-take, length-drop}
+use lib.Seq.{take-add, take-all}
 use borrow.Author.Tests.{lt-ltb, le-ltb, le-leb, lt-leb, leb-true, leb-false}
-use Rattle.rows.specs.Rows.{overlay}
 use Rattle.rows.specs.ListLaws.{is-nil}
 use Rattle.selection.specs.Selection.{size}
 use Rattle.block.specs.Cut.{payloadMax, follows, part, partBytes, fewest, fits, messageMax}
@@ -183,11 +182,3 @@ small-length i (p ∷ ps) h = rw (length-append, mul-suc) (omega (arith, h .0, s
 -- `fewest` is the fewest: no list of payloads that makes up the message is shorter
 pub no-fewer : (i : ℕ) (ps : List (List ℕ)) → Small i ps → 1 ≤ length ps → fewest i (length (joined ps)) ≤ length ps
 no-fewer i ps h g = fewest-least i (length (joined ps)) (length ps) g (small-length i ps h)
-
--- a row written at the front of the part from k on is written at k
-pub overlay-part : (d : List ℕ) (k : ℕ) (s : List ℕ) → k ≤ length d
-    → take k d ++ (overlay (take (length d - k) (drop k d)) 0 s ++ drop (length d - k) (drop k d)) ≡ overlay d k s
-unfolding overlay
-overlay-part d k s h =
-    let e : length (drop k d) ≤ length d - k = simp length-drop (omega arith) in
-    rw (take-all (length d - k) (drop k d) e, drop-of-length-le (drop k d) e, append-nil, zero-add, drop-drop)

@@ -5,3 +5,4 @@ pub mod Out
 pub mod CutLaws
 pub mod BlockLaws
 pub mod HeardLaws
+pub mod AirLaws

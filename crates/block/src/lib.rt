@@ -1,11 +1,14 @@
 // Document 01, "RATS, ATS and blocks": what a block is, its bytes, and how a message is cut into blocks. Neither CID nor NAD.
+
+// A block on the air. Only the crates of this repository call these functions.
+pub mod within;
+
 ghost use mathlib.Core.Path.{_≡_};
 ghost use mathlib.Core.Bool.{cond};
 ghost use mathlib.Core.List.{[], _∷_};
 ghost use Prim.Native.Nat.{_+_, _≤_};
 ghost use lib.ListN.{length};
 ghost use Rattle.rows.specs.Rows.{overlay};
-ghost use Rattle.selection.specs.Selection.{size};
 ghost use Rattle.block.specs.Cut.{payloadMax, follows, part, partBytes, fits};
 ghost use Rattle.block.specs.Block.{firstByte, kind, whole, blockOf, blockBytes, bytesIn, wtxOk};
 use refusal::Refusal;
@@ -37,24 +40,11 @@ pub enum Told {
     Refused(Refusal),
 }
 
-const SIZES: [usize; 8] = [16, 24, 32, 40, 48, 64, 96, 128];
-
-// The size that a size index stands for.
-pub fn size_of(index: u8) -> usize
-    ensures { λ r. ⌜ r ≡ size index ⌝ }
-{
-    let i = index as usize;
-    if i < 8 {
-        return SIZES[i];
-    }
-    256
-}
-
 // The longest payload that goes to a receiver of a size index.
 pub fn payload_max(index: u8) -> usize
     ensures { λ r. ⌜ r ≡ payloadMax index ⌝ }
 {
-    size_of(index) - 3
+    selection::numbers::size_of(index) - 3
 }
 
 // Of a message of len bytes more follows the I that begins at place at.
@@ -182,25 +172,13 @@ pub fn read_block(bytes: &[u8]) -> Block
     whole_block(b, false, bytes.len() == 2, bytes[1])
 }
 
-// Writes bytes to the front of a row that has room for them.
-fn copy_in(out: &mut [u8], s: &[u8])
-    requires { ⌜ length (now s) ≤ length (now out) ⌝ }
-    ensures { λ _. ⌜ now (out .exit) ≡ overlay (now (out .entry)) 0 (now (s .entry)) ⌝ }
-{
-    let mut i: usize = 0;
-    while i < s.len() {
-        out[i] = s[i];
-        i += 1;
-    }
-}
-
 // Writes an accepted payload straight behind the bytes that are joined, where it fits; else nothing changes.
 pub fn join(buffer: &mut [u8], joined: usize, payload: &[u8]) -> bool
     ensures { λ r. ⌜ r ≡ fits (joined + length (now (payload .entry))) (length (now (buffer .entry))) ⌝ }
     ensures { λ r. ⌜ now (buffer .exit) ≡ cond r (overlay (now (buffer .entry)) joined (now (payload .entry))) (now (buffer .entry)) ⌝ }
 {
     if joins_in(joined, payload.len(), buffer.len()) {
-        copy_in(&mut buffer[joined..], payload);
+        rows::within::put(&mut buffer[joined..], 0, payload);
         return true;
     }
     false
@@ -249,7 +227,7 @@ fn payload_in(out: &mut [u8], index: u8, at: usize, message: &[u8]) -> usize
     if n == 0 {
         return 0;
     }
-    copy_in(out, &message[at..at + n]);
+    rows::within::put(out, 0, &message[at..at + n]);
     n
 }
 

@@ -1,14 +1,11 @@
--- The whole card in Protocol, on rows: it does what the block rules say of the bytes that were sent. Assumes that a frame with CRC_A which
--- is not too long reads back as the bytes that were sent.
+-- The whole card in Protocol, on rows: it does what the block rules say of the bytes that were sent. Assumes nothing.
 use mathlib.Core.Path.{_≡_, refl}
-use Prim.Native.Nat.{ℕ, _+_, _≤_}
+use Prim.Native.Nat.{ℕ, _≤_}
 use mathlib.Core.Bool.{Bool, true, false, cond, not}
 use mathlib.Core.List.{List, []}
-use lib.ListN.{length}
 use borrow.Author.Tests.{le-ltb}
 use Rattle.rows.specs.Rows.{Bytes}
-use Rattle.crc.specs.Crc.{withCrc}
-use Rattle.frame.specs.Frame.{standard, readCrc, Verdict, Good}
+use Rattle.frame.specs.Frame.{Verdict}
 use Rattle.refusal.specs.declared.Refusal.the-variants.{NotDue}
 use Rattle.block.specs.declared.Told.the-variants.{Refused}
 use Rattle.card.specs.declared.CardState.the-variants.{Protocol}
@@ -30,15 +27,14 @@ owing-block c v m buffer o = rw o
 
 module _ (x : LinkCard) (i room : ℕ) (s : x .card .state ≡ Protocol i) (h : rowRoom ≤ room) where
   -- a block's row
-  pub take-block : ((most : ℕ) (l : List ℕ) → Bytes l → 1 ≤ length l → length l + 2 ≤ most → readCrc 3 most (standard (withCrc l)) ≡ Good l)
-      → (l m buffer : List ℕ) → Bytes l
+  pub take-block : (l m buffer : List ℕ) → Bytes l
       → takeCall x (blockRow l) m buffer room ≡ withRow (x .card) (cardBlock (x .link) (verdict (x .link .own) l) m buffer)
   unfolding takeCall called takesInside
-  take-block back l m buffer b = go (owes (x .link .phase)) refl
+  take-block l m buffer b = go (owes (x .link .phase)) refl
     where
       go : (t : Bool) → owes (x .link .phase) ≡ t
           → takeCall x (blockRow l) m buffer room ≡ withRow (x .card) (cardBlock (x .link) (verdict (x .link .own) l) m buffer)
-      go false o = rw (s, o, le-ltb room rowRoom h, heard-row back (x .link .own) l b)
+      go false o = rw (s, o, le-ltb room rowRoom h, heard-row (x .link .own) l b)
       go true o = rw (s, o, owing-block (x .link) (verdict (x .link .own) l) m buffer o)
 
   -- the host's answer, where it is due

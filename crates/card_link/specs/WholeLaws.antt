@@ -1,23 +1,13 @@
 -- The whole card's calls, step by step. Assumes nothing.
 use mathlib.Core.Path.{_≡_, refl, sym, ap, ap₂, _∙_}
-use Prim.Native.Nat.{ℕ, _+_, _*_, _≤_, _<_}
-use native.Mathlib.Omega.{arith}
+use Prim.Native.Nat.{ℕ, _≤_, _<_}
 use mathlib.Core.Bool.{Bool, true, false, cond, not}
-use mathlib.Core.List.{List, [], _∷_, _++_}
-use lib.ListN.{length, take, drop, replicate, length-append, length-take}
-use lib.Seq.{length-take-le}
+use mathlib.Core.List.{List, [], _∷_}
+use lib.ListN.{length, take}
 use borrow.Author.Tests.{lt-ltb, le-ltb}
 use Rattle.rows.specs.Rows.{overlay}
-use Rattle.rows.specs.RowLaws.{overlay-nil, overlay-next, overlay-front}
-use Rattle.crc.specs.Crc.{crcBytes, withCrc}
-use Rattle.frame.specs.Frame.{standard, readCrc}
-use Rattle.frame.specs.FrameLaws.{length-standard, standard-append}
-use Rattle.frame.specs.Calls.{goodBytes, readAnswer, bytesAfter}
-use Rattle.frame.specs.CallLaws.{read-verdict, refused-verdict}
-use Rattle.frame.specs.declared.Received.{Received}
-use Rattle.frame.specs.declared.Received.the-variants.{Bytes, NotReceived}
-use Rattle.selection.specs.Selection.{size}
-use Rattle.refusal.specs.declared.Refusal.{Refusal}
+use Rattle.rows.specs.RowLaws.{overlay-nil}
+use Rattle.frame.specs.Calls.{goodBytes}
 use Rattle.refusal.specs.declared.Refusal.the-variants.{Room, NotDue}
 use Rattle.card.specs.Card.{rules, takes, answers}
 use Rattle.card.specs.Calls.{taken, answerOf}
@@ -26,14 +16,11 @@ use Rattle.card.specs.declared.CardAnswer.{CardAnswer}
 use Rattle.card.specs.declared.CardAnswer.the-variants.{Sends, Silent, NotTaken}
 use Rattle.card.specs.declared.CardState.{CardState}
 use Rattle.card.specs.declared.Taken.{Taken}
-use Rattle.block.specs.declared.Block.{Block}
-use Rattle.block.specs.declared.Block.the-variants.{I, Ack, Nak, Deselect, Wtx, Unknown, Nothing}
 use Rattle.block.specs.declared.BlockBytes.{BlockBytes}
 use Rattle.block.specs.declared.Told.the-variants.{Quiet}
 use Rattle.block.specs.Block.{blockBytes, bytesIn, behind}
-use Rattle.block.specs.Cut.{payloadMax, part}
-use Rattle.block.specs.CutLaws.{payload-most}
-use Rattle.block.specs.HeardLaws.{heard-good}
+use Rattle.block.specs.Cut.{part}
+use Rattle.block.specs.AirLaws.{made-row}
 use Rattle.block.specs.Out.{Out}
 use Rattle.block.specs.Row.{blockRow, heardRow}
 use Rattle.card_link.specs.declared.CardLink.{CardLink}
@@ -50,37 +37,7 @@ bitsIn (Sends n) = n
 bitsIn Silent = 0
 bitsIn (NotTaken e) = 0
 
--- ---- a row that is read
-
-front-fits : (d s : List ℕ) → length s ≤ length (overlay d 0 s)
-unfolding overlay
-front-fits d s = simp length-append (omega arith)
-
-module _ (own most room : ℕ) (row out out′ : List ℕ) (r : Received) (s : most ≡ size own) (h : 256 ≤ room) (a : r ≡ readAnswer room (readCrc 3 most row)) (m : out′ ≡ bytesAfter r (readCrc 3 most row) out) where
-  good : goodBytes (heardRow own row) ≡ goodBytes (readCrc 3 most row)
-  good = heard-good own row ∙ ap (λ n. goodBytes (readCrc 3 n row)) (sym s)
-
-  -- a frame that is not good has no bytes, and nothing is written
-  pub row-none : (e : Refusal) → r ≡ NotReceived e
-      → (0 ≡ length (goodBytes (heardRow own row))) × (out′ ≡ overlay out 0 (goodBytes (heardRow own row)))
-  row-none e k =
-      let g : goodBytes (heardRow own row) ≡ [] = good ∙ ap goodBytes (refused-verdict room (readCrc 3 most row) r e h a k) in
-      (rw g, m ∙ rw (k, g) (sym (overlay-nil out 0)))
-
-  -- the bytes of one that is stand at the front
-  pub row-some : (n : ℕ) → r ≡ Bytes n
-      → (n ≡ length (goodBytes (heardRow own row))) × (out′ ≡ overlay out 0 (goodBytes (heardRow own row)))
-  row-some n k =
-      let v = read-verdict room (readCrc 3 most row) r n out out′ a k m in
-      let g : goodBytes (heardRow own row) ≡ take n out′ = good ∙ ap goodBytes (v .0) in
-      (sym (rw g (v .1)), m ∙ rw (k, good))
-
--- bytes read to the front of a row are no more than it holds, and are its first ones
-pub read-fits : (n : ℕ) (out out′ l : List ℕ) → n ≡ length l → out′ ≡ overlay out 0 l → n ≤ length out′
-read-fits n out out′ l e m = rw (e, m) (front-fits out l)
-
-pub read-front : (n : ℕ) (out out′ l : List ℕ) → n ≡ length l → out′ ≡ overlay out 0 l → take n out′ ≡ l
-read-front n out out′ l e m = rw (e, m) (overlay-front out l)
+-- ---- a frame heard and a block sent
 
 -- what is done with a frame's bytes is done with equal ones
 pub heard-as : (c : CardLink) (room len : ℕ) (buffer : List ℕ) {l g b′ : List ℕ} {s : CardStep} → l ≡ g
@@ -88,52 +45,6 @@ pub heard-as : (c : CardLink) (room len : ℕ) (buffer : List ℕ) {l g b′ : L
     → (s ≡ cardHears c g room len) × (b′ ≡ cond (s .joins) (overlay buffer (c .joined) (behind g)) buffer)
 heard-as c room len buffer {l} {g} {b′} {s} e h =
     (h .0 ∙ ap (λ l. cardHears c l room len) e, h .1 ∙ ap (λ l. cond (s .joins) (overlay buffer (c .joined) (behind l)) buffer) e)
-
--- ---- a row that is sent
-
-row-is : (l : List ℕ) → 0 < length l → blockRow l ≡ standard (withCrc l)
-row-is [] h = absurd (omega arith)
-row-is (f ∷ p) h = refl
-
-pub row-put-none : (n : ℕ) (d out : List ℕ) → n ≡ 0 → (0 ≡ length (blockRow (take n d))) × (out ≡ overlay out 0 (blockRow (take n d)))
-row-put-none n d out e = rw e (refl, sym (overlay-nil out 0))
-
-pub count-is : (n : ℕ) (d : List ℕ) → n ≤ 254 → length d ≡ 256 → n ≡ length (take n d)
-count-is n d h e = sym (length-take-le n d (omega arith))
-
--- bytes, and behind them their CRC_A
-pub row-put : (l crc out q r : List ℕ) (n : ℕ) → 0 < n → n ≤ 254 → 2304 ≤ length out → length l ≡ n → crc ≡ crcBytes l
-    → q ≡ overlay out 0 (standard l) → r ≡ overlay q (9 * n) (standard crc)
-    → (9 * n + 18 ≡ length (blockRow l)) × (r ≡ overlay out 0 (blockRow l))
-unfolding withCrc crcBytes
-row-put l crc out q r n h m room e k eq er =
-    let b : blockRow l ≡ standard l ++ standard crc = row-is l (omega arith) ∙ rw (← k) (standard-append l crc) in
-    let c : length crc ≡ 2 = rw k in
-    let a : 9 * n ≡ 0 + length (standard l) = omega (arith, length-standard l) in (
-      rw (b, length-append) (omega (arith, length-standard l, length-standard crc)),
-      er ∙ rw (b, eq, a) (overlay-next out 0 (standard l) (standard crc) (omega (arith, length-standard l, length-standard crc))),
-    )
-
--- the bytes of a block, and how many there are at most
-made-row : (b : BlockBytes) (l : List ℕ) → b ≡ bytesIn l → take (b .count) (b .bytes) ≡ l
-unfolding bytesIn
-made-row b l e = rw e (overlay-front (replicate 256 0) l)
-
-block-most : (b : Block) (i at : ℕ) (m : List ℕ) → length (blockBytes b (part i at m)) ≤ 254
-unfolding part
-block-most (I n chained) i at m =
-    let e : length (take (payloadMax i) (drop at m)) ≤ payloadMax i = rw length-take (omega arith) in
-    omega (arith, e, payload-most i)
-block-most (Ack n) i at m = omega arith
-block-most (Nak n) i at m = omega arith
-block-most Deselect i at m = omega arith
-block-most (Wtx v) i at m = omega arith
-block-most Unknown i at m = omega arith
-block-most Nothing i at m = omega arith
-
-pub sent-most : (b : BlockBytes) (k : Block) (i at : ℕ) (m : List ℕ) → b ≡ bytesIn (blockBytes k (part i at m)) → b .count ≤ 254
-unfolding bytesIn
-sent-most b k i at m e = rw e (block-most k i at m)
 
 -- a step of the link, handed back
 pub finished : (card : Card) (s : CardStep) (m out out′ : List ℕ) (b : BlockBytes) (k : LinkCard) (bits : ℕ)

@@ -1,6 +1,5 @@
 // Document 01, "RATS, ATS and blocks": the card's end of the block protocol. No type holds bytes: payloads stay in the lent frame and in
-// the lent messages, and a link holds places and counts. `whole` has the calls of a card, `air` puts its blocks on the air.
-mod air;
+// the lent messages, and a link holds places and counts. `whole` has the calls of a card.
 pub mod whole;
 
 ghost use mathlib.Core.Path.{_≡_};

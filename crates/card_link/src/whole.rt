@@ -1,11 +1,15 @@
 // The whole card, every state: outside Protocol the rules of crate card, in Protocol the block rules. Rows in, rows out.
 ghost use mathlib.Core.Path.{_≡_};
+ghost use mathlib.Core.Bool.{cond};
 ghost use mathlib.Core.List.{[]};
 ghost use Prim.Native.Nat.{_≤_};
 ghost use lib.ListN.{length};
 ghost use Rattle.rows.specs.Rows.{overlay};
+ghost use Rattle.frame.specs.Calls.{goodBytes};
+ghost use Rattle.block.specs.Block.{behind};
+ghost use Rattle.block.specs.Row.{heardRow};
 ghost use Rattle.card.specs.Calls.{newCard};
-ghost use Rattle.card_link.specs.CardFrames.{cardOut};
+ghost use Rattle.card_link.specs.CardFrames.{cardHears, cardOut};
 ghost use Rattle.card_link.specs.CardCalls.{noLink, linkIn, leftBy, withRow, takesOutside, takesInside, takesIn, owing, declined, takeCall, replyCall, askCall, poweredOn, poweredOff, turnOf};
 ghost use Rattle.card_link.specs.WholeLaws.{bitsIn};
 use crate::CardLink;
@@ -141,6 +145,16 @@ fn left_by(told: Told, card: Card, link: CardLink) -> LinkCard
     }
 }
 
+// What a card does with a row.
+fn hear_row(c: CardLink, row: &[u8], answer: &[u8], buffer: &mut [u8]) -> CardStep
+    ensures { λ r. ⌜ r ≡ cardHears c (goodBytes (heardRow (c .own) (now (row .entry)))) (length (now (buffer .entry))) (length (now (answer .entry))) ⌝ }
+    ensures { λ r. ⌜ now (buffer .exit) ≡ cond (r .joins) (overlay (now (buffer .entry)) (c .joined) (behind (goodBytes (heardRow (c .own) (now (row .entry)))))) (now (buffer .entry)) ⌝ }
+{
+    let mut bytes = [0u8; 256];
+    let n = block::within::read_row(c.own, row, &mut bytes);
+    crate::hears(c, &bytes[..n], answer, buffer)
+}
+
 // A step of the link handed back, and its block at the front of the lent row.
 fn finish(card: Card, step: CardStep, answer: &[u8], out: &mut [u8]) -> CardTurn
     requires { ⌜ 2304 ≤ length (now out) ⌝ }
@@ -150,7 +164,7 @@ fn finish(card: Card, step: CardStep, answer: &[u8], out: &mut [u8]) -> CardTurn
     let told = step.told;
     let link = step.link;
     let b = crate::sent(step, answer);
-    let bits = crate::air::put_block(b, out);
+    let bits = block::within::put_block(b, out);
     let left = left_by(told, card, link);
     CardTurn {
         card: left,
@@ -193,7 +207,7 @@ fn take_inside(
 {
     let card = x.card;
     let link = x.link;
-    let step = crate::air::hear_row(link, row, answer, buffer);
+    let step = hear_row(link, row, answer, buffer);
     finish(card, step, answer, out)
 }
 

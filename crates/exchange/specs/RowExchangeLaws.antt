@@ -9,7 +9,6 @@ use lib.Dec.{leb, ltb}
 use borrow.Author.Tests.{le-leb}
 use Rattle.rows.specs.Rows.{Bytes, overlay}
 use Rattle.crc.specs.Crc.{withCrc}
-use Rattle.frame.specs.FrameLaws.{read-crc-standard}
 use Rattle.frame.specs.Frame.{standard, readCrc, Verdict, Good}
 use Rattle.card.specs.declared.Card.{Card}
 use Rattle.card.specs.declared.CardState.the-variants.{Protocol}
@@ -180,7 +179,7 @@ module _ (c : Card) (i : ℕ) (s : c .state ≡ Protocol i) (r : Reader) (room :
       → takeCall (record { card = c; link = e .card }) (blockRow (blockBytes b p)) (e .lent) (e .down) room
       ≡ record { link = record { card = c; link = v .link }; sent = blockRow (v .sent); told = v .told; buffer = v .buffer }
   card-takes e b p v f hp x ev =
-      take-block (record { card = c; link = e .card }) i room s h read-crc-standard (blockBytes b p) (e .lent) (e .down) (fine-bytes b p f hp)
+      take-block (record { card = c; link = e .card }) i room s h (blockBytes b p) (e .lent) (e .down) (fine-bytes b p f hp)
       ∙ rw (ev, left-stays (v .told) c (v .link) (x .stays))
 
   card-replies : (k : CardLink) → owes (k .phase) ≡ true → FineOut (cardReply k a [])
@@ -196,7 +195,7 @@ module _ (c : Card) (i : ℕ) (s : c .state ≡ Protocol i) (r : Reader) (room :
   unfolding linking
   reader-hears e f hf t o eo =
       rw (linked-talks r (e .reader .phase) (e .reader) t, ← eo)
-      (hear-block (record { reader = r; link = Linked (e .reader) }) (e .reader) room refl h read-crc-standard f m (e .up) hf (talks-awaits (e .reader .phase) t))
+      (hear-block (record { reader = r; link = Linked (e .reader) }) (e .reader) room refl h f m (e .up) hf (talks-awaits (e .reader .phase) t))
 
   -- a round on rows is a round on bytes
   abbrev rows : Passed → RowPassed

@@ -57,7 +57,8 @@ pub fn new_reader() -> Reader
     within::blank(Phase::New, false)
 }
 
-fn is_awaiting(p: Phase) -> bool
+// Is a row due?
+pub fn is_awaiting(p: Phase) -> bool
     ensures { λ r. ⌜ r ≡ awaits p ⌝ }
 {
     match p {

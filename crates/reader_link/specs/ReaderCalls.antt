@@ -2,7 +2,7 @@
 -- reader word for word; RATS is due on a selected reader if b6 of the last SAK is set; a good ATS opens the link. Rows in, rows out.
 --
 -- The calls, each with the same contract form. With t what the definition gives:
---     select(x, out)                    selectCall x (length out)
+--     select(x, out), start_sweep(x, out) startCall false x (length out), startCall true x (length out)
 --     rats(x, index, out)               ratsCall x index (length out)
 --     send(x, message, out)             sendCall x message (length out)
 --     deselect(x, out)                  deselectCall x (length out)
@@ -42,6 +42,10 @@ use Rattle.reader_link.specs.declared.LinkAnswer.the-variants.{Selection
 use Rattle.reader_link.specs.declared.LinkTurn.{LinkTurn}
 use Rattle.reader_link.specs.ReaderRules.{readerOpen, isOpen}
 use Rattle.reader_link.specs.ReaderFrames.{readerBlock, readerSend, readerDeselect}
+
+-- no frame sent yet
+abbrev pub newReader : LinkReader
+newReader = record { reader = blank phase.New false; link = NoLink }
 
 -- what comes of a call: the answer, the row sent (empty: none), the message buffer
 pub record Called : Type 0 where
@@ -102,14 +106,18 @@ awaitsBlock Leaving = true
 awaitsBlock Finished = false
 awaitsBlock Stopped = false
 
-abbrev pub hearIn : Link → LinkReader → List ℕ → List ℕ → List ℕ → ℕ → Called
-hearIn NoLink x h m buffer room = tested (awaits (x .reader .phase)) x buffer room (selecting (hear (x .reader) h) buffer)
-hearIn (RatsSent own) x h m buffer room = tested true x buffer room (afterAts (x .reader) own (readAts own h) buffer)
-hearIn (Linked l) x h m buffer room =
-    tested (awaitsBlock (l .phase)) x buffer room (linking (x .reader) (readerBlock l (heardRow (l .own) h) m buffer))
+abbrev pub frameDue : Link → Reader → Bool
+frameDue NoLink r = awaits (r .phase)
+frameDue (RatsSent own) r = true
+frameDue (Linked l) r = awaitsBlock (l .phase)
+
+abbrev pub hearsIn : Link → Reader → List ℕ → List ℕ → List ℕ → Called
+hearsIn NoLink r h m buffer = selecting (hear r h) buffer
+hearsIn (RatsSent own) r h m buffer = afterAts r own (readAts own h) buffer
+hearsIn (Linked l) r h m buffer = linking r (readerBlock l (heardRow (l .own) h) m buffer)
 
 unfoldable pub hearCall : LinkReader → List ℕ → List ℕ → List ℕ → ℕ → Called
-hearCall x h m buffer room = hearIn (x .link) x h m buffer room
+hearCall x h m buffer room = tested (frameDue (x .link) (x .reader)) x buffer room (hearsIn (x .link) (x .reader) h m buffer)
 
 -- ---- the host's calls
 
@@ -118,8 +126,9 @@ isNewIn NoLink r = isNew (r .phase)
 isNewIn (RatsSent i) r = false
 isNewIn (Linked l) r = false
 
-unfoldable pub selectCall : LinkReader → ℕ → Called
-selectCall x room = tested (isNewIn (x .link) (x .reader)) x [] room (selecting (begin false (x .reader)) [])
+-- a selection (s false) or a sweep (s true) begins
+unfoldable pub startCall : Bool → LinkReader → ℕ → Called
+startCall s x room = tested (isNewIn (x .link) (x .reader)) x [] room (selecting (begin s (x .reader)) [])
 
 abbrev pub isSelected : Phase → Bool
 isSelected phase.New = false

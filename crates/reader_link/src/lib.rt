@@ -1,5 +1,7 @@
 // Document 01, "RATS, ATS and blocks": the reader's end of the block protocol. No type holds bytes: payloads stay in the lent frame and in
-// the lent messages, and a link holds places and counts.
+// the lent messages, and a link holds places and counts. `whole` has the calls of a reader.
+pub mod whole;
+
 ghost use mathlib.Core.Path.{_≡_};
 ghost use mathlib.Core.Bool.{cond};
 ghost use lib.ListN.{length};

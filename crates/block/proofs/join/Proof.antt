@@ -4,32 +4,33 @@ use lib.ListN.{length, length-take, length-drop}
 use denote.Ref.{now}
 use native.Mathlib.Omega.{arith}
 use borrow.Author.Needs.{needs}
-use Rattle.block.specs.CutLaws.{fits-true, overlay-part}
+use Rattle.block.specs.CutLaws.{fits-true}
+use Rattle.rows.specs.RowLaws.{overlay-part}
 use Rattle.block.proofs.join.Statement.{statement}
 use Rattle.block.proofs.join.Tie as tie
 
 joins-in-requires : tie.Need-joins-in-requires
 joins-in-requires c κs = search needs
 
-sub-copy-in : tie.Need-sub-copy-in
-sub-copy-in c =
+sub-put : tie.Need-sub-put
+sub-put c =
     let a = c .before .before .before .before .args in
     let e = sym (c .if1 .taken) ∙ c .before .joins-in .ensures in
     let h = fits-true (a .joined + length (now (a .payload))) (length (now (a .buffer))) e in
     omega (arith, h .1)
 
-part-copy-in-start : tie.Need-part-copy-in-start
-part-copy-in-start c =
+part-put-start : tie.Need-part-put-start
+part-put-start c =
     let a = c .before .before .before .before .args in
     let e = sym (c .if1 .taken) ∙ c .before .joins-in .ensures in
     let h = fits-true (a .joined + length (now (a .payload))) (length (now (a .buffer))) e in
     omega (arith, h .1)
 
-part-copy-in-end : tie.Need-part-copy-in-end
-part-copy-in-end c = search needs
+part-put-end : tie.Need-part-put-end
+part-put-end c = search needs
 
-copy-in-requires : tie.Need-copy-in-requires
-copy-in-requires c κs =
+put-requires : tie.Need-put-requires
+put-requires c κs =
     let a = c .before .before .before .before .before .args in
     let e = sym (c .before .if1 .taken) ∙ c .before .before .joins-in .ensures in
     let h = fits-true (a .joined + length (now (a .payload))) (length (now (a .buffer))) e in
@@ -43,7 +44,7 @@ returns c =
     let a = c .before .before .before .before .before .before .before .before .args in
     let e = sym (c .before .before .before .before .if1 .taken) ∙ c .before .before .before .before .before .joins-in .ensures in
     let h = fits-true (a .joined + length (now (a .payload))) (length (now (a .buffer))) e in
-    (e, rw (c .before .before .copy-in .ensures) (overlay-part (now (a .buffer)) (a .joined) (now (a .payload)) (omega (arith, h .1))))
+    (e, rw (c .before .before .put .ensures) (overlay-part (now (a .buffer)) (a .joined) (now (a .payload)) (omega (arith, h .1))))
 
 returns-2 : tie.Need-returns-2
 returns-2 c = (sym (c .if1 .left) ∙ c .before .joins-in .ensures, refl)
@@ -53,10 +54,10 @@ join-spec =
     tie.close
     (tie.spec
     joins-in-requires
-    sub-copy-in
-    part-copy-in-start
-    part-copy-in-end
-    copy-in-requires
+    sub-put
+    part-put-start
+    part-put-end
+    put-requires
     same-length
     returns
     returns-2)

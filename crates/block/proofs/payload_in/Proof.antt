@@ -19,23 +19,23 @@ returns c =
     let e = c .before .part-bytes .ensures in
     (omega (arith, e), sym (ap (overlay (now (a .out)) 0) (part-none (a .index) (a .at) (now (a .message)) (omega (arith, e))) ∙ overlay-nil (now (a .out)) 0))
 
-add-copy-in : tie.Need-add-copy-in
+add-put : tie.Need-add-put
 unfolding partBytes
-add-copy-in c = omega (arith, c .before .before .part-bytes .ensures)
+add-put c = omega (arith, c .before .before .part-bytes .ensures)
 
-sub-copy-in : tie.Need-sub-copy-in
-sub-copy-in c = search needs
+sub-put : tie.Need-sub-put
+sub-put c = search needs
 
-part-copy-in-start : tie.Need-part-copy-in-start
-part-copy-in-start c = search needs
+part-put-start : tie.Need-part-put-start
+part-put-start c = search needs
 
-part-copy-in-end : tie.Need-part-copy-in-end
+part-put-end : tie.Need-part-put-end
 unfolding partBytes
-part-copy-in-end c = omega (arith, c .before .before .part-bytes .ensures)
+part-put-end c = omega (arith, c .before .before .part-bytes .ensures)
 
-copy-in-requires : tie.Need-copy-in-requires
+put-requires : tie.Need-put-requires
 unfolding partBytes
-copy-in-requires c κs = simp (length-take, length-drop) (omega (arith, c .before .before .before .part-bytes .ensures))
+put-requires c κs = simp (length-take, length-drop) (omega (arith, c .before .before .before .part-bytes .ensures))
 
 same-length : tie.Need-same-length
 same-length c = search needs
@@ -44,7 +44,7 @@ returns-2 : tie.Need-returns-2
 returns-2 c =
     let a = c .before .before .before .before .before .before .before .before .before .args in
     let e = c .before .before .before .before .before .before .part-bytes .ensures in
-    (e, c .before .before .copy-in .ensures ∙ ap (overlay (now (a .out)) 0) (part-cut (a .index) (a .at) _ (now (a .message)) e))
+    (e, c .before .before .put .ensures ∙ ap (overlay (now (a .out)) 0) (part-cut (a .index) (a .at) _ (now (a .message)) e))
 
 pub payload-in-spec : {M : Type 1} → statement M
 payload-in-spec =
@@ -52,10 +52,10 @@ payload-in-spec =
     (tie.spec
     part-bytes-requires
     returns
-    add-copy-in
-    sub-copy-in
-    part-copy-in-start
-    part-copy-in-end
-    copy-in-requires
+    add-put
+    sub-put
+    part-put-start
+    part-put-end
+    put-requires
     same-length
     returns-2)

@@ -1,6 +1,7 @@
 -- `card_link::whole::finish` meets its contract, by those of `sent` and `put_block`. Assumes nothing.
 use denote.Ref.{now}
-use Rattle.card_link.specs.WholeLaws.{sent-most, finished}
+use Rattle.block.specs.AirLaws.{sent-most}
+use Rattle.card_link.specs.WholeLaws.{finished}
 use borrow.Author.Needs.{needs}
 use Rattle.card_link.proofs.whole.finish.Statement.{statement}
 use Rattle.card_link.proofs.whole.finish.Tie as tie

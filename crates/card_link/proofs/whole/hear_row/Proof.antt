@@ -1,11 +1,12 @@
--- `card_link::air::hear_row` meets its contract: what was read is what `hears` hears. Assumes nothing.
+-- `card_link::whole::hear_row` meets its contract: what was read is what `hears` hears. Assumes nothing.
 use denote.Ref.{now}
 use native.Mathlib.Omega.{arith}
 use lib.ListN.{length, length-take}
-use Rattle.card_link.specs.WholeLaws.{read-fits, read-front, heard-as}
+use Rattle.block.specs.AirLaws.{read-fits, read-front}
+use Rattle.card_link.specs.WholeLaws.{heard-as}
 use borrow.Author.Needs.{needs}
-use Rattle.card_link.proofs.air.hear_row.Statement.{statement}
-use Rattle.card_link.proofs.air.hear_row.Tie as tie
+use Rattle.card_link.proofs.whole.hear_row.Statement.{statement}
+use Rattle.card_link.proofs.whole.hear_row.Tie as tie
 
 slice-aggregate-read-row : tie.Need-slice-aggregate-read-row
 slice-aggregate-read-row c = search needs

@@ -1,12 +1,12 @@
--- `card_link::air::put_block` meets its contract: bytes, and behind them their CRC_A. Assumes nothing.
+-- `block::within::put_block` meets its contract: bytes, and behind them their CRC_A. Assumes nothing.
 use mathlib.Core.Path.{_≡_, sym}
 use denote.Ref.{now}
 use native.Mathlib.Omega.{arith}
 use lib.ListN.{length, take}
-use Rattle.card_link.specs.WholeLaws.{row-put-none, count-is, row-put}
+use Rattle.block.specs.AirLaws.{row-put-none, count-is, row-put}
 use borrow.Author.Needs.{needs}
-use Rattle.card_link.proofs.air.put_block.Statement.{statement}
-use Rattle.card_link.proofs.air.put_block.Tie as tie
+use Rattle.block.proofs.within.put_block.Statement.{statement}
+use Rattle.block.proofs.within.put_block.Tie as tie
 
 returns : tie.Need-returns
 returns c = row-put-none (c .before .before .args .b .count) (c .before .before .args .b .bytes) (now (c .before .before .args .out)) (c .if1 .taken)

@@ -1,12 +1,12 @@
--- `card_link::air::read_row` meets its contract, by that of `read_crc_within`. Assumes nothing.
+-- `block::within::read_row` meets its contract, by that of `read_crc_within`. Assumes nothing.
 use denote.Ref.{now}
 use native.Mathlib.Omega.{arith}
 use lib.ListN.{length}
 use Rattle.selection.specs.SizeLaws.{size-most}
-use Rattle.card_link.specs.WholeLaws.{row-none, row-some}
+use Rattle.block.specs.AirLaws.{row-none, row-some}
 use borrow.Author.Needs.{needs}
-use Rattle.card_link.proofs.air.read_row.Statement.{statement}
-use Rattle.card_link.proofs.air.read_row.Tie as tie
+use Rattle.block.proofs.within.read_row.Statement.{statement}
+use Rattle.block.proofs.within.read_row.Tie as tie
 
 size-of-requires : tie.Need-size-of-requires
 size-of-requires c κs = search needs
