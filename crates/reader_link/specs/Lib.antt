@@ -3,3 +3,4 @@ pub mod ReaderFrames
 pub mod ReaderCalls
 pub mod ReaderLaws
 pub mod ReaderRowLaws
+pub mod WholeLaws
