@@ -1,21 +1,22 @@
 // The lines. Each function answers the bench after the line, and how many bytes of out are the answer: 0 where the line is not understood.
+// The host's message and the answer buffer are lent from line to line.
 use crate::Bench;
 use crate::Reply;
 use crate::answers;
 use bench_lines::RowLine;
-use refusal::Refusal;
+use reader_link::whole;
 
 pub fn script(
     bench: Bench,
     text: &[u8],
-    bytes: &mut [u8],
-    row: &mut [u8],
+    message: &mut [u8],
+    answer: &mut [u8],
     out: &mut [u8],
 ) -> Reply {
     let name = bench::word(text, 0);
     let value = bench::word(text, 1);
     if value.len() == 0 {
-        return alone(bench, name, out);
+        return alone(bench, name, message, answer, out);
     }
     if bench::word(text, 2).len() != 0 {
         return answers::none(bench);
@@ -27,19 +28,15 @@ pub fn script(
         return rats(bench, value, out);
     }
     if rows::is_same(name, b"send") {
-        return send(bench, value, bytes, out);
+        return send(bench, value, message, out);
     }
-    let r = bench_lines::row_line(name, value, bytes, row);
-    match r {
-        RowLine::Bits(n) => hear(bench, bench::front(row, n), out),
-        RowLine::NotUnderstood => answers::none(bench),
-    }
+    frame(bench, name, value, message, answer, out)
 }
 
 // The lines of one word.
-fn alone(bench: Bench, name: &[u8], out: &mut [u8]) -> Reply {
+fn alone(bench: Bench, name: &[u8], message: &[u8], answer: &mut [u8], out: &mut [u8]) -> Reply {
     if rows::is_same(name, b"new") {
-        return answers::new(answers::with_reader(bench, reader::new_reader()), out);
+        return answers::new(answers::with_reader(bench, whole::new_reader()), out);
     }
     if rows::is_same(name, b"select") {
         return select(bench, out);
@@ -48,10 +45,10 @@ fn alone(bench: Bench, name: &[u8], out: &mut [u8]) -> Reply {
         return start_sweep(bench, out);
     }
     if rows::is_same(name, b"deselect") {
-        return answers::refused(bench, Refusal::NotDue, out);
+        return deselect(bench, out);
     }
     if rows::is_same(name, b"silence") {
-        return hear(bench, b"", out);
+        return hear(bench, b"", message, answer, out);
     }
     answers::none(bench)
 }
@@ -73,41 +70,79 @@ fn room(bench: Bench, value: &[u8], out: &mut [u8]) -> Reply {
     )
 }
 
-// `rats INDEX`, 0 to 255
-fn rats(bench: Bench, value: &[u8], out: &mut [u8]) -> Reply {
-    if bench_lines::small_number(value) > 255 {
-        return answers::none(bench);
-    }
-    answers::refused(bench, Refusal::NotDue, out)
-}
-
-// `send HEX`: the message is kept until the next one.
-fn send(bench: Bench, value: &[u8], bytes: &mut [u8], out: &mut [u8]) -> Reply {
-    let n = bench_lines::count_bytes(value, bytes);
-    if bytes.len() < n {
-        return answers::none(bench);
-    }
-    answers::refused(bench, Refusal::NotDue, out)
-}
-
 fn select(bench: Bench, out: &mut [u8]) -> Reply {
-    let mut sent = [0u8; 81];
+    let mut sent = [0u8; 2304];
     let reader = bench.reader;
-    let t = reader::select(reader, &mut sent);
-    answers::turned(bench, t, &sent, out)
+    let t = whole::select(reader, &mut sent);
+    answers::called(bench, t, &sent, out)
 }
 
 fn start_sweep(bench: Bench, out: &mut [u8]) -> Reply {
-    let mut sent = [0u8; 81];
+    let mut sent = [0u8; 2304];
     let reader = bench.reader;
-    let t = reader::start_sweep(reader, &mut sent);
-    answers::turned(bench, t, &sent, out)
+    let t = whole::start_sweep(reader, &mut sent);
+    answers::called(bench, t, &sent, out)
+}
+
+// `rats INDEX`, 0 to 255
+fn rats(bench: Bench, value: &[u8], out: &mut [u8]) -> Reply {
+    let n = bench_lines::small_number(value);
+    if n > 255 {
+        return answers::none(bench);
+    }
+    let mut sent = [0u8; 2304];
+    let reader = bench.reader;
+    let t = whole::rats(reader, bench_lines::within_byte(n), &mut sent);
+    answers::called(bench, t, &sent, out)
+}
+
+// `send HEX`: the host's message, kept until the next one, also where the core declines it.
+fn send(bench: Bench, value: &[u8], message: &mut [u8], out: &mut [u8]) -> Reply {
+    let n = bench_lines::count_bytes(value, message);
+    if message.len() < n {
+        return answers::none(bench);
+    }
+    let mut sent = [0u8; 2304];
+    let reader = bench.reader;
+    let t = whole::send(reader, bench::front(message, n), &mut sent);
+    let after = Bench {
+        reader,
+        room: bench.room,
+        message: n,
+    };
+    answers::called(after, t, &sent, out)
+}
+
+fn deselect(bench: Bench, out: &mut [u8]) -> Reply {
+    let mut sent = [0u8; 2304];
+    let reader = bench.reader;
+    let t = whole::deselect(reader, &mut sent);
+    answers::called(bench, t, &sent, out)
+}
+
+// The lines by which the reader hears a row.
+fn frame(
+    bench: Bench,
+    name: &[u8],
+    value: &[u8],
+    message: &[u8],
+    answer: &mut [u8],
+    out: &mut [u8],
+) -> Reply {
+    let mut row = [0u8; 73746];
+    let r = bench_lines::row_line(name, value, &mut row);
+    match r {
+        RowLine::Bits(n) => hear(bench, bench::front(&row, n), message, answer, out),
+        RowLine::NotUnderstood => answers::none(bench),
+    }
 }
 
 // The reader hears a row, an empty one for silence.
-fn hear(bench: Bench, heard: &[u8], out: &mut [u8]) -> Reply {
-    let mut sent = [0u8; 81];
+fn hear(bench: Bench, heard: &[u8], message: &[u8], answer: &mut [u8], out: &mut [u8]) -> Reply {
+    let mut sent = [0u8; 2304];
     let reader = bench.reader;
-    let t = reader::hear(reader, heard, &mut sent);
-    answers::turned(bench, t, &sent, out)
+    let host = bench::front(message, bench.message);
+    let room = bench_text::within::least(bench.room, answer.len());
+    let t = whole::hear(reader, heard, host, &mut answer[..room], &mut sent);
+    answers::turned(bench, t, &sent, answer, out)
 }
