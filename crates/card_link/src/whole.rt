@@ -65,7 +65,8 @@ pub fn power_off(x: LinkCard) -> LinkCard
     LinkCard { card: off, link }
 }
 
-fn is_owing(x: LinkCard) -> bool
+// Does the card owe its host's answer?
+pub fn is_owing(x: LinkCard) -> bool
     ensures { λ r. ⌜ r ≡ owing x ⌝ }
 {
     let card = x.card;

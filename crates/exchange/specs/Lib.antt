@@ -4,3 +4,6 @@ pub mod ExchangeLaws
 pub mod RowExchange
 pub mod FineLaws
 pub mod RowExchangeLaws
+pub mod MessageLaws
+pub mod Steps
+pub mod Promise

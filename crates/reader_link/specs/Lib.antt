@@ -4,3 +4,4 @@ pub mod ReaderCalls
 pub mod ReaderLaws
 pub mod ReaderRowLaws
 pub mod WholeLaws
+pub mod BitsLaws

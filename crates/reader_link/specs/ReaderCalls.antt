@@ -25,7 +25,8 @@ use Rattle.reader.specs.Calls.{awaits, sentBy}
 use Rattle.reader.specs.declared.Phase.{Phase}
 use Rattle.reader.specs.declared.Phase.the-variants as phase
 use Rattle.reader.specs.declared.Reader.{Reader}
-use Rattle.reader.specs.declared.Answer.the-variants.{Declines}
+use Rattle.reader.specs.declared.Answer.{Answer}
+use Rattle.reader.specs.declared.Answer.the-variants.{Sends, Finds, Selects, Finishes, Declines}
 use Rattle.reader.specs.declared.Turn.{Turn}
 use Rattle.block.specs.declared.Told.{Told}
 use Rattle.block.specs.declared.Told.the-variants.{Quiet, Refused}
@@ -55,6 +56,19 @@ pub record Called : Type 0 where
 
 abbrev pub called : LinkReader → LinkAnswer → List ℕ → List ℕ → Called
 called x a sent buffer = record { turn = record { reader = x; answer = a }; sent = sent; buffer = buffer }
+
+-- how many air bits of the next frame stand at the front of the lent row
+abbrev pub bitsOf : Answer → ℕ
+bitsOf (Sends n) = n
+bitsOf (Finds n) = n
+bitsOf Selects = 0
+bitsOf Finishes = 0
+bitsOf (Declines e) = 0
+
+abbrev pub bitsBy : LinkAnswer → ℕ
+bitsBy (Selection a) = bitsOf a
+bitsBy (Opens i) = 0
+bitsBy (Blocks n t) = n
 
 -- Each call that writes a row asks for room for the longest frame, 256 bytes with parity, whatever is heard
 abbrev pub rowRoom : ℕ

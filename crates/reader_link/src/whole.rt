@@ -11,7 +11,7 @@ ghost use Rattle.reader.specs.Reader.{hear};
 ghost use Rattle.block.specs.Block.{behind};
 ghost use Rattle.block.specs.Row.{heardRow};
 ghost use Rattle.reader_link.specs.ReaderFrames.{readerHears, readerOut, readerBlock};
-ghost use Rattle.reader_link.specs.ReaderCalls.{newReader, called, declinedBy, selecting, linked, linking, afterAts, awaitsBlock, frameDue, hearsIn, hearCall, isNewIn, startCall, isSelected, b6, ratsDue, ratsCall, between, sendIn, sendCall, deselectIn, deselectCall};
+ghost use Rattle.reader_link.specs.ReaderCalls.{newReader, bitsOf, bitsBy, called, declinedBy, selecting, linked, linking, afterAts, awaitsBlock, frameDue, hearsIn, hearCall, isNewIn, startCall, isSelected, b6, ratsDue, ratsCall, between, sendIn, sendCall, deselectIn, deselectCall};
 use crate::Link;
 use crate::LinkAnswer;
 use crate::LinkReader;
@@ -34,6 +34,29 @@ pub fn new_reader() -> LinkReader
     LinkReader {
         reader: reader::new_reader(),
         link: Link::NoLink,
+    }
+}
+
+// How many air bits of the next frame stand at the front of the lent row; none: no frame.
+pub fn bits_of(a: LinkAnswer) -> usize
+    ensures { λ r. ⌜ r ≡ bitsBy a ⌝ }
+{
+    match a {
+        LinkAnswer::Selection(s) => selection_bits(s),
+        LinkAnswer::Opens(_) => 0,
+        LinkAnswer::Blocks(n, _) => n,
+    }
+}
+
+fn selection_bits(a: Answer) -> usize
+    ensures { λ r. ⌜ r ≡ bitsOf a ⌝ }
+{
+    match a {
+        Answer::Sends(n) => n,
+        Answer::Finds(n) => n,
+        Answer::Selects => 0,
+        Answer::Finishes => 0,
+        Answer::Declines(_) => 0,
     }
 }
 
