@@ -58,7 +58,7 @@ pub fn card_words(uid: &[u8], sak: &[u8], index: &[u8]) -> CardWords {
     }
 }
 
-// The card of these words, without blocks.
+// The card of these words, for a field.
 pub fn card_line(uid: &[u8], sak: &[u8], index: &[u8]) -> CardLine {
     let w = card_words(uid, sak, index);
     let bytes = w.uid;
