@@ -23,11 +23,17 @@ slice-aggregate-take-2 c = search needs
 take-requires : tie.Need-take-requires
 take-requires c κs = search needs
 
-slice-aggregate-taken : tie.Need-slice-aggregate-taken
-slice-aggregate-taken c = search needs
+slice-aggregate-front : tie.Need-slice-aggregate-front
+slice-aggregate-front c = search needs
+
+front-requires-2 : tie.Need-front-requires-2
+front-requires-2 c κs = search needs
 
 taken-requires : tie.Need-taken-requires
 taken-requires c κs = search needs
+
+with-card-requires : tie.Need-with-card-requires
+with-card-requires c κs = search needs
 
 same-length : tie.Need-same-length
 same-length c = search needs
@@ -48,8 +54,10 @@ take-spec =
     slice-aggregate-take
     slice-aggregate-take-2
     take-requires
-    slice-aggregate-taken
+    slice-aggregate-front
+    front-requires-2
     taken-requires
+    with-card-requires
     same-length
     same-length-2
     returns)
