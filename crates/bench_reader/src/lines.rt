@@ -4,6 +4,7 @@ use crate::Bench;
 use crate::Reply;
 use crate::answers;
 use bench_lines::RowLine;
+use reader_link::LinkTurn;
 use reader_link::whole;
 
 pub fn script(
@@ -19,7 +20,7 @@ pub fn script(
         return alone(bench, name, message, answer, out);
     }
     if bench::word(text, 2).len() != 0 {
-        return answers::none(bench);
+        return none(bench);
     }
     if rows::is_same(name, b"room") {
         return room(bench, value, out);
@@ -36,7 +37,7 @@ pub fn script(
 // The lines of one word.
 fn alone(bench: Bench, name: &[u8], message: &[u8], answer: &mut [u8], out: &mut [u8]) -> Reply {
     if rows::is_same(name, b"new") {
-        return answers::new(answers::with_reader(bench, whole::new_reader()), out);
+        return new(bench, out);
     }
     if rows::is_same(name, b"select") {
         return select(bench, out);
@@ -50,74 +51,109 @@ fn alone(bench: Bench, name: &[u8], message: &[u8], answer: &mut [u8], out: &mut
     if rows::is_same(name, b"silence") {
         return hear(bench, b"", message, answer, out);
     }
-    answers::none(bench)
+    none(bench)
+}
+
+// The line is not understood.
+fn none(bench: Bench) -> Reply {
+    Reply { bench, length: 0 }
+}
+
+// What comes of a host's call, which brings no answer of the card.
+fn called(bench: Bench, t: LinkTurn, sent: &[u8], out: &mut [u8]) -> Reply {
+    turned(bench, t, sent, b"", out)
+}
+
+fn turned(bench: Bench, t: LinkTurn, sent: &[u8], answer: &[u8], out: &mut [u8]) -> Reply {
+    let reader = t.reader;
+    let a = t.answer;
+    let r = reader.reader;
+    Reply {
+        bench: Bench {
+            reader,
+            room: bench.room,
+            message: bench.message,
+        },
+        length: answers::turned(r, a, sent, answer, out),
+    }
+}
+
+fn new(bench: Bench, out: &mut [u8]) -> Reply {
+    Reply {
+        bench: Bench {
+            reader: whole::new_reader(),
+            room: bench.room,
+            message: bench.message,
+        },
+        length: answers::words(b"new", out),
+    }
 }
 
 // `room N`, 0 to 4096
 fn room(bench: Bench, value: &[u8], out: &mut [u8]) -> Reply {
     let n = bench_lines::number_to(value, 4096);
     if n > 4096 {
-        return answers::none(bench);
+        return none(bench);
     }
     let reader = bench.reader;
-    answers::room(
-        Bench {
+    Reply {
+        bench: Bench {
             reader,
             room: n,
             message: bench.message,
         },
-        out,
-    )
+        length: answers::number(b"room ", n, out),
+    }
 }
 
 fn select(bench: Bench, out: &mut [u8]) -> Reply {
     let mut sent = [0u8; 2304];
     let reader = bench.reader;
     let t = whole::select(reader, &mut sent);
-    answers::called(bench, t, &sent, out)
+    called(bench, t, &sent, out)
 }
 
 fn start_sweep(bench: Bench, out: &mut [u8]) -> Reply {
     let mut sent = [0u8; 2304];
     let reader = bench.reader;
     let t = whole::start_sweep(reader, &mut sent);
-    answers::called(bench, t, &sent, out)
+    called(bench, t, &sent, out)
 }
 
 // `rats INDEX`, 0 to 255
 fn rats(bench: Bench, value: &[u8], out: &mut [u8]) -> Reply {
     let n = bench_lines::small_number(value);
     if n > 255 {
-        return answers::none(bench);
+        return none(bench);
     }
     let mut sent = [0u8; 2304];
     let reader = bench.reader;
     let t = whole::rats(reader, bench_lines::within_byte(n), &mut sent);
-    answers::called(bench, t, &sent, out)
+    called(bench, t, &sent, out)
 }
 
 // `send HEX`: the host's message, kept until the next one, also where the core declines it.
 fn send(bench: Bench, value: &[u8], message: &mut [u8], out: &mut [u8]) -> Reply {
     let n = bench_lines::count_bytes(value, message);
     if message.len() < n {
-        return answers::none(bench);
+        return none(bench);
     }
     let mut sent = [0u8; 2304];
     let reader = bench.reader;
     let t = whole::send(reader, bench::front(message, n), &mut sent);
-    let after = Bench {
+    let kept = Bench {
         reader,
         room: bench.room,
         message: n,
     };
-    answers::called(after, t, &sent, out)
+    called(kept, t, &sent, out)
 }
 
 fn deselect(bench: Bench, out: &mut [u8]) -> Reply {
     let mut sent = [0u8; 2304];
     let reader = bench.reader;
     let t = whole::deselect(reader, &mut sent);
-    answers::called(bench, t, &sent, out)
+    called(bench, t, &sent, out)
 }
 
 // The lines by which the reader hears a row.
@@ -133,7 +169,7 @@ fn frame(
     let r = bench_lines::row_line(name, value, &mut row);
     match r {
         RowLine::Bits(n) => hear(bench, bench::front(&row, n), message, answer, out),
-        RowLine::NotUnderstood => answers::none(bench),
+        RowLine::NotUnderstood => none(bench),
     }
 }
 
@@ -144,5 +180,5 @@ fn hear(bench: Bench, heard: &[u8], message: &[u8], answer: &mut [u8], out: &mut
     let host = bench::front(message, bench.message);
     let room = bench_text::within::least(bench.room, answer.len());
     let t = whole::hear(reader, heard, host, &mut answer[..room], &mut sent);
-    answers::turned(bench, t, &sent, answer, out)
+    turned(bench, t, &sent, answer, out)
 }
