@@ -7,3 +7,4 @@ pub mod RowExchangeLaws
 pub mod MessageLaws
 pub mod Steps
 pub mod Promise
+pub mod RunLaws

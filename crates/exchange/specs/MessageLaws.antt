@@ -1,5 +1,5 @@
 -- A message that a card's host is told of fits the buffer that was lent. Assumes nothing.
-use mathlib.Core.Path.{_≡_, refl}
+use mathlib.Core.Path.{_≡_, refl, sym}
 use mathlib.Core.Bool.{Bool, true, false, cond, not, Bool·beq as same}
 use mathlib.Core.List.{List}
 use Prim.Native.Nat.{ℕ, _+_, _≤_}
@@ -52,7 +52,7 @@ module _ (c : CardLink) (bytes room len : ℕ) where
   i-holds chained = go (fits (c .joined + bytes) room) refl
     where
       go : (t : Bool) → fits (c .joined + bytes) room ≡ t → Holds (cond t (cardJoins c (not (c .number)) chained (c .joined + bytes)) (cardSilent c (Refused TooLong)))
-      go true e = joins-holds (not (c .number)) chained (fits-true (c .joined + bytes) room e .1)
+      go true e = joins-holds (not (c .number)) chained (fits-true (c .joined + bytes) room (sym e) .1)
       go false e = omega arith
 
   next-holds : (ph : CardPhase) → Holds (cardNext c ph len)

@@ -1,40 +1,32 @@
+-- `exchange::advance` meets its contract, by those of `told_by`, `bits_of` and `count_in`. Assumes nothing.
+use native.Mathlib.Omega.{arith}
+use Rattle.exchange.specs.Steps.{advanced}
+use Rattle.exchange.specs.RunLaws.{count-most}
 use borrow.Author.Needs.{needs}
 use Rattle.exchange.proofs.advance.Statement.{statement}
 use Rattle.exchange.proofs.advance.Tie as tie
-use Rattle.exchange.proofs.advance.Reads as reads
-use Rattle.exchange.proofs.advance.Lts as lts
-use Rattle.exchange.proofs.count_in.Reads as count-in-reads
-use Rattle.exchange.proofs.last_in.Reads as last-in-reads
-use Rattle.exchange.proofs.told_by.Reads as told-by-reads
-use Rattle.reader_link.proofs.whole.bits_of.Reads as bits-of-reads
 
--- src/lib.rt:168:15
 told-by-requires : tie.Need-told-by-requires
 told-by-requires c κs = search needs
 
--- src/lib.rt:169:15
 bits-of-requires : tie.Need-bits-of-requires
 bits-of-requires c κs = search needs
 
--- src/lib.rt:171:17
 add-t10 : tie.Need-add-t10
 add-t10 c = search needs
 
--- src/lib.rt:172:32
 count-in-requires : tie.Need-count-in-requires
 count-in-requires c κs = search needs
 
--- src/lib.rt:172:19
 add-t12 : tie.Need-add-t12
-add-t12 c = ?
+add-t12 c = omega (arith, c .before .count-in .ensures, count-most (c .before .before .before .before .before .before .before .args .told), c .before .before .before .before .before .before .before .pre .0, c .before .before .before .before .before .before .before .pre .1)
 
--- src/lib.rt:173:15
 last-in-requires : tie.Need-last-in-requires
 last-in-requires c κs = search needs
 
--- src/lib.rt:158:1
 returns : tie.Need-returns
-returns c = ?
+unfolding advanced
+returns c = rw (c .last-in .ensures, c .before .before .count-in .ensures, c .before .before .before .before .bits-of .ensures, c .before .before .before .before .before .told-by .ensures)
 
 pub advance-spec : {M : Type 1} → statement M
 advance-spec =

@@ -1,70 +1,77 @@
+-- `exchange::exchange` meets its contract, the loop keeps `Under`: what is left comes to what the whole comes to. Assumes nothing.
+use mathlib.Core.Path.{_≡_, sym, ap, _∙_}
+use mathlib.Core.Bool.{true}
+use Prim.Native.Nat.{_-_}
+use denote.Ref.{now}
+use native.Mathlib.Omega.{arith}
+use borrow.Author.Needs.{needs}
+use Rattle.exchange.specs.Steps.{goesOn, stateOf, restOf, outcomeOf, exchangeOf}
+use Rattle.exchange.specs.RunLaws.{Under, under-none, rest-first, goes-left, fewer, under-turn, under-done, bytes-at, exchanges}
 use Rattle.exchange.proofs.exchange.Statement.{statement}
 use Rattle.exchange.proofs.exchange.Tie as tie
-use Rattle.exchange.proofs.exchange.Reads as reads
-use Rattle.exchange.proofs.exchange.Lts as lts
-use Rattle.exchange.proofs.begin.Reads as begin-reads
-use Rattle.exchange.proofs.done.Reads as done-reads
-use Rattle.exchange.proofs.goes_on.Reads as goes-on-reads
-use Rattle.exchange.proofs.round.Reads as round-reads
-use Rattle.reader_link.proofs.whole.send.Reads as send-reads
 
 abbrev Inv-loop : tie.InvT-loop
-Inv-loop message before answer rounds down₀ up₀ row₀ p₀ down up row p = ?
+Inv-loop message before answer rounds down₀ up₀ row₀ p₀ down up row p = Under message before answer rounds down₀ up₀ (restOf message answer rounds (stateOf p₀ before answer down₀ up₀ row₀)) p down up row
 
 abbrev μ-loop : tie.MeasureT-loop
-μ-loop message before answer rounds down₀ up₀ row₀ p₀ down up row p = ?
+μ-loop message before answer rounds down₀ up₀ row₀ p₀ down up row p = rounds - p .rounds
 
--- src/lib.rt:275:58
 slice-aggregate-send : tie.Need-slice-aggregate-send Inv-loop μ-loop
-slice-aggregate-send c = ?
+slice-aggregate-send c = search needs
 
--- src/lib.rt:275:9
 send-requires : tie.Need-send-requires Inv-loop μ-loop
-send-requires c κs = ?
+send-requires c κs = tt
 
--- src/lib.rt:276:9
 begin-requires : tie.Need-begin-requires Inv-loop μ-loop
-begin-requires c κs = ?
+begin-requires c κs = tt
 
--- src/lib.rt:277:5
 loop-holds : tie.Need-loop-holds Inv-loop μ-loop
-loop-holds c = ?
+loop-holds c =
+    let a = c .before .before .before .before .before .before .before .before .before .args in
+    under-none (a .reader) (a .card) (now (a .message)) (now (a .before)) (now (a .answer)) (a .rounds) (now (a .down)) (now (a .up)) _ _ (c .before .before .send .result) (c .begin .result) (search needs) (c .before .before .send .kept .1 .1 .0) (c .before .before .send .ensures) (c .begin .ensures)
 
--- src/lib.rt:277:11
 goes-on-requires : tie.Need-goes-on-requires Inv-loop μ-loop
-goes-on-requires c κs = ?
+goes-on-requires c κs = tt
 
--- src/lib.rt:278:57
 slice-aggregate-round : tie.Need-slice-aggregate-round Inv-loop μ-loop
-slice-aggregate-round c = ?
+slice-aggregate-round c = search needs
 
--- src/lib.rt:278:9
 round-requires : tie.Need-round-requires Inv-loop μ-loop
-round-requires c κs = ?
+round-requires c κs =
+    let l = c .before .before .before .before .before .loop in
+    let g : goesOn (l .p) (c .before .before .before .before .before .before .before .before .before .before .before .before .before .before .before .args .rounds) ≡ true = sym (c .before .before .before .before .goes-on .ensures) ∙ c .before .before .before .if1 .taken in
+    (l .inv .fit, omega (arith, goes-left (l .p) (c .before .before .before .before .before .before .before .before .before .before .before .before .before .before .before .args .rounds) g .0, c .before .before .before .before .before .before .before .before .before .before .before .before .before .before .before .fits .rounds), l .inv .row-size)
 
--- src/lib.rt:277:5
 loop-less : tie.Need-loop-less Inv-loop μ-loop
-loop-less c = ?
+loop-less c =
+    let l = c .before .before .before .before .before .before .before .before .before .before .before .loop in
+    fewer (l .p) (c .before .before .before .before .before .round .result) _ _ _ _ _ _ _ _ _ (c .before .before .before .before .before .before .before .before .before .before .before .before .before .before .before .before .before .before .before .before .before .args .rounds) (sym (c .before .before .before .before .before .before .before .before .before .before .goes-on .ensures) ∙ c .before .before .before .before .before .before .before .before .before .if1 .taken) (c .before .before .before .before .before .round .ensures .0)
 
--- src/lib.rt:277:5
 loop-again : tie.Need-loop-again Inv-loop μ-loop
-loop-again c = ?
+loop-again c =
+    let l = c .before .before .before .before .before .before .before .before .before .before .before .loop in
+    let a = c .before .before .before .before .before .before .before .before .before .before .before .before .before .before .before .before .before .before .before .before .before .args in
+    under-turn (now (a .message)) (now (a .before)) (now (a .answer)) (a .rounds) (now (a .down)) (now (a .up)) _ (l .p) (l .down) (l .up) (l .row) (l .inv) (c .before .before .before .before .before .round .result) _ _ _ (sym (c .before .before .before .before .before .before .before .before .before .before .goes-on .ensures) ∙ c .before .before .before .before .before .before .before .before .before .if1 .taken) (c .before .before .before .before .before .round .ensures .0) (c .before .before .before .before .before .round .ensures .1) (c .before .before .before .before .before .round .kept .1 .1 .1 .1 .0) (c .before .before .before .before .before .round .kept .1 .1 .1 .1 .1 .0) (c .before .before .before .before .before .round .kept .1 .1 .1 .1 .1 .1 .0)
 
--- src/lib.rt:280:5
 done-requires : tie.Need-done-requires Inv-loop μ-loop
-done-requires c κs = ?
+done-requires c κs = tt
 
--- src/lib.rt:261:1
 same-length : tie.Need-same-length Inv-loop μ-loop
-same-length c = ?
+same-length c = c .before .before .before .loop .inv .down-size
 
--- src/lib.rt:261:1
 same-length-2 : tie.Need-same-length-2 Inv-loop μ-loop
-same-length-2 c = ?
+same-length-2 c = c .before .before .before .loop .inv .up-size
 
--- src/lib.rt:261:1
 returns : tie.Need-returns Inv-loop μ-loop
-returns c = ?
+returns c =
+    let l = c .before .before .before .loop in
+    let a = c .before .before .before .before .before .before .before .before .before .before .before .before .before .args in
+    let o = c .done .result in
+    let e : outcomeOf o (now (a .before)) (now (a .answer)) (l .down) (l .up) ≡ exchangeOf (a .reader) (a .card) (now (a .message)) (now (a .before)) (now (a .answer)) (a .rounds) (now (a .down)) (now (a .up)) =
+    ap (λ o. outcomeOf o (now (a .before)) (now (a .answer)) (l .down) (l .up)) (c .done .ensures)
+    ∙ under-done (now (a .message)) (now (a .before)) (now (a .answer)) (a .rounds) (now (a .down)) (now (a .up)) _ (l .p) (l .down) (l .up) (l .row) (l .inv) (sym (c .before .before .goes-on .ensures) ∙ c .before .if1 .left)
+    ∙ rest-first (a .reader) (a .card) (now (a .message)) (now (a .before)) (now (a .answer)) (a .rounds) (now (a .down)) (now (a .up)) _ _ (c .before .before .before .before .before .before .send .result) (c .before .before .before .before .begin .result) (search needs) (c .before .before .before .before .before .before .send .kept .1 .1 .0) (c .before .before .before .before .before .before .send .ensures) (c .before .before .before .before .begin .ensures) in
+    (e, exchanges (a .reader) (a .card) (now (a .message)) (now (a .before)) (now (a .answer)) (a .rounds) (now (a .down)) (now (a .up)) (l .down) (l .up) o (bytes-at (now (a .message)) (c .before .before .before .before .before .before .before .before .before .before .before .before .shared-slice-known .given)) (bytes-at (now (a .before)) (c .before .before .before .before .before .before .before .before .before .before .before .shared-slice-known2 .given)) (bytes-at (now (a .answer)) (c .before .before .before .before .before .before .before .before .before .before .shared-slice-known3 .given)) e)
 
 pub exchange-spec : {M : Type 1} → statement M
 exchange-spec =

@@ -1,68 +1,62 @@
+-- `exchange::round` meets its contract, by those of `card_turn`, `host_turn` and `hear`. Assumes nothing.
+use mathlib.Core.Path.{sym}
+use denote.Ref.{now}
+use native.Mathlib.Omega.{arith}
+use lib.Seq.{length-take-le}
+use Rattle.exchange.specs.RunLaws.{host-of, round-made}
 use borrow.Author.Needs.{needs}
 use Rattle.exchange.proofs.round.Statement.{statement}
 use Rattle.exchange.proofs.round.Tie as tie
-use Rattle.exchange.proofs.round.Reads as reads
-use Rattle.exchange.proofs.round.Lts as lts
-use Rattle.exchange.proofs.advance.Reads as advance-reads
-use Rattle.exchange.proofs.card_turn.Reads as card-turn-reads
-use Rattle.exchange.proofs.host_turn.Reads as host-turn-reads
-use Rattle.reader_link.proofs.whole.hear.Reads as hear-reads
 
--- src/lib.rt:199:9
 slice-reshare-prefix-card-turn : tie.Need-slice-reshare-prefix-card-turn
 slice-reshare-prefix-card-turn c = search needs
 
--- src/lib.rt:199:9
 slice-aggregate-card-turn : tie.Need-slice-aggregate-card-turn
-slice-aggregate-card-turn c = ?
+slice-aggregate-card-turn c =
+    let a = c .before .before .before .before .before .before .before .before .before .args in
+    sym (length-take-le (a .p .bits) (now (a .row)) (omega (arith, c .before .before .before .before .before .before .before .before .before .pre .0 .bits, c .before .before .before .before .before .before .before .before .before .pre .2)))
 
--- src/lib.rt:203:9
 slice-aggregate-card-turn-2 : tie.Need-slice-aggregate-card-turn-2
 slice-aggregate-card-turn-2 c = search needs
 
--- src/lib.rt:196:9
 card-turn-requires : tie.Need-card-turn-requires
 card-turn-requires c κs = search needs
 
--- src/lib.rt:207:58
 slice-aggregate-host-turn : tie.Need-slice-aggregate-host-turn
 slice-aggregate-host-turn c = search needs
 
--- src/lib.rt:207:9
 host-turn-requires : tie.Need-host-turn-requires
 host-turn-requires c κs = search needs
 
--- src/lib.rt:209:44
 array-share-prefix-reply : tie.Need-array-share-prefix-reply
-array-share-prefix-reply c = ?
+array-share-prefix-reply c =
+    let a = c .before .before .before .before .before .before .before .before .before .before .before .before .before .before .before .before .before .before .before .args in
+    host-of (a .p) (now (a .message)) (now (a .before)) (now (a .answer)) (now (a .down)) (now (a .up)) (now (a .row)) _ _ _ _ _ _ (search needs) (c .before .before .before .before .before .before .before .card-turn .kept .1 .1 .1 .1 .1 .1 .0) (c .before .before .before .before .before .before .before .card-turn .ensures) (c .before .host-turn .ensures) .fits
 
--- src/lib.rt:209:44
 slice-aggregate-hear : tie.Need-slice-aggregate-hear
-slice-aggregate-hear c = ?
+slice-aggregate-hear c =
+    let a = c .before .before .before .before .before .before .before .before .before .before .before .before .before .before .before .before .before .before .before .before .args in
+    sym (length-take-le _ _ (host-of (a .p) (now (a .message)) (now (a .before)) (now (a .answer)) (now (a .down)) (now (a .up)) (now (a .row)) _ _ _ _ _ _ (search needs) (c .before .before .before .before .before .before .before .before .card-turn .kept .1 .1 .1 .1 .1 .1 .0) (c .before .before .before .before .before .before .before .before .card-turn .ensures) (c .before .before .host-turn .ensures) .fits))
 
--- src/lib.rt:209:9
 hear-requires : tie.Need-hear-requires
 hear-requires c κs = search needs
 
--- src/lib.rt:210:5
 advance-requires : tie.Need-advance-requires
-advance-requires c κs = ?
+advance-requires c κs = (c .before .before .before .before .before .before .before .before .before .before .before .before .before .before .before .before .before .before .before .before .before .before .before .before .before .before .before .pre .0 .messages, c .before .before .before .before .before .before .before .before .before .before .before .before .before .before .before .before .before .before .before .before .before .before .before .before .before .before .before .pre .1)
 
--- src/lib.rt:179:1
 same-length : tie.Need-same-length
-same-length c = ?
+same-length c = c .before .before .before .before .before .before .before .before .before .before .before .before .before .before .before .before .card-turn .kept .1 .1 .1 .1 .1 .0
 
--- src/lib.rt:179:1
 same-length-2 : tie.Need-same-length-2
 same-length-2 c = search needs
 
--- src/lib.rt:179:1
 same-length-3 : tie.Need-same-length-3
 same-length-3 c = search needs
 
--- src/lib.rt:179:1
 returns : tie.Need-returns
-returns c = ?
+returns c =
+    let a = c .before .before .before .before .before .before .before .before .before .before .before .before .before .before .before .before .before .before .before .before .before .before .before .before .before .before .before .before .args in
+    round-made (a .p) (now (a .message)) (now (a .before)) (now (a .answer)) (now (a .down)) (now (a .up)) (now (a .row)) _ _ _ _ _ _ (search needs) (c .before .before .before .before .before .before .before .before .before .before .before .before .before .before .before .before .card-turn .kept .1 .1 .1 .1 .1 .1 .0) (c .before .before .before .before .before .before .before .before .before .before .before .before .before .before .before .before .card-turn .ensures) (c .before .before .before .before .before .before .before .before .before .before .host-turn .ensures) _ _ _ (c .before .before .before .before .before .before .before .before .before .before .before .before .before .before .before .before .card-turn .kept .1 .1 .1 .1 .1 .0) (c .before .before .before .before .before .before .before .before .before .before .before .before .before .before .before .before .before .before .before .before .before .before .before .before .before .before .before .before .pre .2) (c .before .before .before .before .before .hear .kept .1 .1 .1 .1 .0) (c .before .before .before .before .before .hear .ensures) (c .advance .result) (c .advance .ensures) (c .before .before .before .before .before .before .before .before .before .before .before .before .before .before .before .before .before .before .before .before .before .before .before .before .before .before .before .before .pre .0)
 
 pub round-spec : {M : Type 1} → statement M
 round-spec =

@@ -1,48 +1,36 @@
 use borrow.Author.Needs.{needs}
 use Rattle.exchange.proofs.told_of.Statement.{statement}
 use Rattle.exchange.proofs.told_of.Tie as tie
-use Rattle.exchange.proofs.told_of.Reads as reads
-use Rattle.exchange.proofs.told_of.Lts as lts
 
--- src/lib.rt:59:29
 enum-told : tie.Need-enum-told
 enum-told c = search needs
 
--- src/lib.rt:60:29
 enum-told-2 : tie.Need-enum-told-2
 enum-told-2 c = search needs
 
--- src/lib.rt:61:28
 enum-told-3 : tie.Need-enum-told-3
 enum-told-3 c = search needs
 
--- src/lib.rt:62:29
 enum-told-4 : tie.Need-enum-told-4
 enum-told-4 c = search needs
 
--- src/lib.rt:63:26
 enum-known-a : tie.Need-enum-known-a
 enum-known-a c = search needs
 
--- src/lib.rt:55:1
 returns : tie.Need-returns
 returns c = search needs
 
--- src/lib.rt:55:1
 returns-2 : tie.Need-returns-2
 returns-2 c = search needs
 
--- src/lib.rt:55:1
 returns-3 : tie.Need-returns-3
 returns-3 c = search needs
 
--- src/lib.rt:55:1
 returns-4 : tie.Need-returns-4
 returns-4 c = search needs
 
--- src/lib.rt:55:1
 returns-5 : tie.Need-returns-5
-returns-5 c = ?
+returns-5 c = rw (c .before .a .given .1)
 
 pub told-of-spec : {M : Type 1} → statement M
 told-of-spec =
