@@ -1,0 +1,115 @@
+use borrow.Author.Needs.{needs}
+use Rattle.sweep_row.proofs.pass.opening.Statement.{statement}
+use Rattle.sweep_row.proofs.pass.opening.Tie as tie
+use Rattle.sweep_row.proofs.pass.opening.Reads as reads
+use Rattle.sweep_row.proofs.pass.opening.Lts as lts
+use Rattle.reader.proofs.within.is_new.Reads as is-new-reads
+use Rattle.sweep_row.proofs.finish.empty.Reads as empty-reads
+use Rattle.sweep_row.proofs.finish.refused.Reads as refused-reads
+use Rattle.sweep_row.proofs.pass.looks.Reads as looks-reads
+use Rattle.sweep_row.proofs.pass.stopped.Reads as stopped-reads
+
+-- src/pass.rt:180:9
+is-new-requires : tie.Need-is-new-requires
+is-new-requires c κs = search needs
+
+-- src/pass.rt:181:24
+refused-requires : tie.Need-refused-requires
+refused-requires c κs = search needs
+
+-- src/pass.rt:181:9
+stopped-requires : tie.Need-stopped-requires
+stopped-requires c κs = search needs
+
+-- src/pass.rt:181:9
+returns : tie.Need-returns
+returns c = ?
+
+-- src/pass.rt:184:24
+refused-requires-2 : tie.Need-refused-requires-2
+refused-requires-2 c κs = search needs
+
+-- src/pass.rt:184:9
+stopped-requires-2 : tie.Need-stopped-requires-2
+stopped-requires-2 c κs = search needs
+
+-- src/pass.rt:184:9
+returns-2 : tie.Need-returns-2
+returns-2 c = ?
+
+-- src/pass.rt:187:24
+refused-requires-3 : tie.Need-refused-requires-3
+refused-requires-3 c κs = search needs
+
+-- src/pass.rt:187:9
+stopped-requires-3 : tie.Need-stopped-requires-3
+stopped-requires-3 c κs = search needs
+
+-- src/pass.rt:187:9
+returns-3 : tie.Need-returns-3
+returns-3 c = ?
+
+-- src/pass.rt:190:24
+refused-requires-4 : tie.Need-refused-requires-4
+refused-requires-4 c κs = search needs
+
+-- src/pass.rt:190:9
+stopped-requires-4 : tie.Need-stopped-requires-4
+stopped-requires-4 c κs = search needs
+
+-- src/pass.rt:190:9
+returns-4 : tie.Need-returns-4
+returns-4 c = ?
+
+-- src/pass.rt:193:13
+empty-requires : tie.Need-empty-requires
+empty-requires c κs = ?
+
+-- src/pass.rt:194:9
+stopped-requires-5 : tie.Need-stopped-requires-5
+stopped-requires-5 c κs = search needs
+
+-- src/pass.rt:194:9
+same-length : tie.Need-same-length
+same-length c = search needs
+
+-- src/pass.rt:194:9
+same-length-2 : tie.Need-same-length-2
+same-length-2 c = search needs
+
+-- src/pass.rt:194:9
+returns-5 : tie.Need-returns-5
+returns-5 c = ?
+
+-- src/pass.rt:196:5
+looks-requires : tie.Need-looks-requires
+looks-requires c κs = search needs
+
+-- src/pass.rt:176:1
+returns-6 : tie.Need-returns-6
+returns-6 c = ?
+
+pub opening-spec : {M : Type 1} → statement M
+opening-spec =
+    tie.close
+    (tie.spec
+    is-new-requires
+    refused-requires
+    stopped-requires
+    returns
+    refused-requires-2
+    stopped-requires-2
+    returns-2
+    refused-requires-3
+    stopped-requires-3
+    returns-3
+    refused-requires-4
+    stopped-requires-4
+    returns-4
+    empty-requires
+    stopped-requires-5
+    same-length
+    same-length-2
+    returns-5
+    looks-requires
+    returns-6)
