@@ -5,7 +5,7 @@ use native.Mathlib.Numerals.{add-one}
 use native.Mathlib.Omega.{arith}
 use mathlib.Core.Bool.{Bool, true, false, not, _&&_, _||_}
 use mathlib.Core.List.{List, [], _∷_, map}
-use lib.ListN.{length, take, drop, getD, length-take, drop-of-length-le}
+use lib.ListN.{length, replicate, take, drop, getD, length-take, drop-of-length-le}
 use lib.Seq.{drop-cons, getD-take}
 use Rattle.rows.specs.Rows.{All, any}
 use Rattle.sweep_rules.specs.Demand.{Typed}
@@ -31,13 +31,13 @@ module _ {A : Type 0} (t : A → Bool) (l : List A) (n : ℕ) (h : n ≤ length 
   any-done k = rw (drop-of-length-le (take n l) {i = i} (rw length-take (omega arith)))
 
 -- ---- a field of one card
-pub alone-fits : (c : Card) (l : List Card) → within (take 1 (c ∷ l)) ≡ cardFits c
+pub alone-fits : (c : Card) → within (take 1 (replicate 16 c)) ≡ cardFits c
 unfolding within allFit apart any
-alone-fits c l = go (cardFits c) refl
+alone-fits c = go (cardFits c) refl
   where
-    go : (b : Bool) → cardFits c ≡ b → within (take 1 (c ∷ l)) ≡ b
+    go : (b : Bool) → cardFits c ≡ b → within (take 1 (replicate 16 c)) ≡ b
     go true e = rw e
     go false e = rw e
 
-pub alone-typed : (c : Card) (l : List Card) → All Typed (take 1 (c ∷ l)) → Typed c
-alone-typed c l h = h .0
+pub alone-typed : (c : Card) → All Typed (take 1 (replicate 16 c)) → Typed c
+alone-typed c h = h .0

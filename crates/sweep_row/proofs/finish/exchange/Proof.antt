@@ -1,4 +1,6 @@
-use mathlib.Core.Path.{_≡_, refl, sym, ap, ap₂, _∙_}
+use Prim.Native.Nat.{_≤_}
+use lib.Seq.{length-take-le}
+use mathlib.Core.Path.{_≡_, refl, sym, ap, ap₂, subst, _∙_}
 use native.Mathlib.Omega.{arith}
 use lib.ListN.{length, take, length-take}
 use Rattle.reader.specs.Reader.{frame, hear}
@@ -37,11 +39,17 @@ slice-aggregate-put-exchange c = let u : Front (frame (c .before .before .before
 
 -- src/finish.rt:54:55
 array-share-prefix-heard : tie.Need-array-share-prefix-heard
-array-share-prefix-heard c = search needs
+array-share-prefix-heard c =
+    let h : length (c .before .before .before .before .before .before .before .before .args .a .heard) ≡ 45 = search needs in
+    let k : c .before .before .before .before .before .before .before .before .args .a .bits ≤ length (c .before .before .before .before .before .before .before .before .args .a .heard) = subst (λ n. c .before .before .before .before .before .before .before .before .args .a .bits ≤ n) (sym h) (c .before .before .before .before .before .before .before .before .pre .0) in
+    k
 
 -- src/finish.rt:54:55
 slice-aggregate-put-exchange-2 : tie.Need-slice-aggregate-put-exchange-2
-slice-aggregate-put-exchange-2 c = rw length-take (omega (arith, c .before .before .before .before .before .before .before .before .before .pre .0))
+slice-aggregate-put-exchange-2 c =
+    let h : length (c .before .before .before .before .before .before .before .before .before .args .a .heard) ≡ 45 = search needs in
+    let k : c .before .before .before .before .before .before .before .before .before .args .a .bits ≤ length (c .before .before .before .before .before .before .before .before .before .args .a .heard) = subst (λ n. c .before .before .before .before .before .before .before .before .before .args .a .bits ≤ n) (sym h) (c .before .before .before .before .before .before .before .before .before .pre .0) in
+    sym (length-take-le _ _ k)
 
 -- src/finish.rt:54:9
 put-exchange-requires : tie.Need-put-exchange-requires
@@ -51,11 +59,17 @@ put-exchange-requires c κs = let u : Front (frame (c .before .before .before .b
 
 -- src/finish.rt:55:46
 array-share-prefix-heard-2 : tie.Need-array-share-prefix-heard-2
-array-share-prefix-heard-2 c = search needs
+array-share-prefix-heard-2 c =
+    let h : length (c .before .before .before .before .before .before .before .before .before .before .before .before .args .a .heard) ≡ 45 = search needs in
+    let k : c .before .before .before .before .before .before .before .before .before .before .before .before .args .a .bits ≤ length (c .before .before .before .before .before .before .before .before .before .before .before .before .args .a .heard) = subst (λ n. c .before .before .before .before .before .before .before .before .before .before .before .before .args .a .bits ≤ n) (sym h) (c .before .before .before .before .before .before .before .before .before .before .before .before .pre .0) in
+    k
 
 -- src/finish.rt:55:46
 slice-aggregate-hear-rules : tie.Need-slice-aggregate-hear-rules
-slice-aggregate-hear-rules c = rw length-take (omega (arith, c .before .before .before .before .before .before .before .before .before .before .before .before .before .pre .0))
+slice-aggregate-hear-rules c =
+    let h : length (c .before .before .before .before .before .before .before .before .before .before .before .before .before .args .a .heard) ≡ 45 = search needs in
+    let k : c .before .before .before .before .before .before .before .before .before .before .before .before .before .args .a .bits ≤ length (c .before .before .before .before .before .before .before .before .before .before .before .before .before .args .a .heard) = subst (λ n. c .before .before .before .before .before .before .before .before .before .before .before .before .before .args .a .bits ≤ n) (sym h) (c .before .before .before .before .before .before .before .before .before .before .before .before .before .pre .0) in
+    sym (length-take-le _ _ k)
 
 -- src/finish.rt:55:9
 hear-rules-requires : tie.Need-hear-rules-requires

@@ -20,7 +20,7 @@ sends-requires c κs = search needs
 returns : tie.Need-returns
 unfolding firstRow
 returns c =
-    rw (c .before .before .sends .ensures, c .before .before .before .before .blank .ensures)
+    rw (c .before .sends .ensures, c .before .before .blank .ensures)
 
 pub first-spec : {M : Type 1} → statement M
 first-spec = tie.close (tie.spec blank-requires sends-requires returns)

@@ -15,7 +15,7 @@ goes-requires c κs = search needs
 -- src/within.rt:120:9
 returns : tie.Need-returns
 unfolding goesOn
-returns c = rw (lt-ltb _ _ (c .before .before .if1 .taken)) (c .goes .ensures)
+returns c = rw (lt-ltb _ _ (c .before .if1 .taken)) (c .goes .ensures)
 
 -- src/within.rt:114:1
 returns-2 : tie.Need-returns-2

@@ -17,7 +17,7 @@ silence-requires c κs = search needs
 -- src/pass.rt:35:1
 returns : tie.Need-returns
 returns c =
-    rw (c .before .silence .ensures, c .before .none .ensures)
+    rw (c .silence .ensures, c .before .none .ensures)
 
 pub stopped-spec : {M : Type 1} → statement M
 stopped-spec = tie.close (tie.spec none-requires silence-requires returns)

@@ -13,7 +13,7 @@ is-within-requires c κs = search needs
 
 -- src/seen.rt:35:1
 returns : tie.Need-returns
-returns c = (c .is-within .ensures .0 ∙ alone-fits (c .before .args .c) _, λ e. alone-typed (c .before .args .c) _ (c .is-within .ensures .1 e))
+returns c = (c .is-within .ensures .0 ∙ alone-fits (c .before .args .c), λ e. alone-typed (c .before .args .c) (c .is-within .ensures .1 e))
 
 pub card-fits-spec : {M : Type 1} → statement M
 card-fits-spec = tie.close (tie.spec is-within-requires returns)

@@ -40,9 +40,9 @@ same-uid-requires c κs = search needs
 -- src/terms.rt:66:13
 returns : tie.Need-returns Inv-loop μ-loop
 returns c =
-    let l = c .before .before .before .before .before .loop in
-    let a = c .before .before .before .before .before .before .args in
-    ap not (sym (any-here (λ v. same (uidBytes (a .u)) (uidBytes v)) (a .uids) (a .n) (omega arith) (l .i) _ (omega arith) (sym (c .before .same-uid .ensures) ∙ c .if1 .taken)) ∙ l .inv .3)
+    let l = c .before .before .before .before .loop in
+    let a = c .before .before .before .before .before .args in
+    ap not (sym (any-here (λ v. same (uidBytes (a .u)) (uidBytes v)) (a .t2) (a .n) (omega arith) (l .i) _ (omega arith) (sym (c .before .same-uid .ensures) ∙ c .if1 .taken)) ∙ l .inv .3)
 
 -- src/terms.rt:62:9
 add-i : tie.Need-add-i Inv-loop μ-loop
@@ -55,12 +55,12 @@ loop-less c = omega arith
 -- src/terms.rt:62:5
 loop-again : tie.Need-loop-again Inv-loop μ-loop
 loop-again c =
-    let l = c .before .before .before .before .before .loop in
-    let a = c .before .before .before .before .before .before .args in (
+    let l = c .before .before .before .before .loop in
+    let a = c .before .before .before .before .before .args in (
       omega arith,
       omega arith,
       omega arith,
-      sym (any-next (λ v. same (uidBytes (a .u)) (uidBytes v)) (a .uids) (a .n) (omega arith) (l .i) _ (omega arith) (sym (c .before .same-uid .ensures) ∙ c .if1 .left)) ∙ l .inv .3,
+      sym (any-next (λ v. same (uidBytes (a .u)) (uidBytes v)) (a .t2) (a .n) (omega arith) (l .i) _ (omega arith) (sym (c .before .same-uid .ensures) ∙ c .if1 .left)) ∙ l .inv .3,
     )
 
 -- src/terms.rt:58:1
@@ -68,7 +68,7 @@ returns-2 : tie.Need-returns-2 Inv-loop μ-loop
 returns-2 c =
     let l = c .before .loop in
     let a = c .before .before .args in
-    ap not (sym (any-done (λ v. same (uidBytes (a .u)) (uidBytes v)) (a .uids) (a .n) (omega arith) (l .i) (omega arith)) ∙ l .inv .3)
+    ap not (sym (any-done (λ v. same (uidBytes (a .u)) (uidBytes v)) (a .t2) (a .n) (omega arith) (l .i) (omega arith)) ∙ l .inv .3)
 
 pub is-alone-spec : {M : Type 1} → statement M
 is-alone-spec =

@@ -1,0 +1,31 @@
+use borrow.Author.Needs.{needs}
+use Rattle.sweep_row.proofs.pass.look.Statement.{statement}
+use Rattle.sweep_row.proofs.pass.look.Tie as tie
+use Rattle.sweep_row.proofs.pass.look.Reads as reads
+use Rattle.sweep_row.proofs.pass.look.Lts as lts
+use Rattle.sweep_row.proofs.pass.back.Reads as back-reads
+use Rattle.sweep_row.proofs.pass.decide.Reads as decide-reads
+use Rattle.sweep_row.proofs.seen.see_card.Reads as see-card-reads
+
+-- src/pass.rt:144:9
+see-card-requires : tie.Need-see-card-requires
+see-card-requires c κs = search needs
+
+-- src/pass.rt:146:9
+decide-requires : tie.Need-decide-requires
+decide-requires c κs = search needs
+
+-- src/pass.rt:146:9
+returns : tie.Need-returns
+returns c = ?
+
+-- src/pass.rt:148:5
+back-requires : tie.Need-back-requires
+back-requires c κs = search needs
+
+-- src/pass.rt:138:1
+returns-2 : tie.Need-returns-2
+returns-2 c = ?
+
+pub look-spec : {M : Type 1} → statement M
+look-spec = tie.close (tie.spec see-card-requires decide-requires returns back-requires returns-2)
