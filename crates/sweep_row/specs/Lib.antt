@@ -1,3 +1,4 @@
 pub mod Row
 pub mod Under
 pub mod SeenLaws
+pub mod TurnLaws

@@ -1,3 +1,7 @@
+use mathlib.Core.Path.{_≡_, ap, sym, _∙_}
+use mathlib.Core.Bool.{true}
+use borrow.Author.Tests.{eq-eqb, ne-eqb}
+use Rattle.sweep_row.specs.Row.{looked}
 use borrow.Author.Needs.{needs}
 use Rattle.sweep_row.proofs.pass.look.Statement.{statement}
 use Rattle.sweep_row.proofs.pass.look.Tie as tie
@@ -17,7 +21,8 @@ decide-requires c κs = search needs
 
 -- src/pass.rt:146:9
 returns : tie.Need-returns
-returns c = ?
+unfolding looked
+returns c = (rw (eq-eqb _ _ (c .before .if1 .taken), c .decide .ensures, c .before .before .before .see-card .ensures .0), λ e. c .before .before .before .see-card .ensures .1 (ap (λ s. s .fits) (c .before .before .before .see-card .ensures .0) ∙ e))
 
 -- src/pass.rt:148:5
 back-requires : tie.Need-back-requires
@@ -25,7 +30,8 @@ back-requires c κs = search needs
 
 -- src/pass.rt:138:1
 returns-2 : tie.Need-returns-2
-returns-2 c = ?
+unfolding looked
+returns-2 c = (rw (ne-eqb _ _ (c .before .if1 .left), c .back .ensures, c .before .before .before .see-card .ensures .0), λ e. c .before .before .before .see-card .ensures .1 (ap (λ s. s .fits) (c .before .before .before .see-card .ensures .0) ∙ e))
 
 pub look-spec : {M : Type 1} → statement M
 look-spec = tie.close (tie.spec see-card-requires decide-requires returns back-requires returns-2)

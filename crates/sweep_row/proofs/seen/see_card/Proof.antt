@@ -1,3 +1,6 @@
+use mathlib.Core.Path.{_≡_, ap, sym, _∙_}
+use lib.ListN.{set}
+use Rattle.sweep_row.specs.Row.{seenWith}
 use borrow.Author.Needs.{needs}
 use Rattle.sweep_row.proofs.seen.see_card.Statement.{statement}
 use Rattle.sweep_row.proofs.seen.see_card.Tie as tie
@@ -19,7 +22,8 @@ array-set-from-uids c = search needs
 
 -- src/seen.rt:73:1
 returns : tie.Need-returns
-returns c = ?
+unfolding seenWith
+returns c = (rw (c .before .before .fits-too .ensures .0), c .before .before .fits-too .ensures .1)
 
 pub see-card-spec : {M : Type 1} → statement M
 see-card-spec = tie.close (tie.spec fits-too-requires mul-uids array-set-from-uids returns)
