@@ -1,4 +1,5 @@
 pub mod Row
-pub mod Under
 pub mod SeenLaws
+pub mod Under
 pub mod TurnLaws
+pub mod PadLaws

@@ -106,7 +106,7 @@ finished s a =
 
 -- log and list have room for it
 pub record Roomy (s : RowSwept) (a : Air) (log list : List ℕ) : Type 0 where
-  pub bits : a .bits ≤ 45
+  pub bits : a .bits ≤ length (a .heard)
   pub log-room : s .logged + length (exchangeBytes (exchangeWith (s .reader) a)) ≤ length log
   pub list-room : 11 * s .found + 11 * length (foundBy (turnWith (s .reader) a)) ≤ length list
   pub more : s .frames < mostFrames
@@ -188,7 +188,7 @@ listOf p c list = cond (p .looking) list (cond (eqb (p .at) 0) (overlay list (11
 pub record Ready (p : Progress) (c : Card) (log list : List ℕ) : Type 0 where
   pub at : p .at < p .cards
   pub few : p .cards ≤ mostCards
-  pub bits : p .air .bits ≤ 45
+  pub bits : p .air .bits ≤ length (p .air .heard)
   pub room : p .looking ≡ false → p .at ≡ 0 → Roomy (p .swept) (airWith p c) log list
 
 -- a turn

@@ -1,17 +1,16 @@
 -- The invariant of the sweep over a lent row.
-use Prim.Native.Nat.{ℕ, suc, _-_, _≤_, _<_}
-use mathlib.Core.Bool.{Bool, true, false, _&&_}
-use mathlib.Core.List.{List, [], _∷_, _++_, map}
+use Prim.Native.Nat.{ℕ, suc, _+_, _-_, _*_, _≤_, _<_}
+use mathlib.Core.Bool.{Bool, true, false, cond}
+use mathlib.Core.List.{List, _++_}
 use mathlib.Core.Path.{_≡_}
-use lib.ListN.{length, take, drop, replicate}
+use lib.ListN.{length, replicate}
 use Rattle.rows.specs.Rows.{All}
 use Rattle.reader.specs.Reader.{isNew, frame}
 use Rattle.field.specs.TakeLaws as take-laws
-use Rattle.log.specs.Log.{logBytes, listBytes}
 use Rattle.sweep_rules.specs.Demand.{Typed}
 use Rattle.sweep_rules.specs.Limits.{mostCards, logRoom, listRoom}
 use Rattle.sweep_rules.specs.Run.{sweep}
-use Rattle.sweep_rules.specs.Terms.{allFit, apart, within}
+use Rattle.sweep_rules.specs.Terms.{within}
 use Rattle.sweep.specs.CallLaws.{Promised}
 use Rattle.sweep.specs.RunLaws as run-laws
 use Rattle.sweep.specs.declared.within.Progress as plain
@@ -20,6 +19,7 @@ use Rattle.reader.specs.declared.Reader.{Reader}
 use Rattle.refusal.specs.declared.Refusal.the-variants.{Argument}
 use Rattle.sweep_row.specs.declared.pass.Progress.{Progress}
 use Rattle.sweep_row.specs.Row.{sweptRow, noCard, refusedRow, goesOn}
+use Rattle.sweep_row.specs.SeenLaws.{SeenFrom}
 
 -- a row of at most 16 cards as an array of 16, of which the first n are the field: the laws of the plain sweep are told of such arrays
 abbrev pub padded : ℕ → List Card → List Card
@@ -40,12 +40,9 @@ pub record Looking (r : Reader) (cards₀ : List Card) (log₀ list₀ : List �
   pub list-row : list ≡ list₀
   pub count : p .cards ≡ length cards₀
   pub at : p .at < length cards₀
-  pub bits : p .air .bits ≤ 45
+  pub bits : p .air .bits ≤ length (p .air .heard)
   pub refused : p .swept ≡ refusedRow r Argument
-  pub sixteen : length (p .seen .uids) ≡ mostCards
-  pub uids : drop (suc (p .at)) (take (p .cards) (p .seen .uids)) ≡ map (λ k. k .uid) (drop (suc (p .at)) cards₀)
-  pub fits : p .seen .fits ≡ (allFit (drop (suc (p .at)) cards₀) && apart (drop (suc (p .at)) cards₀))
-  pub typed : p .seen .fits ≡ true → All Typed (drop (suc (p .at)) cards₀)
+  pub seen : SeenFrom cards₀ (suc (p .at)) (p .seen)
 
 -- how far the plain sweep is where the cards cs have not taken the frame yet
 abbrev pub plainAt : Progress → List Card → plain.Progress
@@ -69,7 +66,6 @@ pub record Taking (r : Reader) (cards₀ : List Card) (log₀ list₀ : List ℕ
   pub count : p .cards ≡ length cards₀
   pub at : p .at < length cards₀
   pub goes : goesOn (p .swept) ≡ true
-  pub room : length (p .air .heard) ≡ 45
   pub sweep-at : run-laws.Under (sweep cards₀) (padded (length cards₀) cards₀) (length cards₀) log₀ list₀ (plainAt p cs) log list
   pub take-at : take-laws.Under heard₀ cs (length cs) (frame (p .swept .reader)) (p .air .heard) cards (p .air .bits) (suc (p .at))
 
@@ -81,6 +77,10 @@ UnderIf true false r cards₀ log₀ list₀ p cards log list = Taking r cards�
 
 abbrev pub Under : Reader → List Card → List ℕ → List ℕ → Progress → List Card → List ℕ → List ℕ → Type 0
 Under r cards₀ log₀ list₀ p cards log list = UnderIf (p .going) (p .looking) r cards₀ log₀ list₀ p cards log list
+
+-- the turns to come are fewer after each: in a pass the place, and the passes
+abbrev pub measure : Progress → ℕ
+measure p = cond (p .looking) (17 * 257 + p .at) (17 * (256 - p .swept .frames) + p .at)
 
 -- a sweep over any row of n cards begins
 pub record Opened (r : Reader) (n : ℕ) (log₀ list₀ : List ℕ) (p : Progress) (log list : List ℕ) : Type 0 where

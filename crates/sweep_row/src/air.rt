@@ -102,7 +102,7 @@ fn take_one(c: Card, frame: &[u8], heard: &mut [u8], bits: usize) -> One
 
 // The card takes the reader's frame.
 pub fn hear_card(a: Air, r: Reader, c: Card) -> HeardCard
-    requires { ⌜ a .bits ≤ 45 ⌝ }
+    requires { ⌜ a .bits ≤ length (a .heard) ⌝ }
     ensures { λ h. ⌜ h ≡ heardCard a r c ⌝ }
 {
     let mut frame = [0u8; 81];

@@ -42,7 +42,7 @@ fn put_exchange(log: &mut [u8], at: usize, frame: &[u8], heard: &[u8]) -> usize
 
 // The records of the reader's frame and of what was heard, and the reader's turn on it.
 fn exchange(r: Reader, a: Air, log: &mut [u8], at: usize) -> Exchanged
-    requires { ⌜ (a .bits ≤ 45) × (at + length (exchangeBytes (exchangeWith r a)) ≤ length (now log)) ⌝ }
+    requires { ⌜ (a .bits ≤ length (a .heard)) × (at + length (exchangeBytes (exchangeWith r a)) ≤ length (now log)) ⌝ }
     ensures { λ x. ⌜ x ≡ exchangedWith r a ⌝ }
     ensures { λ x. ⌜ now (log .exit) ≡ overlay (now (log .entry)) at (exchangeBytes (exchangeWith r a)) ⌝ }
 {

@@ -49,7 +49,7 @@ slice-aggregate-take-one-2 c = search needs
 take-one-requires : tie.Need-take-one-requires
 take-one-requires c κs =
     let h : length (c .before .before .before .before .before .before .before .args .a .heard) ≡ 45 = search needs in
-    (subst (λ n. c .before .before .before .before .before .before .before .args .a .bits ≤ n) (sym h) (c .before .before .before .before .before .before .before .pre), subst (λ n. 45 ≤ n) (sym h) (omega arith))
+    (c .before .before .before .before .before .before .before .pre, subst (λ n. 45 ≤ n) (sym h) (omega arith))
 
 -- src/air.rt:104:1
 returns : tie.Need-returns

@@ -1,6 +1,5 @@
-use Prim.Native.Nat.{_≤_}
 use lib.Seq.{length-take-le}
-use mathlib.Core.Path.{_≡_, refl, sym, ap, ap₂, subst, _∙_}
+use mathlib.Core.Path.{_≡_, refl, sym, ap, ap₂, _∙_}
 use native.Mathlib.Omega.{arith}
 use lib.ListN.{length, take, length-take}
 use Rattle.reader.specs.Reader.{frame, hear}
@@ -39,37 +38,27 @@ slice-aggregate-put-exchange c = let u : Front (frame (c .before .before .before
 
 -- src/finish.rt:54:55
 array-share-prefix-heard : tie.Need-array-share-prefix-heard
-array-share-prefix-heard c =
-    let h : length (c .before .before .before .before .before .before .before .before .args .a .heard) ≡ 45 = search needs in
-    let k : c .before .before .before .before .before .before .before .before .args .a .bits ≤ length (c .before .before .before .before .before .before .before .before .args .a .heard) = subst (λ n. c .before .before .before .before .before .before .before .before .args .a .bits ≤ n) (sym h) (c .before .before .before .before .before .before .before .before .pre .0) in
-    k
+array-share-prefix-heard c = c .before .before .before .before .before .before .before .before .pre .0
 
 -- src/finish.rt:54:55
 slice-aggregate-put-exchange-2 : tie.Need-slice-aggregate-put-exchange-2
-slice-aggregate-put-exchange-2 c =
-    let h : length (c .before .before .before .before .before .before .before .before .before .args .a .heard) ≡ 45 = search needs in
-    let k : c .before .before .before .before .before .before .before .before .before .args .a .bits ≤ length (c .before .before .before .before .before .before .before .before .before .args .a .heard) = subst (λ n. c .before .before .before .before .before .before .before .before .before .args .a .bits ≤ n) (sym h) (c .before .before .before .before .before .before .before .before .before .pre .0) in
-    sym (length-take-le _ _ k)
+slice-aggregate-put-exchange-2 c = sym (length-take-le _ _ (c .before .before .before .before .before .before .before .before .before .pre .0))
 
 -- src/finish.rt:54:9
 put-exchange-requires : tie.Need-put-exchange-requires
 unfolding exchangeWith
-put-exchange-requires c κs = let u : Front (frame (c .before .before .before .before .before .before .before .before .before .args .r)) (c .before .before .before .before .frame-bits .result) (c .before .before .before .before .before .before .put-frame .last .1 .0) = front-of _ _ _ _ (c .before .before .before .before .frame-bits .ensures) (c .before .before .before .before .before .before .put-frame .ensures) in
-    (rw (u .bits) (frame-clean (c .before .before .before .before .before .before .before .before .before .args .r)), rw length-take (omega (arith, u .fits, c .before .before .before .before .before .before .put-frame .kept .1 .0)), rw length-take (omega (arith, c .before .before .before .before .before .before .before .before .before .pre .0)), rw (u .bits) (c .before .before .before .before .before .before .before .before .before .pre .1))
+put-exchange-requires c κs =
+    let forty-five : length (c .before .before .before .before .before .before .before .before .before .args .a .heard) ≡ 45 = search needs in
+    let u : Front (frame (c .before .before .before .before .before .before .before .before .before .args .r)) (c .before .before .before .before .frame-bits .result) (c .before .before .before .before .before .before .put-frame .last .1 .0) = front-of _ _ _ _ (c .before .before .before .before .frame-bits .ensures) (c .before .before .before .before .before .before .put-frame .ensures) in
+    (rw (u .bits) (frame-clean (c .before .before .before .before .before .before .before .before .before .args .r)), rw length-take (omega (arith, u .fits, c .before .before .before .before .before .before .put-frame .kept .1 .0)), rw length-take (omega (arith, c .before .before .before .before .before .before .before .before .before .pre .0, forty-five)), rw (u .bits) (c .before .before .before .before .before .before .before .before .before .pre .1))
 
 -- src/finish.rt:55:46
 array-share-prefix-heard-2 : tie.Need-array-share-prefix-heard-2
-array-share-prefix-heard-2 c =
-    let h : length (c .before .before .before .before .before .before .before .before .before .before .before .before .args .a .heard) ≡ 45 = search needs in
-    let k : c .before .before .before .before .before .before .before .before .before .before .before .before .args .a .bits ≤ length (c .before .before .before .before .before .before .before .before .before .before .before .before .args .a .heard) = subst (λ n. c .before .before .before .before .before .before .before .before .before .before .before .before .args .a .bits ≤ n) (sym h) (c .before .before .before .before .before .before .before .before .before .before .before .before .pre .0) in
-    k
+array-share-prefix-heard-2 c = c .before .before .before .before .before .before .before .before .before .before .before .before .pre .0
 
 -- src/finish.rt:55:46
 slice-aggregate-hear-rules : tie.Need-slice-aggregate-hear-rules
-slice-aggregate-hear-rules c =
-    let h : length (c .before .before .before .before .before .before .before .before .before .before .before .before .before .args .a .heard) ≡ 45 = search needs in
-    let k : c .before .before .before .before .before .before .before .before .before .before .before .before .before .args .a .bits ≤ length (c .before .before .before .before .before .before .before .before .before .before .before .before .before .args .a .heard) = subst (λ n. c .before .before .before .before .before .before .before .before .before .before .before .before .before .args .a .bits ≤ n) (sym h) (c .before .before .before .before .before .before .before .before .before .before .before .before .before .pre .0) in
-    sym (length-take-le _ _ k)
+slice-aggregate-hear-rules c = sym (length-take-le _ _ (c .before .before .before .before .before .before .before .before .before .before .before .before .before .pre .0))
 
 -- src/finish.rt:55:9
 hear-rules-requires : tie.Need-hear-rules-requires
