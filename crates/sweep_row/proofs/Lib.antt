@@ -1,2 +1,4 @@
 pub mod Carried
 pub mod Taking
+pub mod Looking
+pub mod Turning

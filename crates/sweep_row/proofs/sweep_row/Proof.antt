@@ -1,4 +1,4 @@
-use Rattle.sweep_row.proofs.Taking.{taken-last, taken-next, taking-ready}
+use Rattle.sweep_row.proofs.Turning.{opened, ended, ready, here, after, fewer}
 use Rattle.sweep_row.proofs.sweep_row.Statement.{statement}
 
 pub sweep-row-spec : {M : Type 1} → statement M
