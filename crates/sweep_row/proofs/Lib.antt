@@ -2,3 +2,4 @@ pub mod Carried
 pub mod Taking
 pub mod Looking
 pub mod Turning
+pub mod Opening
