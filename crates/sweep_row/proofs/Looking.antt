@@ -126,7 +126,7 @@ module _ (r : Reader) (cards₀ : List Card) (log₀ list₀ : List ℕ) (p : Pr
             goes = first-goes;
             sweep-at = subst (λ m. run-laws.Under (sweep cards₀) (padded N cards₀) N log₀ list₀ (steps.started (padded m cards₀)) log list) (sym (L .count)) v;
             take-at =
-            subst (λ w. take-laws.Under (silence .heard) cards₀ N f (silence .heard) w 0 (suc (p .cards - 1))) (sym same)
+                subst (λ w. take-laws.Under (silence .heard) cards₀ N f (silence .heard) w 0 (suc (p .cards - 1))) (sym same)
                 (subst (take-laws.Under (silence .heard) cards₀ N f (silence .heard) cards₀ 0) e (take-start f (silence .heard) cards₀));
           }
 

@@ -75,6 +75,6 @@ module _ (r : Reader) (n : ℕ) (log list : List ℕ) where
     opens-looks few z p e =
         record {
           begins = λ cards h.
-          subst (λ q. Under r cards log list q cards log list) (ap (looks r) h ∙ sym e)
+              subst (λ q. Under r cards log list q cards log list) (ap (looks r) h ∙ sym e)
               (looking-first r cards log list (record { new = new; log-room = hlog; list-room = hlist; few = omega (arith, h) }) (omega (arith, h, z)));
         }

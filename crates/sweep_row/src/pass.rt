@@ -6,10 +6,10 @@ ghost use Rattle.sweep_rules.specs.Limits.{mostCards};
 ghost use Rattle.sweep_rules.specs.Demand.{Typed};
 ghost use Rattle.sweep_row.specs.Row.{stopped, looks, again, onward, back, decided, looked, seenWith, Ready, Turns};
 ghost use Rattle.sweep_row.specs.Under.{Opened};
-use card::Card;
+use crate::RowSwept;
 use crate::air::Air;
 use crate::seen::Seen;
-use crate::RowSwept;
+use card::Card;
 use reader::Reader;
 use refusal::Refusal;
 

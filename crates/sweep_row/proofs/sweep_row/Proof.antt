@@ -231,7 +231,7 @@ module _ {M : Type 1} (𝓤 : URA M) (H : Heap 𝓤) (A : Atoms 𝓤) (W : Given
   asks-opening : (ν₁ : ℕ) (δ₁ : GName) (ν₂ : ℕ) (δ₂ : GName) → Is E.the-row r (mreader r ∷ []) → Room T.the-row n
       → ent 𝓤 (⋆ 𝓤 H A (Lent ν₁ δ₁ ν₂ δ₂ log₀ list₀)) (Opening 𝓤 H A W mem run .pre (to-opening ν₁ δ₁ ν₂ δ₂))
   asks-opening ν₁ δ₁ ν₂ δ₂ gr gn =
-      qed W (Lent ν₁ δ₁ ν₂ δ₂ log₀ list₀) ∵ nothing ! $ move ! (3 ∷ 0 ∷ []) $ join ! $ move ! (1 ∷ 0 ∷ []) $ join ! $ 
+      qed W (Lent ν₁ δ₁ ν₂ δ₂ log₀ list₀) ∵ nothing ! $ move ! (3 ∷ 0 ∷ []) $ join ! $ move ! (1 ∷ 0 ∷ []) $ join ! $
       nothing ! $ move ! (3 ∷ 0 ∷ []) $ fjoin ! $ move ! (2 ∷ 0 ∷ []) $ fjoin ! $ owned ! usize (Is usize) (uint-makes 𝓤 H A W w64) n _ (refl, gn .0) $ fjoin ! $
       owned ! E.the-row (Is E.the-row) (LL.makes E.the-type E′.the-plain 𝓤 H A) r _ gr $ fjoin ! $ move ! (1 ∷ 0 ∷ []) $ join ! $ frame ! $ done !
 
@@ -329,7 +329,7 @@ module _ {M : Type 1} (𝓤 : URA M) (H : Heap 𝓤) (A : Atoms 𝓤) (W : Given
         calls-at ! (fmOf 𝓤 H (W .laws) 𝓣) (Turning 𝓤 H A W mem run) known-turn (to-turn ν₁ δ₁ ν₂ δ₂ p c lg ls)
         (and-then ! (load ! (from ! (stop !)) (look ! 6 refl)) (and-then ! (load ! (from ! (stop !)) (look ! 11 refl)) (and-then ! (load ! (from ! (stop !)) (look ! 13 refl)) (and-then ! (load ! (from ! (stop !)) (look ! 15 refl)) (no-more !))))) (λ u.
         use1 W (later (some (λ (t : Turned). ((‵ (flft (ν₁ ∷ []) fullShare) ⊛ (‵ (flft (ν₂ ∷ []) fullShare) ⊛ ‵ ftrue)) ⊛ ‵ (S.the-row .own t (u ∷ [])))
-            ⊛ raw (ensured 𝓤 H A turn.ended (turn.clauses 𝓤 H A mem run) (ν₁ ∷ [], (ν₂ ∷ [], tt)) (p, (c, (x₁ δ₁ lg, (x₂ δ₂ ls, tt)))) tt t)))) (id⊢ 𝓤 _) $ await ! tt $ pick ! (λ t.
+        ⊛ raw (ensured 𝓤 H A turn.ended (turn.clauses 𝓤 H A mem run) (ν₁ ∷ [], (ν₂ ∷ [], tt)) (p, (c, (x₁ δ₁ lg, (x₂ δ₂ ls, tt)))) tt t)))) (id⊢ 𝓤 _) $ await ! tt $ pick ! (λ t.
         -- what the call ensures, at some last log and list
         split ! $ move ! (1 ∷ []) $ use1 W (some (λ (zs : Unit {0} × (Unit {0} × (Bytes × (Bytes × Unit {0})))). ‵ (lasts turn.ended (ν₁ ∷ [], (ν₂ ∷ [], tt)) (p, (c, (x₁ δ₁ lg, (x₂ δ₂ ls, tt)))) zs) ⊛ raw (fact 𝓤 (Turns p c lg ls t (zs .1 .1 .0) (zs .1 .1 .1 .0))))) (id⊢ 𝓤 _) $ pick ! (λ zs.
         split ! $ move ! (1 ∷ []) $ heard ! (Turns p c lg ls t (zs .1 .1 .0) (zs .1 .1 .1 .0)) (λ e.
@@ -350,7 +350,6 @@ module _ {M : Type 1} (𝓤 : URA M) (H : Heap 𝓤) (A : Atoms 𝓤) (W : Given
         assigns-last ! (of-opd ! (load ! (from ! (fld ! {τ = P′.mir} {d = 16} refl (stop !))) (look-in ! 6 {τ = P′.mir} (sub ! {τs = parts S′.mir} 1 {τ = P′.mir} {d = 16} refl (whole !))))) (from ! (stop !)) (store ! 5 refl (LL.lawful P.the-type P′.the-laws 𝓤 H A W .typed (t .next) _ (is-next t u got) .0)) $
         forget ! 6 refl $ forget ! 7 refl $ forget ! 8 refl $ forget ! 9 refl $ forget ! 10 refl $ forget ! 11 refl $ forget ! 12 refl $ forget ! 13 refl $ forget ! 14 refl $ forget ! 15 refl $
         by ! (k t (zs .1 .1 .0) (zs .1 .1 .1 .0) e (e₁ ∙ len₁) (e₂ ∙ len₂) (is-next t u got))))))))))))))
-
 
     -- the turn that leaves the loop, and the rest of the body
     ends : (p : Progress) (ws : List Card) (lg ls : Bytes) (X : SProp 𝓤) → p .going ≡ false → length ws ≡ n → length lg ≡ n₁ → length ls ≡ n₂ → Is P.the-row p (mprog p ∷ []) → Promised r ys n log₀ list₀ (sweptRow (p .swept) ws) lg ls
@@ -387,7 +386,7 @@ module _ {M : Type 1} (𝓤 : URA M) (H : Heap 𝓤) (A : Atoms 𝓤) (W : Given
         go true g = more p ws lg ls (Below t) g (subst (λ (m : ℕ). p .at < m) (sym (f .rows)) (law.here r ys log₀ list₀ p ws lg ls (f .under) g)) (f .rows) (f .logs) (f .lists) (f .is) (law.ready r ys log₀ list₀ p ws lg ls (f .under) g) (λ k lg′ ls′ e e₁ e₂ gk.
             let less : measure (k .next) < t = subst (λ (j : ℕ). measure (k .next) < j) (f .turns) (law.fewer r ys log₀ list₀ p ws lg ls (f .under) g k lg′ ls′ e) in
             via 𝓤 (Inv (measure (k .next))) (inv-at (measure (k .next)) (k .next) (set ws (p .at) (k .card)) lg′ ls′
-              (record { under = law.after r ys log₀ list₀ p ws lg ls (f .under) g k lg′ ls′ e; rows = length-set ws (p .at) (k .card) ∙ f .rows; logs = e₁; lists = e₂; is = gk; turns = refl }))
+            (record { under = law.after r ys log₀ list₀ p ws lg ls (f .under) g k lg′ ls′ e; rows = length-set ws (p .at) (k .card) ∙ f .rows; logs = e₁; lists = e₂; is = gk; turns = refl }))
             (via 𝓤 (guard 𝓤 (measure (k .next) < t) (Inv (measure (k .next)))) (guardI 𝓤 (measure (k .next) < t) (Inv (measure (k .next))) less) (exI 𝓤 (λ (u : ℕ). guard 𝓤 (u < t) (Inv u)) (measure (k .next)))))
 
     turns : (t : ℕ) → ent 𝓤 (Inv t) (Wp 𝓤 H C Λ En m.turn-1 (afterTurn 𝓤 H (Below t) Left))
@@ -420,7 +419,7 @@ module _ {M : Type 1} (𝓤 : URA M) (H : Heap 𝓤) (A : Atoms 𝓤) (W : Given
         calls-at ! (fmOf 𝓤 H (W .laws) 𝓣) (Opening 𝓤 H A W mem run) known-opening (to-opening ν₁ δ₁ ν₂ δ₂)
         (and-then ! (load ! (from ! (stop !)) (look ! 45 refl)) (and-then ! (load ! (from ! (stop !)) (look ! 33 refl)) (and-then ! (load ! (from ! (stop !)) (look ! 29 refl)) (and-then ! (load ! (from ! (stop !)) (look ! 25 refl)) (no-more !))))) (λ u.
         use1 W (later (some (λ (p : Progress). ((‵ (flft (ν₁ ∷ []) fullShare) ⊛ (‵ (flft (ν₂ ∷ []) fullShare) ⊛ ‵ ftrue)) ⊛ ‵ (P.the-row .own p (u ∷ [])))
-            ⊛ raw (ensured 𝓤 H A opening.ended (opening.clauses 𝓤 H A mem run) (ν₁ ∷ [], (ν₂ ∷ [], tt)) (r, (n, (x₁ δ₁ log₀, (x₂ δ₂ list₀, tt)))) tt p)))) (id⊢ 𝓤 _) $ await ! tt $ pick ! (λ p.
+        ⊛ raw (ensured 𝓤 H A opening.ended (opening.clauses 𝓤 H A mem run) (ν₁ ∷ [], (ν₂ ∷ [], tt)) (r, (n, (x₁ δ₁ log₀, (x₂ δ₂ list₀, tt)))) tt p)))) (id⊢ 𝓤 _) $ await ! tt $ pick ! (λ p.
         split ! $ move ! (1 ∷ []) $ use1 W (some (λ (zs : Unit {0} × (Unit {0} × (Bytes × (Bytes × Unit {0})))). ‵ (lasts opening.ended (ν₁ ∷ [], (ν₂ ∷ [], tt)) (r, (n, (x₁ δ₁ log₀, (x₂ δ₂ list₀, tt)))) zs) ⊛ raw (fact 𝓤 (Opened r n log₀ list₀ p (zs .1 .1 .0) (zs .1 .1 .1 .0))))) (id⊢ 𝓤 _) $ pick ! (λ zs.
         split ! $ move ! (1 ∷ []) $ heard ! (Opened r n log₀ list₀ p (zs .1 .1 .0) (zs .1 .1 .1 .0)) (λ e.
         fsplit ! $ drop ! $ fsplit ! $ drop ! $ fsplit ! $ fsplit ! $ move ! (1 ∷ []) $ feqL ! (λ e₁. move ! (1 ∷ []) $ fsplit ! $ fsplit ! $ move ! (1 ∷ []) $ feqL ! (λ e₂.
