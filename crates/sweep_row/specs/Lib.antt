@@ -1,0 +1,5 @@
+pub mod Row
+pub mod SeenLaws
+pub mod Under
+pub mod TurnLaws
+pub mod PadLaws
