@@ -19,8 +19,8 @@ use Rattle.field.specs.TakeLaws as take-laws
 use Rattle.field.specs.declared.within.One.{One}
 use Rattle.log.specs.Log.{exchangeBytes, listBytes, entryBytes}
 use Rattle.sweep_rules.specs.Limits.{mostCards}
-use Rattle.sweep.specs.Steps as steps
-use Rattle.sweep.specs.declared.within.Progress as plain
+use Rattle.sweep_steps.specs.Steps as steps
+use Rattle.sweep_steps.specs.declared.within.Progress as plain
 use Rattle.card.specs.declared.Card.{Card}
 use Rattle.sweep_row.specs.declared.RowSwept.{RowSwept}
 use Rattle.sweep_row.specs.declared.air.Air.{Air}
