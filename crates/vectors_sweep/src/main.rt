@@ -53,7 +53,7 @@ fn play(
     }
 }
 
-// Reads the next line: a card's, `row` or `sweep`; unless the input is over.
+// Reads and answers the next line, unless the input is over.
 fn answer_next(
     p: Played,
     buffer: &mut [u8],
@@ -73,23 +73,32 @@ fn answer_next(
             is_over: true,
         };
     }
-    if is_word(input, line, b"row") {
-        bench_swept::answer_by_row(before, false, log, list, row, out);
-        return goes_on(before, input);
-    }
-    if is_word(input, line, b"sweep") {
-        bench_swept::answer(before, false, log, list, row, out);
-        return goes_on(bench_field::none(), input);
-    }
-    goes_on(bench_swept::collect(before, input, line, out), input)
-}
-
-fn goes_on(c: Collected, input: Input) -> Played {
     Played {
-        collected: c,
+        collected: answer_line(before, input, line, log, list, row, out),
         input,
         is_over: false,
     }
+}
+
+// The cards after a line: a card's, `row` or `sweep`.
+fn answer_line(
+    c: Collected,
+    input: Input,
+    line: &[u8],
+    log: &mut [u8],
+    list: &mut [u8],
+    row: &mut [u8],
+    out: &mut [u8],
+) -> Collected {
+    if is_word(input, line, b"row") {
+        bench_swept::answer_by_row(c, false, log, list, row, out);
+        return c;
+    }
+    if is_word(input, line, b"sweep") {
+        bench_swept::answer(c, false, log, list, row, out);
+        return bench_field::none();
+    }
+    bench_swept::collect(c, input, line, out)
 }
 
 // Is the line this word alone?
