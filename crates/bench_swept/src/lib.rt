@@ -24,10 +24,17 @@ pub fn collect(c: Collected, input: Input, line: &[u8], out: &mut [u8]) -> Colle
     }
 }
 
-// Sweeps the cards on a new reader, as values, and says what came of it, with or without the trace for people. The lent log, list, row and out
-// are for the sweep's own use.
+// How the cards are swept: as values, or as a row that is lent and changed in place. The answer is the same.
+pub enum Way {
+    Values,
+    Row,
+}
+
+// Sweeps the cards on a new reader and says what came of it, with or without the trace for people. The lent log, list, row and out are for the
+// sweep's own use.
 pub fn answer(
     c: Collected,
+    way: Way,
     has_trace: bool,
     log: &mut [u8],
     list: &mut [u8],
@@ -38,27 +45,17 @@ pub fn answer(
         say_refused(Refusal::Argument, out);
         return;
     }
-    let cards = c.cards;
-    let s = sweep::sweep(reader::new_reader(), cards, c.count, log, list);
+    let s = sweep_cards(c, way, log, list);
     say_answer(s, c.count, has_trace, log, list, row, out);
 }
 
-// The same, over a lent row.
-pub fn answer_by_row(
-    c: Collected,
-    has_trace: bool,
-    log: &mut [u8],
-    list: &mut [u8],
-    row: &mut [u8],
-    out: &mut [u8],
-) {
-    if c.is_refused {
-        say_refused(Refusal::Argument, out);
-        return;
-    }
+fn sweep_cards(c: Collected, way: Way, log: &mut [u8], list: &mut [u8]) -> Swept {
     let cards = c.cards;
-    let s = sweep_row::within::sweep_by_row(reader::new_reader(), cards, c.count, log, list);
-    say_answer(s, c.count, has_trace, log, list, row, out);
+    let r = reader::new_reader();
+    match way {
+        Way::Values => sweep::sweep(r, cards, c.count, log, list),
+        Way::Row => sweep_row::within::sweep_by_row(r, cards, c.count, log, list),
+    }
 }
 
 fn say_answer(

@@ -3,6 +3,7 @@
 use bench::LineKind;
 use bench_field::Collected;
 use bench_io::Input;
+use bench_swept::Way;
 
 // The cards between two lines, the input, and whether that is over.
 pub struct Played {
@@ -91,11 +92,11 @@ fn answer_line(
     out: &mut [u8],
 ) -> Collected {
     if is_word(input, line, b"row") {
-        bench_swept::answer_by_row(c, false, log, list, row, out);
+        bench_swept::answer(c, Way::Row, false, log, list, row, out);
         return c;
     }
     if is_word(input, line, b"sweep") {
-        bench_swept::answer(c, false, log, list, row, out);
+        bench_swept::answer(c, Way::Values, false, log, list, row, out);
         return bench_field::none();
     }
     bench_swept::collect(c, input, line, out)
