@@ -1,4 +1,4 @@
-use mathlib.Core.Path.{_≡_, refl}
+use mathlib.Core.Path.{_≡_, refl, _∙_}
 use native.Mathlib.Omega.{arith}
 use borrow.Author.Needs.{needs}
 use lib.ListN.{length}
@@ -68,7 +68,11 @@ loop-less c = omega arith
 
 -- src/main.rt:38:5
 loop-again : tie.Need-loop-again Inv-loop μ-loop
-loop-again c = search needs
+loop-again c =
+    let a = c .before .before .answer-line .kept in
+    let n = c .before .before .before .before .before .before .before .before .before .before .before .next-line .kept in
+    let i = c .before .before .before .before .before .before .before .before .before .before .before .before .before .before .before .loop .inv in
+    (n .1 .0 ∙ i .0, n .1 .1 .0 ∙ i .1, a .1 .1 .1 .0 ∙ i .2)
 
 -- src/main.rt:34:1
 same-length-4 : tie.Need-same-length-4 Inv-loop μ-loop
