@@ -15,7 +15,7 @@ pub struct Given {
     pub up: usize,
 }
 
-// Messages that are too long for the core reach it all the same.
+// Are these numbers that the language has? Messages that are too long for the core reach it all the same.
 pub fn is_understood(g: Given) -> bool {
     if g.message > 5000 {
         return false;
@@ -38,7 +38,7 @@ pub fn is_understood(g: Given) -> bool {
     g.up <= 4096
 }
 
-// The messages are written anew from their numbers, that of the card's host's last answer too.
+// The message, the answer and the card's host's last answer are written anew from their numbers.
 pub fn exchange(bench: Bench, g: Given, out: &mut [u8]) -> Reply {
     let mut message = [0u8; 5000];
     let mut before = [0u8; 5000];
@@ -56,7 +56,7 @@ pub fn exchange(bench: Bench, g: Given, out: &mut [u8]) -> Reply {
     )
 }
 
-// Byte k is the seed and 7 k, without what is over a byte.
+// Byte k is the low byte of the seed and 7 k.
 fn fill(bytes: &mut [u8], seed: usize) {
     let mut b = bench_lines::within_byte(seed);
     for i in 0..bytes.len() {

@@ -1,4 +1,4 @@
-// A card and a reader that speak to each other over a channel without errors, from text: one answer for each line.
+// Demand 2 from text: a card and a reader that speak to each other over a channel without errors. One answer for each line.
 mod answers;
 mod ends;
 mod exchanges;
@@ -7,7 +7,7 @@ mod lines;
 use card_link::LinkCard;
 use reader_link::LinkReader;
 
-// The two ends, if there are any; and what the card's host answered last: so many bytes, the first of them by the seed.
+// The two ends, if there are any; and how many bytes the card's host's last answer has, with their seed.
 pub struct Bench {
     pub has_ends: bool,
     pub reader: LinkReader,

@@ -1,16 +1,10 @@
+-- `vectors_exchange::play` meets its contract. The measure is the number of turns that are left. Assumes nothing.
 use mathlib.Core.Path.{_≡_, refl, _∙_}
 use native.Mathlib.Omega.{arith}
 use borrow.Author.Needs.{needs}
 use lib.ListN.{length}
 use Rattle.vectors_exchange.proofs.play.Statement.{statement}
 use Rattle.vectors_exchange.proofs.play.Tie as tie
-use Rattle.vectors_exchange.proofs.play.Reads as reads
-use Rattle.vectors_exchange.proofs.play.Lts as lts
-use Rattle.bench_io.proofs.has_line.Reads as has-line-reads
-use Rattle.bench_io.proofs.next_line.Reads as next-line-reads
-use Rattle.bench_io.proofs.start.Reads as start-reads
-use Rattle.vectors_exchange.proofs.answer_line.Reads as answer-line-reads
-use Rattle.vectors_exchange.proofs.start.Reads as start-reads′
 
 abbrev Inv-loop : tie.InvT-loop
 Inv-loop buffer₀ line₀ out₀ bench₀ input₀ turns₀ buffer line out bench input turns = (length buffer ≡ length buffer₀) × (length line ≡ length line₀) × (length out ≡ length out₀)
@@ -18,55 +12,42 @@ Inv-loop buffer₀ line₀ out₀ bench₀ input₀ turns₀ buffer line out ben
 abbrev μ-loop : tie.MeasureT-loop
 μ-loop buffer₀ line₀ out₀ bench₀ input₀ turns₀ buffer line out bench input turns = turns
 
--- src/main.rt:35:9
 start-requires : tie.Need-start-requires Inv-loop μ-loop
 start-requires c κs = tt
 
--- src/main.rt:36:9
 start-requires-2 : tie.Need-start-requires-2 Inv-loop μ-loop
 start-requires-2 c κs = tt
 
--- src/main.rt:38:5
 loop-holds : tie.Need-loop-holds Inv-loop μ-loop
 loop-holds c = (refl, refl, refl)
 
--- src/main.rt:39:9
 sub-turns : tie.Need-sub-turns Inv-loop μ-loop
 sub-turns c = omega arith
 
--- src/main.rt:40:9
 next-line-requires : tie.Need-next-line-requires Inv-loop μ-loop
 next-line-requires c κs = tt
 
--- src/main.rt:41:13
 has-line-requires : tie.Need-has-line-requires Inv-loop μ-loop
 has-line-requires c κs = tt
 
--- src/main.rt:42:13
 same-length : tie.Need-same-length Inv-loop μ-loop
 same-length c = search needs
 
--- src/main.rt:42:13
 same-length-2 : tie.Need-same-length-2 Inv-loop μ-loop
 same-length-2 c = search needs
 
--- src/main.rt:42:13
 same-length-3 : tie.Need-same-length-3 Inv-loop μ-loop
 same-length-3 c = search needs
 
--- src/main.rt:42:13
 returns : tie.Need-returns Inv-loop μ-loop
 returns c = tt
 
--- src/main.rt:44:9
 answer-line-requires : tie.Need-answer-line-requires Inv-loop μ-loop
 answer-line-requires c κs = tt
 
--- src/main.rt:38:5
 loop-less : tie.Need-loop-less Inv-loop μ-loop
 loop-less c = omega arith
 
--- src/main.rt:38:5
 loop-again : tie.Need-loop-again Inv-loop μ-loop
 loop-again c =
     let a = c .before .before .answer-line .kept in
@@ -74,19 +55,15 @@ loop-again c =
     let i = c .before .before .before .before .before .before .before .before .before .before .before .before .before .before .before .loop .inv in
     (n .1 .0 ∙ i .0, n .1 .1 .0 ∙ i .1, a .1 .1 .1 .0 ∙ i .2)
 
--- src/main.rt:34:1
 same-length-4 : tie.Need-same-length-4 Inv-loop μ-loop
 same-length-4 c = search needs
 
--- src/main.rt:34:1
 same-length-5 : tie.Need-same-length-5 Inv-loop μ-loop
 same-length-5 c = search needs
 
--- src/main.rt:34:1
 same-length-6 : tie.Need-same-length-6 Inv-loop μ-loop
 same-length-6 c = search needs
 
--- src/main.rt:34:1
 returns-2 : tie.Need-returns-2 Inv-loop μ-loop
 returns-2 c = tt
 

@@ -1,14 +1,11 @@
+-- `vectors_exchange::exchanges::fill` meets its contract: every index is one of the lent bytes. Assumes nothing.
 use mathlib.Core.Path.{_≡_, refl}
 use Prim.Native.Nat.{_≤_, _-_}
 use native.Mathlib.Omega.{arith}
 use borrow.Author.Needs.{needs}
-use lib.ListN.{length, length-set}
+use lib.ListN.{length}
 use Rattle.vectors_exchange.proofs.exchanges.fill.Statement.{statement}
 use Rattle.vectors_exchange.proofs.exchanges.fill.Tie as tie
-use Rattle.vectors_exchange.proofs.exchanges.fill.Reads as reads
-use Rattle.vectors_exchange.proofs.exchanges.fill.Lts as lts
-use Rattle.bench_lines.proofs.within_byte.Reads as within-byte-reads
-use Rattle.std.proofs.num.wrapping_add_u8.Reads as wrapping-add-u8-reads
 
 abbrev Inv-loop : tie.InvT-loop
 Inv-loop bytes₀ seed b₀ i₀ i-end bytes b i = (length bytes ≡ length bytes₀) × (i ≤ length bytes₀)
@@ -16,39 +13,30 @@ Inv-loop bytes₀ seed b₀ i₀ i-end bytes b i = (length bytes ≡ length byte
 abbrev μ-loop : tie.MeasureT-loop
 μ-loop bytes₀ seed b₀ i₀ i-end bytes b i = length bytes₀ - i
 
--- src/exchanges.rt:61:9
 within-byte-requires : tie.Need-within-byte-requires Inv-loop μ-loop
 within-byte-requires c κs = search needs
 
--- src/exchanges.rt:62:5
 loop-holds : tie.Need-loop-holds Inv-loop μ-loop
 loop-holds c = (refl, omega arith)
 
--- src/exchanges.rt:63:9
 slice-write-bytes : tie.Need-slice-write-bytes Inv-loop μ-loop
 slice-write-bytes c = omega arith
 
--- src/exchanges.rt:64:9
 wrapping-add-u8-requires : tie.Need-wrapping-add-u8-requires Inv-loop μ-loop
 wrapping-add-u8-requires c κs = search needs
 
--- src/exchanges.rt:62:9
 add-i : tie.Need-add-i Inv-loop μ-loop
 add-i c = omega arith
 
--- src/exchanges.rt:62:5
 loop-less : tie.Need-loop-less Inv-loop μ-loop
 loop-less c = omega arith
 
--- src/exchanges.rt:62:5
 loop-again : tie.Need-loop-again Inv-loop μ-loop
 loop-again c = search needs
 
--- src/exchanges.rt:60:1
 same-length : tie.Need-same-length Inv-loop μ-loop
 same-length c = search needs
 
--- src/exchanges.rt:60:1
 returns : tie.Need-returns Inv-loop μ-loop
 returns c = tt
 
