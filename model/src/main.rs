@@ -30,7 +30,7 @@ model vectors_frame | vectors_sweep | vectors_exchange | bench_sweep | bench_car
 model write DIR                          write the stored scripts and their answers
 model check DIR                          compare the stored ones with what would be written
 model coverage                           what the stored scripts reach
-model scripts card|reader|field COUNT SEED   random scripts for larger comparisons";
+model scripts card|reader|field|exchange COUNT SEED   random scripts for larger comparisons";
 
 fn report(outcome: Result<(), String>) {
     if let Err(what) = outcome {
@@ -46,7 +46,8 @@ fn random_scripts(kind: &str, count: &str, seed: &str) -> Result<(), String> {
         "card" => scripts::card::random_scripts(count, seed).input,
         "reader" => scripts::reader::random_scripts(count, seed).input,
         "field" => scripts::field::random_scripts(count, seed).input,
-        _ => return Err("scripts for card, reader or field".to_string()),
+        "exchange" => scripts::exchange::random_scripts(count, seed).input,
+        _ => return Err("scripts for card, reader, field or exchange".to_string()),
     };
     print!("{text}");
     Ok(())

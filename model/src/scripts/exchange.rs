@@ -34,7 +34,8 @@ pub fn script(seed: u64) -> S {
     rounds(&mut s, &mut random);
     in_a_row(&mut s, &mut random);
     ends_refused(&mut s, &mut random);
-    random_lines(&mut s, &mut random);
+    s.remark("random lines");
+    random_lines(&mut s, &mut random, 100);
     lines_not_understood(&mut s);
     s
 }
@@ -200,23 +201,34 @@ fn ends_refused(s: &mut S, random: &mut Random) {
     }
 }
 
-fn random_lines(s: &mut S, random: &mut Random) {
-    s.remark("random lines");
-    for _ in 0..100 {
+/// So many scripts of random lines, for larger comparisons.
+pub fn random_scripts(count: usize, seed: u64) -> S {
+    let mut s = Script::new(VectorsExchange::default());
+    let mut random = Random::new(seed);
+    for _ in 0..count {
+        let (own, index) = (random.below(9), random.below(9));
+        ends(&mut s, &mut random, own, index);
+        random_lines(&mut s, &mut random, 20);
+    }
+    s
+}
+
+fn random_lines(s: &mut S, random: &mut Random, count: usize) {
+    for _ in 0..count {
         let is_open = s.program.ends.as_ref().is_some_and(|ends| ends.reader.phase_name() == "open");
         if random.chance(if is_open { 10 } else { 60 }) {
             let (own, index) = (random.below(9), random.below(9));
             ends(s, random, own, index);
             continue;
         }
-        let most = random.pick(&[30, 300, 1000, 4097]);
+        let most = random.pick(&[30, 300, 1000, 5000]);
         let (message, answer) = (random.below(most + 1), random.below(most + 1));
         let mut l = line(message, answer);
         if random.chance(20) {
-            l.down = random.below(most);
+            l.down = random.below(most).min(4096);
         }
         if random.chance(20) {
-            l.up = random.below(most);
+            l.up = random.below(most).min(4096);
         }
         if random.chance(15) {
             l.rounds = random.below(20);
