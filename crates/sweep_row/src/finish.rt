@@ -1,10 +1,9 @@
 // The end of an exchange: every card has taken the reader's frame.
 ghost use mathlib.Core.Path.{_≡_};
-ghost use mathlib.Core.Bool.{true, _&&_};
+ghost use mathlib.Core.Bool.{true};
 ghost use mathlib.Core.List.{[]};
 ghost use Prim.Native.Nat.{_+_, _*_, _≤_, _<_};
-ghost use lib.ListN.{length, take};
-ghost use lib.Dec.{ltb};
+ghost use lib.ListN.{length};
 ghost use Rattle.rows.specs.Rows.{overlay, clean};
 ghost use Rattle.log.specs.Log.{exchangeBytes, logBytes, listBytes};
 ghost use Rattle.log.specs.Calls.{mostBits};

@@ -1,7 +1,7 @@
 use Prim.Native.Nat.{_≤_}
-use mathlib.Core.Path.{_≡_, refl, sym, ap, ap₂, subst, _∙_}
+use mathlib.Core.Path.{_≡_, sym, ap, ap₂, subst, _∙_}
 use native.Mathlib.Omega.{arith}
-use lib.ListN.{length, take, length-take}
+use lib.ListN.{length, length-take}
 use Rattle.rows.specs.Rows.{overlay}
 use Rattle.field.specs.Merge.{join}
 use Rattle.card.specs.Card.{takes, answers}
@@ -11,47 +11,34 @@ use Rattle.sweep_row.specs.Row.{heardWith, heardCard, heardIn}
 use borrow.Author.Needs.{needs}
 use Rattle.sweep_row.proofs.air.hear_card.Statement.{statement}
 use Rattle.sweep_row.proofs.air.hear_card.Tie as tie
-use Rattle.sweep_row.proofs.air.hear_card.Reads as reads
-use Rattle.sweep_row.proofs.air.hear_card.Lts as lts
-use Rattle.reader.proofs.within.frame_bits.Reads as frame-bits-reads
-use Rattle.reader.proofs.within.put_frame.Reads as put-frame-reads
-use Rattle.sweep_row.proofs.air.take_one.Reads as take-one-reads
 
--- src/air.rt:109:34
 slice-aggregate-put-frame : tie.Need-slice-aggregate-put-frame
 slice-aggregate-put-frame c = search needs
 
--- src/air.rt:109:5
 put-frame-requires : tie.Need-put-frame-requires
 put-frame-requires c κs = search needs
 
--- src/air.rt:110:9
 frame-bits-requires : tie.Need-frame-bits-requires
 frame-bits-requires c κs = search needs
 
--- src/air.rt:112:25
 array-share-prefix-frame : tie.Need-array-share-prefix-frame
 array-share-prefix-frame c =
     let u : Front (frame (c .before .before .before .before .before .args .r)) (c .before .frame-bits .result) (c .before .before .before .put-frame .last .1 .0) = front-of _ _ _ _ (c .before .frame-bits .ensures) (c .before .before .before .put-frame .ensures) in
     u .fits
 
--- src/air.rt:112:25
 slice-aggregate-take-one : tie.Need-slice-aggregate-take-one
 slice-aggregate-take-one c =
     let u : Front (frame (c .before .before .before .before .before .before .args .r)) (c .before .before .frame-bits .result) (c .before .before .before .before .put-frame .last .1 .0) = front-of _ _ _ _ (c .before .before .frame-bits .ensures) (c .before .before .before .before .put-frame .ensures) in
     rw length-take (omega (arith, u .fits))
 
--- src/air.rt:112:38
 slice-aggregate-take-one-2 : tie.Need-slice-aggregate-take-one-2
 slice-aggregate-take-one-2 c = search needs
 
--- src/air.rt:112:9
 take-one-requires : tie.Need-take-one-requires
 take-one-requires c κs =
     let h : length (c .before .before .before .before .before .before .before .args .a .heard) ≡ 45 = search needs in
     (c .before .before .before .before .before .before .before .pre, subst (λ n. 45 ≤ n) (sym h) (omega arith))
 
--- src/air.rt:104:1
 returns : tie.Need-returns
 unfolding heardCard heardWith
 returns c =

@@ -1,25 +1,17 @@
-use mathlib.Core.Path.{refl, ap}
-use Rattle.sweep_row.specs.Row.{endRow}
+use mathlib.Core.Path.{ap}
 use borrow.Author.Needs.{needs}
 use Rattle.sweep_row.proofs.finish.empty.Statement.{statement}
 use Rattle.sweep_row.proofs.finish.empty.Tie as tie
-use Rattle.sweep_row.proofs.finish.empty.Reads as reads
-use Rattle.sweep_row.proofs.finish.empty.Lts as lts
-use Rattle.sweep.proofs.within.run.Reads as run-reads
 
--- src/finish.rt:175:9
 run-requires : tie.Need-run-requires
 run-requires c κs = search needs
 
--- src/finish.rt:159:1
 same-length : tie.Need-same-length
 same-length c = search needs
 
--- src/finish.rt:159:1
 same-length-2 : tie.Need-same-length-2
 same-length-2 c = search needs
 
--- src/finish.rt:159:1
 returns : tie.Need-returns
 returns c = (ap (λ p. record { reader = p .turn .reader; answer = p .turn .answer; frames = p .frames; logged = p .logged; found = p .found }) (c .before .before .before .before .before .before .run .ensures .0), c .before .before .before .before .before .before .run .ensures .1)
 

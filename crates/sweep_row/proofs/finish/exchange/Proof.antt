@@ -1,50 +1,36 @@
 use lib.Seq.{length-take-le}
-use mathlib.Core.Path.{_≡_, refl, sym, ap, ap₂, _∙_}
+use mathlib.Core.Path.{_≡_, sym, ap₂}
 use native.Mathlib.Omega.{arith}
-use lib.ListN.{length, take, length-take}
-use Rattle.reader.specs.Reader.{frame, hear}
+use lib.ListN.{length, length-take}
+use Rattle.reader.specs.Reader.{frame}
 use Rattle.sweep.specs.ExchangeLaws.{Front, front-of}
 use Rattle.sweep.specs.FrameLaws.{frame-clean}
 use Rattle.sweep_row.specs.Row.{exchangeWith, turnWith, exchangedWith}
 use borrow.Author.Needs.{needs}
 use Rattle.sweep_row.proofs.finish.exchange.Statement.{statement}
 use Rattle.sweep_row.proofs.finish.exchange.Tie as tie
-use Rattle.sweep_row.proofs.finish.exchange.Reads as reads
-use Rattle.sweep_row.proofs.finish.exchange.Lts as lts
-use Rattle.reader.proofs.within.frame_bits.Reads as frame-bits-reads
-use Rattle.reader.proofs.within.hear_rules.Reads as hear-rules-reads
-use Rattle.reader.proofs.within.put_frame.Reads as put-frame-reads
-use Rattle.sweep_row.proofs.finish.put_exchange.Reads as put-exchange-reads
 
--- src/finish.rt:50:34
 slice-aggregate-put-frame : tie.Need-slice-aggregate-put-frame
 slice-aggregate-put-frame c = search needs
 
--- src/finish.rt:50:5
 put-frame-requires : tie.Need-put-frame-requires
 put-frame-requires c κs = search needs
 
--- src/finish.rt:51:9
 frame-bits-requires : tie.Need-frame-bits-requires
 frame-bits-requires c κs = search needs
 
--- src/finish.rt:54:39
 array-share-prefix-frame : tie.Need-array-share-prefix-frame
 array-share-prefix-frame c = let u : Front (frame (c .before .before .before .before .before .before .before .args .r)) (c .before .before .frame-bits .result) (c .before .before .before .before .put-frame .last .1 .0) = front-of _ _ _ _ (c .before .before .frame-bits .ensures) (c .before .before .before .before .put-frame .ensures) in u .fits
 
--- src/finish.rt:54:39
 slice-aggregate-put-exchange : tie.Need-slice-aggregate-put-exchange
 slice-aggregate-put-exchange c = let u : Front (frame (c .before .before .before .before .before .before .before .before .args .r)) (c .before .before .before .frame-bits .result) (c .before .before .before .before .before .put-frame .last .1 .0) = front-of _ _ _ _ (c .before .before .before .frame-bits .ensures) (c .before .before .before .before .before .put-frame .ensures) in rw length-take (omega (arith, u .fits))
 
--- src/finish.rt:54:55
 array-share-prefix-heard : tie.Need-array-share-prefix-heard
 array-share-prefix-heard c = c .before .before .before .before .before .before .before .before .pre .0
 
--- src/finish.rt:54:55
 slice-aggregate-put-exchange-2 : tie.Need-slice-aggregate-put-exchange-2
 slice-aggregate-put-exchange-2 c = sym (length-take-le _ _ (c .before .before .before .before .before .before .before .before .before .pre .0))
 
--- src/finish.rt:54:9
 put-exchange-requires : tie.Need-put-exchange-requires
 unfolding exchangeWith
 put-exchange-requires c κs =
@@ -52,23 +38,18 @@ put-exchange-requires c κs =
     let u : Front (frame (c .before .before .before .before .before .before .before .before .before .args .r)) (c .before .before .before .before .frame-bits .result) (c .before .before .before .before .before .before .put-frame .last .1 .0) = front-of _ _ _ _ (c .before .before .before .before .frame-bits .ensures) (c .before .before .before .before .before .before .put-frame .ensures) in
     (rw (u .bits) (frame-clean (c .before .before .before .before .before .before .before .before .before .args .r)), rw length-take (omega (arith, u .fits, c .before .before .before .before .before .before .put-frame .kept .1 .0)), rw length-take (omega (arith, c .before .before .before .before .before .before .before .before .before .pre .0, forty-five)), rw (u .bits) (c .before .before .before .before .before .before .before .before .before .pre .1))
 
--- src/finish.rt:55:46
 array-share-prefix-heard-2 : tie.Need-array-share-prefix-heard-2
 array-share-prefix-heard-2 c = c .before .before .before .before .before .before .before .before .before .before .before .before .pre .0
 
--- src/finish.rt:55:46
 slice-aggregate-hear-rules : tie.Need-slice-aggregate-hear-rules
 slice-aggregate-hear-rules c = sym (length-take-le _ _ (c .before .before .before .before .before .before .before .before .before .before .before .before .before .pre .0))
 
--- src/finish.rt:55:9
 hear-rules-requires : tie.Need-hear-rules-requires
 hear-rules-requires c κs = search needs
 
--- src/finish.rt:44:1
 same-length : tie.Need-same-length
 same-length c = search needs
 
--- src/finish.rt:44:1
 returns : tie.Need-returns
 unfolding exchangedWith exchangeWith turnWith
 returns c = let u : Front (frame (c .before .before .before .before .before .before .before .before .before .before .before .before .before .before .args .r)) (c .before .before .before .before .before .before .before .before .before .frame-bits .result) (c .before .before .before .before .before .before .before .before .before .before .before .put-frame .last .1 .0) = front-of _ _ _ _ (c .before .before .before .before .before .before .before .before .before .frame-bits .ensures) (c .before .before .before .before .before .before .before .before .before .before .before .put-frame .ensures) in

@@ -1,4 +1,4 @@
-use mathlib.Core.Path.{_≡_, refl, sym, ap, _∙_}
+use mathlib.Core.Path.{ap}
 use native.Mathlib.Omega.{arith}
 use lib.ListN.{length}
 use Rattle.sweep.specs.Steps.{foundBy}
@@ -6,47 +6,34 @@ use Rattle.sweep_row.specs.Row.{finished, exchangedWith}
 use borrow.Author.Needs.{needs}
 use Rattle.sweep_row.proofs.finish.finish.Statement.{statement}
 use Rattle.sweep_row.proofs.finish.finish.Tie as tie
-use Rattle.sweep_row.proofs.finish.finish.Reads as reads
-use Rattle.sweep_row.proofs.finish.finish.Lts as lts
-use Rattle.sweep_row.proofs.finish.exchange.Reads as exchange-reads
-use Rattle.sweep_row.proofs.finish.put_found.Reads as put-found-reads
 
--- src/finish.rt:92:9
 exchange-requires : tie.Need-exchange-requires
 exchange-requires c κs = (c .before .before .before .before .pre .bits, c .before .before .before .before .pre .log-room)
 
--- src/finish.rt:94:36
 mul-put-found : tie.Need-mul-put-found
 mul-put-found c = search needs
 
--- src/finish.rt:94:9
 put-found-requires : tie.Need-put-found-requires
 unfolding exchangedWith
 put-found-requires c κs = omega (arith, c .before .before .before .before .before .before .before .before .before .before .pre .list-room, ap (λ x. length (foundBy (x .turn))) (c .before .before .before .before .before .exchange .ensures .0))
 
--- src/finish.rt:100:17
 add-t16 : tie.Need-add-t16
 add-t16 c = search needs
 
--- src/finish.rt:101:17
 add-t17 : tie.Need-add-t17
 unfolding exchangedWith
 add-t17 c = omega (arith, c .before .before .before .before .before .before .before .before .before .before .before .before .before .before .before .before .pre .log-room, c .before .before .before .before .before .before .before .before .before .before .before .before .before .before .before .before .good .1 .1 .0 .1, ap (λ x. x .bytes) (c .before .before .before .before .before .before .before .before .before .before .before .exchange .ensures .0))
 
--- src/finish.rt:102:16
 add-t18 : tie.Need-add-t18
 unfolding exchangedWith
 add-t18 c = omega (arith, c .before .before .before .before .before .before .before .before .before .before .before .before .before .before .before .before .before .pre .list-room, c .before .before .before .before .before .before .before .before .before .before .before .before .before .before .before .before .before .good .1 .1 .1 .0 .1, c .before .before .before .before .before .before .put-found .ensures .0, ap (λ x. length (foundBy (x .turn))) (c .before .before .before .before .before .before .before .before .before .before .before .before .exchange .ensures .0))
 
--- src/finish.rt:84:1
 same-length : tie.Need-same-length
 same-length c = search needs
 
--- src/finish.rt:84:1
 same-length-2 : tie.Need-same-length-2
 same-length-2 c = search needs
 
--- src/finish.rt:84:1
 returns : tie.Need-returns
 unfolding finished exchangedWith
 returns c = (rw (c .before .before .before .before .before .before .put-found .ensures .0, c .before .before .before .before .before .before .before .before .before .before .before .before .exchange .ensures .0), (c .before .before .before .before .before .before .before .before .before .before .before .before .exchange .ensures .1, rw (c .before .before .before .before .before .before .before .before .before .before .before .before .exchange .ensures .0) at (c .before .before .before .before .before .before .put-found .ensures .1)))

@@ -3,20 +3,13 @@ use Rattle.sweep_row.specs.Row.{firstRow}
 use borrow.Author.Needs.{needs}
 use Rattle.sweep_row.proofs.finish.first.Statement.{statement}
 use Rattle.sweep_row.proofs.finish.first.Tie as tie
-use Rattle.sweep_row.proofs.finish.first.Reads as reads
-use Rattle.sweep_row.proofs.finish.first.Lts as lts
-use Rattle.reader.proofs.within.blank.Reads as blank-reads
-use Rattle.reader.proofs.within.sends.Reads as sends-reads
 
--- src/finish.rt:146:35
 blank-requires : tie.Need-blank-requires
 blank-requires c κs = search needs
 
--- src/finish.rt:146:9
 sends-requires : tie.Need-sends-requires
 sends-requires c κs = search needs
 
--- src/finish.rt:143:1
 returns : tie.Need-returns
 unfolding firstRow
 returns c =

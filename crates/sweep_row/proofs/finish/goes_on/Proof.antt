@@ -1,23 +1,16 @@
-use mathlib.Core.Path.{_≡_}
 use borrow.Author.Tests.{lt-ltb, le-ltb}
 use Rattle.sweep_row.specs.Row.{goesOn}
 use borrow.Author.Needs.{needs}
 use Rattle.sweep_row.proofs.finish.goes_on.Statement.{statement}
 use Rattle.sweep_row.proofs.finish.goes_on.Tie as tie
-use Rattle.sweep_row.proofs.finish.goes_on.Reads as reads
-use Rattle.sweep_row.proofs.finish.goes_on.Lts as lts
-use Rattle.sweep_row.proofs.finish.goes.Reads as goes-reads
 
--- src/within.rt:120:9
 goes-requires : tie.Need-goes-requires
 goes-requires c κs = search needs
 
--- src/within.rt:120:9
 returns : tie.Need-returns
 unfolding goesOn
 returns c = rw (lt-ltb _ _ (c .before .if1 .taken)) (c .goes .ensures)
 
--- src/within.rt:114:1
 returns-2 : tie.Need-returns-2
 unfolding goesOn
 returns-2 c = rw (le-ltb _ _ (c .if1 .left))

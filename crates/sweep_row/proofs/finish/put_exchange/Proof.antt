@@ -1,4 +1,4 @@
-use mathlib.Core.Path.{_≡_, sym, ap₂, _∙_}
+use mathlib.Core.Path.{sym, ap₂, _∙_}
 use Prim.Native.Nat.{_+_}
 use native.Mathlib.Omega.{arith}
 use denote.Ref.{now}
@@ -6,41 +6,31 @@ use Rattle.sweep.specs.ExchangeLaws.{length-exchange, exchange-written}
 use borrow.Author.Needs.{needs}
 use Rattle.sweep_row.proofs.finish.put_exchange.Statement.{statement}
 use Rattle.sweep_row.proofs.finish.put_exchange.Tie as tie
-use Rattle.sweep_row.proofs.finish.put_exchange.Reads as reads
-use Rattle.sweep_row.proofs.finish.put_exchange.Lts as lts
-use Rattle.log.proofs.within.put_heard.Reads as put-heard-reads
-use Rattle.log.proofs.within.put_sent.Reads as put-sent-reads
 
--- src/within.rt:40:9
 put-sent-requires : tie.Need-put-sent-requires
 put-sent-requires c κs =
     let a = c .before .before .before .before .args in
     (c .before .before .before .before .pre .0, c .before .before .before .before .pre .1, omega (arith, c .before .before .before .before .pre .3, length-exchange (now (a .frame)) (now (a .heard))))
 
--- src/within.rt:41:46
 add-put-heard : tie.Need-add-put-heard
 add-put-heard c =
     let a = c .before .before .before .before .before .before .before .before .args in
     omega (arith, c .before .before .before .before .before .before .before .before .pre .3, c .before .before .before .put-sent .ensures .0, length-exchange (now (a .frame)) (now (a .heard)))
 
--- src/within.rt:41:9
 put-heard-requires : tie.Need-put-heard-requires
 put-heard-requires c κs =
     let a = c .before .before .before .before .before .before .before .before .args in
     let s = c .before .before .before .put-sent in
     (c .before .before .before .before .before .before .before .before .pre .2, omega (arith, c .before .before .before .before .before .before .before .before .pre .3, s .ensures .0, s .kept .0, length-exchange (now (a .frame)) (now (a .heard))))
 
--- src/within.rt:42:5
 add-result : tie.Need-add-result
 add-result c =
     let a = c .before .before .before .before .before .before .before .before .before .before .before .args in
     omega (arith, c .before .before .before .before .before .before .before .before .before .before .before .pre .3, c .before .before .before .before .before .before .put-sent .ensures .0, c .before .before .put-heard .ensures .0, length-exchange (now (a .frame)) (now (a .heard)))
 
--- src/within.rt:35:1
 same-length : tie.Need-same-length
 same-length c = search needs
 
--- src/within.rt:35:1
 returns : tie.Need-returns
 returns c =
     let a = c .before .before .before .before .before .before .before .before .before .before .before .args in

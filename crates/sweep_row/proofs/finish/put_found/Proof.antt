@@ -3,25 +3,19 @@ use denote.Ref.{now}
 use lib.ListN.{length}
 use Rattle.uid.specs.Uid.{uidBytes}
 use Rattle.sweep.specs.Steps.{foundIn, foundBy}
-use mathlib.Core.Path.{_≡_, refl, sym, ap, _∙_}
+use mathlib.Core.Path.{_≡_, ap}
 use native.Mathlib.Omega.{arith}
 use Rattle.sweep.specs.FoundLaws.{grows-none, grows-one}
 use borrow.Author.Needs.{needs}
 use Rattle.sweep_row.proofs.finish.put_found.Statement.{statement}
 use Rattle.sweep_row.proofs.finish.put_found.Tie as tie
-use Rattle.sweep_row.proofs.finish.put_found.Reads as reads
-use Rattle.sweep_row.proofs.finish.put_found.Lts as lts
-use Rattle.log.proofs.within.put_entry.Reads as put-entry-reads
 
--- src/within.rt:67:29
 enum-told : tie.Need-enum-told
 enum-told c = search needs
 
--- src/within.rt:69:36
 enum-told-2 : tie.Need-enum-told-2
 enum-told-2 c = search needs
 
--- src/within.rt:69:13
 put-entry-requires : tie.Need-put-entry-requires
 unfolding foundBy
 put-entry-requires c κs =
@@ -29,19 +23,15 @@ put-entry-requires c κs =
     let e : foundBy t ≡ uidBytes (t .reader .uid) ∷ [] = ap (λ x. foundIn x (uidBytes (t .reader .uid))) (c .before .enum-told2 .given .1) in
     omega (arith, ap length e)
 
--- src/within.rt:72:28
 enum-told-3 : tie.Need-enum-told-3
 enum-told-3 c = search needs
 
--- src/within.rt:73:29
 enum-told-4 : tie.Need-enum-told-4
 enum-told-4 c = search needs
 
--- src/within.rt:74:32
 enum-told-5 : tie.Need-enum-told-5
 enum-told-5 c = search needs
 
--- src/within.rt:57:1
 returns : tie.Need-returns
 unfolding foundBy
 returns c =
@@ -51,11 +41,9 @@ returns c =
     let g = grows-none (foundBy t) (now (a .list)) (a .at) e in
     (g .0, g .1 .0)
 
--- src/within.rt:57:1
 same-length : tie.Need-same-length
 same-length c = search needs
 
--- src/within.rt:57:1
 returns-2 : tie.Need-returns-2
 unfolding foundBy
 returns-2 c =
@@ -65,7 +53,6 @@ returns-2 c =
     let g = grows-one (foundBy t) (t .reader .uid) (now (a .list)) (a .at) _ e (search needs) (c .before .before .put-entry .ensures) in
     (g .0, g .1 .0)
 
--- src/within.rt:57:1
 returns-3 : tie.Need-returns-3
 unfolding foundBy
 returns-3 c =
@@ -75,7 +62,6 @@ returns-3 c =
     let g = grows-none (foundBy t) (now (a .list)) (a .at) e in
     (g .0, g .1 .0)
 
--- src/within.rt:57:1
 returns-4 : tie.Need-returns-4
 unfolding foundBy
 returns-4 c =
@@ -85,7 +71,6 @@ returns-4 c =
     let g = grows-none (foundBy t) (now (a .list)) (a .at) e in
     (g .0, g .1 .0)
 
--- src/within.rt:57:1
 returns-5 : tie.Need-returns-5
 unfolding foundBy
 returns-5 c =

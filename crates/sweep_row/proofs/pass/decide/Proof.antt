@@ -2,30 +2,20 @@ use Rattle.sweep_row.specs.Row.{decided}
 use borrow.Author.Needs.{needs}
 use Rattle.sweep_row.proofs.pass.decide.Statement.{statement}
 use Rattle.sweep_row.proofs.pass.decide.Tie as tie
-use Rattle.sweep_row.proofs.pass.decide.Reads as reads
-use Rattle.sweep_row.proofs.pass.decide.Lts as lts
-use Rattle.sweep_row.proofs.finish.first.Reads as first-reads
-use Rattle.sweep_row.proofs.pass.again.Reads as again-reads
-use Rattle.sweep_row.proofs.pass.stopped.Reads as stopped-reads
 
--- src/pass.rt:131:25
 first-requires : tie.Need-first-requires
 first-requires c κs = search needs
 
--- src/pass.rt:131:9
 again-requires : tie.Need-again-requires
 again-requires c κs = search needs
 
--- src/pass.rt:131:9
 returns : tie.Need-returns
 unfolding decided
 returns c = rw (c .before .before .if1 .taken, c .again .ensures, c .before .first .ensures)
 
--- src/pass.rt:134:5
 stopped-requires : tie.Need-stopped-requires
 stopped-requires c κs = search needs
 
--- src/pass.rt:126:1
 returns-2 : tie.Need-returns-2
 unfolding decided
 returns-2 c = rw (c .before .before .if1 .left, c .stopped .ensures)

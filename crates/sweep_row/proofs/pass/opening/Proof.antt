@@ -1,95 +1,68 @@
-use mathlib.Core.Path.{_≡_, refl, sym, _∙_}
+use mathlib.Core.Path.{refl, sym, _∙_}
 use borrow.Author.Tests.{not-true, not-false}
 use denote.Ref.{now}
 use Rattle.sweep_row.proofs.Opening.{opens-not-due, opens-no-log, opens-no-list, opens-too-many, empty-log-fits, empty-list-fits, opens-empty, opens-looks}
 use borrow.Author.Needs.{needs}
 use Rattle.sweep_row.proofs.pass.opening.Statement.{statement}
 use Rattle.sweep_row.proofs.pass.opening.Tie as tie
-use Rattle.sweep_row.proofs.pass.opening.Reads as reads
-use Rattle.sweep_row.proofs.pass.opening.Lts as lts
-use Rattle.reader.proofs.within.is_new.Reads as is-new-reads
-use Rattle.sweep_row.proofs.finish.empty.Reads as empty-reads
-use Rattle.sweep_row.proofs.finish.refused.Reads as refused-reads
-use Rattle.sweep_row.proofs.pass.looks.Reads as looks-reads
-use Rattle.sweep_row.proofs.pass.stopped.Reads as stopped-reads
 
--- src/pass.rt:180:9
 is-new-requires : tie.Need-is-new-requires
 is-new-requires c κs = search needs
 
--- src/pass.rt:181:24
 refused-requires : tie.Need-refused-requires
 refused-requires c κs = search needs
 
--- src/pass.rt:181:9
 stopped-requires : tie.Need-stopped-requires
 stopped-requires c κs = search needs
 
--- src/pass.rt:181:9
 returns : tie.Need-returns
 returns c = opens-not-due (c .before .before .before .before .before .before .args .r) (c .before .before .before .before .before .before .args .n) (now (c .before .before .before .before .before .before .args .log)) (now (c .before .before .before .before .before .before .args .list)) (c .stopped .result) _ (c .before .refused .result) (c .before .refused .ensures) (c .stopped .ensures) refl (sym (c .before .before .before .is-new .ensures) ∙ not-true _ (c .before .before .if1 .taken))
 
--- src/pass.rt:184:24
 refused-requires-2 : tie.Need-refused-requires-2
 refused-requires-2 c κs = search needs
 
--- src/pass.rt:184:9
 stopped-requires-2 : tie.Need-stopped-requires-2
 stopped-requires-2 c κs = search needs
 
--- src/pass.rt:184:9
 returns-2 : tie.Need-returns-2
 returns-2 c = opens-no-log (c .before .before .before .before .before .before .before .args .r) (c .before .before .before .before .before .before .before .args .n) (now (c .before .before .before .before .before .before .before .args .log)) (now (c .before .before .before .before .before .before .before .args .list)) (c .stopped2 .result) _ (c .before .refused2 .result) (c .before .refused2 .ensures) (c .stopped2 .ensures) (sym (c .before .before .before .before .is-new .ensures) ∙ not-false _ (c .before .before .before .if1 .left)) refl (c .before .before .if2 .taken)
 
--- src/pass.rt:187:24
 refused-requires-3 : tie.Need-refused-requires-3
 refused-requires-3 c κs = search needs
 
--- src/pass.rt:187:9
 stopped-requires-3 : tie.Need-stopped-requires-3
 stopped-requires-3 c κs = search needs
 
--- src/pass.rt:187:9
 returns-3 : tie.Need-returns-3
 returns-3 c = opens-no-list (c .before .before .before .before .before .before .before .before .args .r) (c .before .before .before .before .before .before .before .before .args .n) (now (c .before .before .before .before .before .before .before .before .args .log)) (now (c .before .before .before .before .before .before .before .before .args .list)) (c .stopped3 .result) _ (c .before .refused3 .result) (c .before .refused3 .ensures) (c .stopped3 .ensures) (sym (c .before .before .before .before .before .is-new .ensures) ∙ not-false _ (c .before .before .before .before .if1 .left)) (c .before .before .before .if2 .left) refl (c .before .before .if3 .taken)
 
--- src/pass.rt:190:24
 refused-requires-4 : tie.Need-refused-requires-4
 refused-requires-4 c κs = search needs
 
--- src/pass.rt:190:9
 stopped-requires-4 : tie.Need-stopped-requires-4
 stopped-requires-4 c κs = search needs
 
--- src/pass.rt:190:9
 returns-4 : tie.Need-returns-4
 returns-4 c = opens-too-many (c .before .before .before .before .before .before .before .before .before .args .r) (c .before .before .before .before .before .before .before .before .before .args .n) (now (c .before .before .before .before .before .before .before .before .before .args .log)) (now (c .before .before .before .before .before .before .before .before .before .args .list)) (c .stopped4 .result) _ (c .before .refused4 .result) (c .before .refused4 .ensures) (c .stopped4 .ensures) (sym (c .before .before .before .before .before .before .is-new .ensures) ∙ not-false _ (c .before .before .before .before .before .if1 .left)) (c .before .before .before .before .if2 .left) refl (c .before .before .before .if3 .left) (c .before .before .if4 .taken)
 
--- src/pass.rt:193:13
 empty-requires : tie.Need-empty-requires
 empty-requires c κs = (empty-log-fits (c .before .before .before .before .before .before .before .before .before .before .args .r) (c .before .before .before .before .before .before .before .before .before .before .args .n) (now (c .before .before .before .before .before .before .before .before .before .before .args .log)) (now (c .before .before .before .before .before .before .before .before .before .before .args .list)) (sym (c .before .before .before .before .before .before .before .is-new .ensures) ∙ not-false _ (c .before .before .before .before .before .before .if1 .left)) (c .before .before .before .before .before .if2 .left) (c .before .before .before .before .if3 .left), empty-list-fits (c .before .before .before .before .before .before .before .before .before .before .args .r) (c .before .before .before .before .before .before .before .before .before .before .args .n) (now (c .before .before .before .before .before .before .before .before .before .before .args .log)) (now (c .before .before .before .before .before .before .before .before .before .before .args .list)) (sym (c .before .before .before .before .before .before .before .is-new .ensures) ∙ not-false _ (c .before .before .before .before .before .before .if1 .left)) (c .before .before .before .before .before .if2 .left) (c .before .before .before .before .if3 .left))
 
--- src/pass.rt:194:9
 stopped-requires-5 : tie.Need-stopped-requires-5
 stopped-requires-5 c κs = search needs
 
--- src/pass.rt:194:9
 same-length : tie.Need-same-length
 same-length c = search needs
 
--- src/pass.rt:194:9
 same-length-2 : tie.Need-same-length-2
 same-length-2 c = search needs
 
--- src/pass.rt:194:9
 returns-5 : tie.Need-returns-5
 returns-5 c = opens-empty (c .before .before .before .before .before .before .before .before .before .before .before .before .before .before .before .before .args .r) (c .before .before .before .before .before .before .before .before .before .before .before .before .before .before .before .before .args .n) (now (c .before .before .before .before .before .before .before .before .before .before .before .before .before .before .before .before .args .log)) (now (c .before .before .before .before .before .before .before .before .before .before .before .before .before .before .before .before .args .list)) (sym (c .before .before .before .before .before .before .before .before .before .before .before .before .before .is-new .ensures) ∙ not-false _ (c .before .before .before .before .before .before .before .before .before .before .before .before .if1 .left)) (c .before .before .before .before .before .before .before .before .before .before .before .if2 .left) (c .before .before .before .before .before .before .before .before .before .before .if3 .left) (c .before .before .before .before .before .before .before .before .if5 .taken) (c .stopped5 .result) (c .before .before .before .before .before .empty .result) (c .stopped5 .ensures) (c .before .before .before .before .before .empty .ensures .0) _ _ (c .before .before .before .before .before .empty .ensures .1 .0) (c .before .before .before .before .before .empty .ensures .1 .1)
 
--- src/pass.rt:196:5
 looks-requires : tie.Need-looks-requires
 looks-requires c κs = search needs
 
--- src/pass.rt:176:1
 returns-6 : tie.Need-returns-6
 returns-6 c = opens-looks (c .before .before .before .before .before .before .before .before .before .args .r) (c .before .before .before .before .before .before .before .before .before .args .n) (now (c .before .before .before .before .before .before .before .before .before .args .log)) (now (c .before .before .before .before .before .before .before .before .before .args .list)) (sym (c .before .before .before .before .before .before .is-new .ensures) ∙ not-false _ (c .before .before .before .before .before .if1 .left)) (c .before .before .before .before .if2 .left) (c .before .before .before .if3 .left) (c .before .before .if4 .left) (c .before .if5 .left) (c .looks .result) (c .looks .ensures)
 

@@ -1,4 +1,4 @@
-use mathlib.Core.Path.{_≡_, sym, subst}
+use mathlib.Core.Path.{sym, subst}
 use native.Mathlib.Omega.{arith}
 use denote.Ref.{now}
 use Rattle.sweep_row.specs.Row.{Roomy}
@@ -6,51 +6,34 @@ use Rattle.sweep_row.specs.TurnLaws.{turns-look, turns-end, turns-on}
 use borrow.Author.Needs.{needs}
 use Rattle.sweep_row.proofs.pass.turn.Statement.{statement}
 use Rattle.sweep_row.proofs.pass.turn.Tie as tie
-use Rattle.sweep_row.proofs.pass.turn.Reads as reads
-use Rattle.sweep_row.proofs.pass.turn.Lts as lts
-use Rattle.sweep_row.proofs.air.hear_card.Reads as hear-card-reads
-use Rattle.sweep_row.proofs.finish.finish.Reads as finish-reads
-use Rattle.sweep_row.proofs.pass.again.Reads as again-reads
-use Rattle.sweep_row.proofs.pass.look.Reads as look-reads
-use Rattle.sweep_row.proofs.pass.onward.Reads as onward-reads
 
--- src/pass.rt:157:13
 look-requires : tie.Need-look-requires
 look-requires c κs = search needs
 
--- src/pass.rt:158:9
 returns : tie.Need-returns
 returns c = turns-look (c .before .before .before .before .args .p) (c .before .before .before .before .args .c) (now (c .before .before .before .before .args .log)) (now (c .before .before .before .before .args .list)) (c .look .result) (c .before .if1 .taken) (c .look .ensures .0) (c .look .ensures .1)
 
--- src/pass.rt:163:9
 hear-card-requires : tie.Need-hear-card-requires
 hear-card-requires c κs = search needs
 
--- src/pass.rt:167:13
 finish-requires : tie.Need-finish-requires
 finish-requires c κs = subst (λ h. Roomy (c .before .before .before .before .before .before .before .before .before .before .before .before .before .args .p .swept) (h .air) (now (c .before .before .before .before .before .before .before .before .before .before .before .before .before .args .log)) (now (c .before .before .before .before .before .before .before .before .before .before .before .before .before .args .list))) (sym (c .before .before .before .before .before .before .hear-card .ensures)) (c .before .before .before .before .before .before .before .before .before .before .before .before .before .pre .room (c .before .before .before .before .before .before .before .before .before .before .if1 .left) (c .before .before .if2 .taken))
 
--- src/pass.rt:168:13
 again-requires : tie.Need-again-requires
 again-requires c κs = omega (arith, c .before .before .before .before .before .before .before .before .before .before .before .before .before .before .before .before .before .before .pre .at)
 
--- src/pass.rt:169:9
 same-length : tie.Need-same-length
 same-length c = search needs
 
--- src/pass.rt:169:9
 same-length-2 : tie.Need-same-length-2
 same-length-2 c = search needs
 
--- src/pass.rt:169:9
 returns-2 : tie.Need-returns-2
 returns-2 c = turns-end (c .before .before .before .before .before .before .before .before .before .before .before .before .before .before .before .before .before .before .before .args .p) (c .before .before .before .before .before .before .before .before .before .before .before .before .before .before .before .before .before .before .before .args .c) (now (c .before .before .before .before .before .before .before .before .before .before .before .before .before .before .before .before .before .before .before .args .log)) (now (c .before .before .before .before .before .before .before .before .before .before .before .before .before .before .before .before .before .before .before .args .list)) (c .before .before .before .before .before .before .before .before .before .before .before .before .before .before .before .before .if1 .left) (c .before .before .before .before .before .before .before .before .before .before .before .before .hear-card .result) (c .before .before .before .before .before .before .before .before .before .before .before .before .hear-card .ensures) (c .before .before .before .before .before .before .before .before .if2 .taken) (c .before .before .before .before .before .finish .result) (c .before .before .before .before .before .finish .ensures .0) (c .again .result) (c .again .ensures) _ _ (c .before .before .before .before .before .finish .ensures .1 .0) (c .before .before .before .before .before .finish .ensures .1 .1)
 
--- src/pass.rt:171:9
 onward-requires : tie.Need-onward-requires
 onward-requires c κs = search needs
 
--- src/pass.rt:152:1
 returns-3 : tie.Need-returns-3
 returns-3 c = turns-on (c .before .before .before .before .before .before .before .before .before .before .before .before .args .p) (c .before .before .before .before .before .before .before .before .before .before .before .before .args .c) (now (c .before .before .before .before .before .before .before .before .before .before .before .before .args .log)) (now (c .before .before .before .before .before .before .before .before .before .before .before .before .args .list)) (c .before .before .before .before .before .before .before .before .before .if1 .left) (c .before .before .before .before .before .hear-card .result) (c .before .before .before .before .before .hear-card .ensures) (c .before .if2 .left) (c .onward .result) (c .onward .ensures)
 

@@ -3,15 +3,10 @@ use mathlib.Core.Path.{_∙_}
 use borrow.Author.Needs.{needs}
 use Rattle.sweep_row.proofs.seen.card_fits.Statement.{statement}
 use Rattle.sweep_row.proofs.seen.card_fits.Tie as tie
-use Rattle.sweep_row.proofs.seen.card_fits.Reads as reads
-use Rattle.sweep_row.proofs.seen.card_fits.Lts as lts
-use Rattle.sweep.proofs.terms.is_within.Reads as is-within-reads
 
--- src/seen.rt:39:5
 is-within-requires : tie.Need-is-within-requires
 is-within-requires c κs = search needs
 
--- src/seen.rt:35:1
 returns : tie.Need-returns
 returns c = (c .is-within .ensures .0 ∙ alone-fits (c .before .args .c), λ e. alone-typed (c .before .args .c) (c .is-within .ensures .1 e))
 

@@ -9,9 +9,6 @@ use Rattle.uid.specs.Uid.{uidBytes}
 use Rattle.sweep_row.specs.SeenLaws.{any-next, any-here, any-done}
 use Rattle.sweep_row.proofs.seen.is_alone.Statement.{statement}
 use Rattle.sweep_row.proofs.seen.is_alone.Tie as tie
-use Rattle.sweep_row.proofs.seen.is_alone.Reads as reads
-use Rattle.sweep_row.proofs.seen.is_alone.Lts as lts
-use Rattle.uid.proofs.same_uid.Reads as same-uid-reads
 
 abbrev Inv-loop : tie.InvT-loop
 Inv-loop u start n uids i₀ i =
@@ -21,38 +18,30 @@ Inv-loop u start n uids i₀ i =
 abbrev μ-loop : tie.MeasureT-loop
 μ-loop u start n uids i₀ i = n - i
 
--- src/terms.rt:62:5
 loop-holds : tie.Need-loop-holds Inv-loop μ-loop
 loop-holds c = (omega arith, omega arith, search needs, refl)
 
--- src/terms.rt:63:17
 mul-v : tie.Need-mul-v Inv-loop μ-loop
 mul-v c = omega arith
 
--- src/terms.rt:63:17
 array-copy-out-v : tie.Need-array-copy-out-v Inv-loop μ-loop
 array-copy-out-v c = omega arith
 
--- src/terms.rt:65:12
 same-uid-requires : tie.Need-same-uid-requires Inv-loop μ-loop
 same-uid-requires c κs = search needs
 
--- src/terms.rt:66:13
 returns : tie.Need-returns Inv-loop μ-loop
 returns c =
     let l = c .before .before .before .before .loop in
     let a = c .before .before .before .before .before .args in
     ap not (sym (any-here (λ v. same (uidBytes (a .u)) (uidBytes v)) (a .t2) (a .n) (omega arith) (l .i) _ (omega arith) (sym (c .before .same-uid .ensures) ∙ c .if1 .taken)) ∙ l .inv .3)
 
--- src/terms.rt:62:9
 add-i : tie.Need-add-i Inv-loop μ-loop
 add-i c = omega arith
 
--- src/terms.rt:62:5
 loop-less : tie.Need-loop-less Inv-loop μ-loop
 loop-less c = omega arith
 
--- src/terms.rt:62:5
 loop-again : tie.Need-loop-again Inv-loop μ-loop
 loop-again c =
     let l = c .before .before .before .before .loop in
@@ -63,7 +52,6 @@ loop-again c =
       sym (any-next (λ v. same (uidBytes (a .u)) (uidBytes v)) (a .t2) (a .n) (omega arith) (l .i) _ (omega arith) (sym (c .before .same-uid .ensures) ∙ c .if1 .left)) ∙ l .inv .3,
     )
 
--- src/terms.rt:58:1
 returns-2 : tie.Need-returns-2 Inv-loop μ-loop
 returns-2 c =
     let l = c .before .loop in

@@ -2,10 +2,7 @@ use mathlib.Core.Path.{refl}
 use Rattle.rows.specs.Rows.{fill}
 use Rattle.sweep_row.proofs.seen.none.Statement.{statement}
 use Rattle.sweep_row.proofs.seen.none.Tie as tie
-use Rattle.sweep_row.proofs.seen.none.Reads as reads
-use Rattle.sweep_row.proofs.seen.none.Lts as lts
 
--- src/seen.rt:21:1
 returns : tie.Need-returns
 unfolding fill
 returns c =
