@@ -3,3 +3,4 @@ pub mod SeenLaws
 pub mod Under
 pub mod TurnLaws
 pub mod PadLaws
+pub mod FieldLaws

@@ -9,8 +9,9 @@ use Rattle.sweep_row.proofs.finish.put_exchange.Tie as tie
 
 put-sent-requires : tie.Need-put-sent-requires
 put-sent-requires c κs =
+    let q = c .before .before .before .before .pre in
     let a = c .before .before .before .before .args in
-    (c .before .before .before .before .pre .0, c .before .before .before .before .pre .1, omega (arith, c .before .before .before .before .pre .3, length-exchange (now (a .frame)) (now (a .heard))))
+    (q .0, q .1, omega (arith, q .3, length-exchange (now (a .frame)) (now (a .heard))))
 
 add-put-heard : tie.Need-add-put-heard
 add-put-heard c =
@@ -19,9 +20,10 @@ add-put-heard c =
 
 put-heard-requires : tie.Need-put-heard-requires
 put-heard-requires c κs =
+    let q = c .before .before .before .before .before .before .before .before .pre in
     let a = c .before .before .before .before .before .before .before .before .args in
     let s = c .before .before .before .put-sent in
-    (c .before .before .before .before .before .before .before .before .pre .2, omega (arith, c .before .before .before .before .before .before .before .before .pre .3, s .ensures .0, s .kept .0, length-exchange (now (a .frame)) (now (a .heard))))
+    (q .2, omega (arith, q .3, s .ensures .0, s .kept .0, length-exchange (now (a .frame)) (now (a .heard))))
 
 add-result : tie.Need-add-result
 add-result c =
