@@ -1,6 +1,6 @@
 use Rattle.reader.specs.Reader.{isNew}
 use mathlib.Core.Bool.{true}
-use mathlib.Core.Path.{_≡_, refl, sym, _∙_}
+use mathlib.Core.Path.{_≡_, sym, _∙_}
 use borrow.Author.Tests.{not-true, not-false}
 use denote.Ref.{now}
 use Rattle.sweep_row.proofs.Opening.{opens-not-due, opens-no-log, opens-no-list, opens-too-many, empty-log-fits, empty-list-fits, opens-empty, opens-looks}
@@ -20,7 +20,7 @@ stopped-requires c κs = search needs
 returns : tie.Need-returns
 returns c =
     let a = c .before .before .before .before .before .before .args in
-    opens-not-due (a .r) (a .n) (now (a .log)) (now (a .list)) (c .stopped .result) _ (c .before .refused .result) (c .before .refused .ensures) (c .stopped .ensures) refl (sym (c .before .before .before .is-new .ensures) ∙ not-true _ (c .before .before .if1 .taken))
+    opens-not-due (a .r) (a .n) (now (a .log)) (now (a .list)) (c .stopped .result) (c .before .refused .result) (c .stopped .ensures) (c .before .refused .ensures) (sym (c .before .before .before .is-new .ensures) ∙ not-true _ (c .before .before .if1 .taken))
 
 refused-requires-2 : tie.Need-refused-requires-2
 refused-requires-2 c κs = search needs
@@ -32,7 +32,7 @@ returns-2 : tie.Need-returns-2
 returns-2 c =
     let a = c .before .before .before .before .before .before .before .args in
     let new : isNew (a .r .phase) ≡ true = sym (c .before .before .before .before .is-new .ensures) ∙ not-false _ (c .before .before .before .if1 .left) in
-    opens-no-log (a .r) (a .n) (now (a .log)) (now (a .list)) (c .stopped2 .result) _ (c .before .refused2 .result) (c .before .refused2 .ensures) (c .stopped2 .ensures) new refl (c .before .before .if2 .taken)
+    opens-no-log (a .r) (a .n) (now (a .log)) (now (a .list)) (c .stopped2 .result) (c .before .refused2 .result) (c .stopped2 .ensures) new (c .before .refused2 .ensures) (c .before .before .if2 .taken)
 
 refused-requires-3 : tie.Need-refused-requires-3
 refused-requires-3 c κs = search needs
@@ -44,7 +44,7 @@ returns-3 : tie.Need-returns-3
 returns-3 c =
     let a = c .before .before .before .before .before .before .before .before .args in
     let new : isNew (a .r .phase) ≡ true = sym (c .before .before .before .before .before .is-new .ensures) ∙ not-false _ (c .before .before .before .before .if1 .left) in
-    opens-no-list (a .r) (a .n) (now (a .log)) (now (a .list)) (c .stopped3 .result) _ (c .before .refused3 .result) (c .before .refused3 .ensures) (c .stopped3 .ensures) new (c .before .before .before .if2 .left) refl (c .before .before .if3 .taken)
+    opens-no-list (a .r) (a .n) (now (a .log)) (now (a .list)) (c .stopped3 .result) (c .before .refused3 .result) (c .stopped3 .ensures) new (c .before .before .before .if2 .left) (c .before .refused3 .ensures) (c .before .before .if3 .taken)
 
 refused-requires-4 : tie.Need-refused-requires-4
 refused-requires-4 c κs = search needs
@@ -56,7 +56,7 @@ returns-4 : tie.Need-returns-4
 returns-4 c =
     let a = c .before .before .before .before .before .before .before .before .before .args in
     let new : isNew (a .r .phase) ≡ true = sym (c .before .before .before .before .before .before .is-new .ensures) ∙ not-false _ (c .before .before .before .before .before .if1 .left) in
-    opens-too-many (a .r) (a .n) (now (a .log)) (now (a .list)) (c .stopped4 .result) _ (c .before .refused4 .result) (c .before .refused4 .ensures) (c .stopped4 .ensures) new (c .before .before .before .before .if2 .left) refl (c .before .before .before .if3 .left) (c .before .before .if4 .taken)
+    opens-too-many (a .r) (a .n) (now (a .log)) (now (a .list)) (c .stopped4 .result) (c .before .refused4 .result) (c .stopped4 .ensures) new (c .before .before .before .before .if2 .left) (c .before .before .before .if3 .left) (c .before .refused4 .ensures) (c .before .before .if4 .taken)
 
 empty-requires : tie.Need-empty-requires
 empty-requires c κs =
