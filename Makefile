@@ -2,7 +2,6 @@
 # `make vectors` writes the programs' scripts and expected output anew, from the independent model.
 .PHONY: run test toolchain vectors vectors-check impostors
 
-BLOCKS = --no-blocks
 MODEL = cargo run --quiet --release --offline --locked --manifest-path model/Cargo.toml --
 
 toolchain:
@@ -16,10 +15,10 @@ run: toolchain
 	@target/bin/bench_sweep <samples/lockers.txt
 
 vectors:
-	$(MODEL) write crates $(BLOCKS)
+	$(MODEL) write crates
 
 vectors-check:
-	@if command -v cargo >/dev/null 2>&1; then $(MODEL) check crates $(BLOCKS); \
+	@if command -v cargo >/dev/null 2>&1; then $(MODEL) check crates; \
 	else echo "no cargo: the stored vectors are not compared with the model"; fi
 
 # Every must-fail edit, those of crates/*/impostors too, in a copy of the repository. This takes an hour or two.

@@ -26,8 +26,8 @@ mod write;
 
 const USAGE: &str = "\
 model vectors_frame | vectors_sweep | bench_sweep | bench_card | bench_reader   play a script from standard input
-model write DIR [--no-blocks]            write the stored scripts and their answers
-model check DIR [--no-blocks]            compare the stored ones with what would be written
+model write DIR                          write the stored scripts and their answers
+model check DIR                          compare the stored ones with what would be written
 model coverage                           what the stored scripts reach
 model scripts card|reader|field COUNT SEED   random scripts for larger comparisons";
 
@@ -60,10 +60,8 @@ fn main() {
         ["bench_sweep"] => language::play(bench_sweep::BenchSweep::default()),
         ["bench_card"] => language::play(bench_card::BenchCard::new()),
         ["bench_reader"] => language::play(bench_reader::BenchReader::new()),
-        ["write", folder] => report(write::write(folder, true)),
-        ["write", folder, "--no-blocks"] => report(write::write(folder, false)),
-        ["check", folder] => report(write::check(folder, true)),
-        ["check", folder, "--no-blocks"] => report(write::check(folder, false)),
+        ["write", folder] => report(write::write(folder)),
+        ["check", folder] => report(write::check(folder)),
         ["coverage"] => report(coverage::report()),
         ["scripts", kind, count, seed] => report(random_scripts(kind, count, seed)),
         _ => {

@@ -19,10 +19,9 @@ fn stored<P: Program>(name: &'static str, script: Script<P>) -> Stored {
     Stored { name, input, output }
 }
 
-/// All stored vectors. Without blocks the card's and the reader's scripts hold no RATS and no block; with them these come in
-/// addition, after the selection.
-pub fn all(blocks: bool) -> Vec<Stored> {
-    let (card, reader) = benches(blocks);
+/// All stored vectors.
+pub fn all() -> Vec<Stored> {
+    let (card, reader) = benches();
     vec![
         stored("vectors_frame", scripts::frame::script(SEED + 1)),
         stored("vectors_sweep", scripts::field::script(SEED + 2)),
@@ -32,19 +31,18 @@ pub fn all(blocks: bool) -> Vec<Stored> {
     ]
 }
 
-fn benches(blocks: bool) -> (scripts::card::S, scripts::reader::S) {
+/// The scripts of the card and of the reader: first the selection, then RATS and blocks.
+fn benches() -> (scripts::card::S, scripts::reader::S) {
     let mut card = scripts::card::script(SEED + 3);
     let mut reader = scripts::reader::script(SEED + 4);
-    if blocks {
-        scripts::card_blocks::add(&mut card, SEED + 5);
-        scripts::reader_blocks::add(&mut reader, SEED + 6);
-    }
+    scripts::card_blocks::add(&mut card, SEED + 5);
+    scripts::reader_blocks::add(&mut reader, SEED + 6);
     (card, reader)
 }
 
-/// Plays the scripts of both benches, blocks included, again, for what they reach.
+/// Plays the scripts of both benches again, for what they reach.
 pub fn bench_scripts() {
-    let (card, reader) = benches(true);
+    let (card, reader) = benches();
     let (card, reader) = (card.input, reader.input);
     crate::coverage::forget();
     let mut replayed = Script::new(crate::bench_card::BenchCard::new());
@@ -62,8 +60,8 @@ fn has(folder: &str, name: &str) -> bool {
     is_there
 }
 
-pub fn write(folder: &str, blocks: bool) -> Result<(), String> {
-    for file in all(blocks).iter().filter(|f| has(folder, f.name)) {
+pub fn write(folder: &str) -> Result<(), String> {
+    for file in all().iter().filter(|f| has(folder, f.name)) {
         let place = Path::new(folder).join(file.name);
         for (name, text) in [("stdin", &file.input), ("stdout", &file.output)] {
             let path = place.join(name);
@@ -74,9 +72,9 @@ pub fn write(folder: &str, blocks: bool) -> Result<(), String> {
     Ok(())
 }
 
-pub fn check(folder: &str, blocks: bool) -> Result<(), String> {
+pub fn check(folder: &str) -> Result<(), String> {
     let mut wrong = Vec::new();
-    for file in all(blocks).iter().filter(|f| has(folder, f.name)) {
+    for file in all().iter().filter(|f| has(folder, f.name)) {
         for (name, text) in [("stdin", &file.input), ("stdout", &file.output)] {
             let path = Path::new(folder).join(file.name).join(name);
             match fs::read(&path) {
@@ -102,41 +100,18 @@ fn first_difference(stored: &[u8], wanted: &[u8]) -> String {
 #[cfg(test)]
 mod tests {
     use super::*;
-    use crate::bench_card::row_line;
-    use crate::blocks::{read_block, Block};
-    use crate::frames::read_standard_with_crc;
 
-    /// The stored files stay small; with blocks they begin with the selection alone.
+    /// The stored files stay small.
     #[test]
-    fn sizes_and_beginnings() {
-        for (short, long) in all(false).iter().zip(all(true)) {
-            assert!(long.input.len() < 260_000 && long.output.len() < 260_000, "{}", long.name);
-            assert!(long.input.starts_with(&short.input) && long.output.starts_with(&short.output), "{}", long.name);
-        }
-    }
-
-    /// Without blocks no line hands over RATS or a block.
-    #[test]
-    fn selection_alone() {
-        for file in all(false) {
-            if file.name.starts_with("vectors") {
-                continue;
-            }
-            for line in file.input.lines() {
-                let words: Vec<&str> = line.split(' ').filter(|w| !w.is_empty()).collect();
-                let Some(Ok(bytes)) = row_line(&words).map(|row| read_standard_with_crc(&row, 256)) else { continue };
-                assert_ne!(bytes[0], 0xE0, "{line}");
-                assert!(matches!(read_block(&bytes), Block::Unknown), "{line}");
-            }
-            for answer in file.output.lines() {
-                assert!(!answer.ends_with("; protocol") && !answer.starts_with("open") && !answer.starts_with("answered"));
-            }
+    fn sizes() {
+        for file in all() {
+            assert!(file.input.len() < 260_000 && file.output.len() < 260_000, "{}", file.name);
         }
     }
 
     #[test]
     fn the_same_each_time() {
-        for (one, other) in all(true).iter().zip(all(true)) {
+        for (one, other) in all().iter().zip(all()) {
             assert_eq!(one.input, other.input);
             assert_eq!(one.output, other.output);
         }

@@ -1,80 +1,59 @@
-// The answers: a result, ` ; ` and the state after it.
-use crate::Bench;
-use crate::Reply;
-use card::Card;
-use card::CardAnswer;
+// The answers: a result at the front of out, then ` ; ` and the state after it. Each function answers how many bytes are written.
+use block::Told;
 use card::CardState;
+use card_link::LinkCard;
 use refusal::Refusal;
 use uid::Level;
 
-// The line is not understood.
-pub fn none(bench: Bench) -> Reply {
-    Reply { bench, length: 0 }
+// A result of words alone.
+pub fn words(text: &[u8], out: &mut [u8]) -> usize {
+    bench_text::put(out, 0, text)
 }
 
-pub fn with_card(bench: Bench, card: Card) -> Bench {
-    Bench {
-        has_card: bench.has_card,
-        card,
-        room: bench.room,
-        message: bench.message,
+pub fn refused(e: Refusal, out: &mut [u8]) -> usize {
+    bench_io::put_refused(out, 0, refusal::number(e))
+}
+
+// `room N`
+pub fn room(n: usize, out: &mut [u8]) -> usize {
+    let p = words(b"room ", out);
+    bench_text::put_decimal(out, p, n)
+}
+
+// What comes of a frame: the row that the card sends, and what its host is told; a whole message stands at the front of message.
+pub fn taken(told: Told, row: &[u8], message: &[u8], out: &mut [u8]) -> usize {
+    match told {
+        Told::Quiet => answer(row, out),
+        Told::Message(n) => delivered(bench::front(message, n), out),
+        Told::Granted => words(b"again", out),
+        Told::Deselected => answer(row, out),
+        Told::Refused(e) => declined(e, out),
     }
 }
 
-pub fn ok(bench: Bench, out: &mut [u8]) -> Reply {
-    let n = bench_text::put(out, 0, b"ok");
-    state(bench, out, n)
-}
-
-pub fn refused(bench: Bench, e: Refusal, out: &mut [u8]) -> Reply {
-    let n = bench_io::put_refused(out, 0, refusal::number(e));
-    state(bench, out, n)
-}
-
-// `room N`, without a state
-pub fn room(bench: Bench, out: &mut [u8]) -> Reply {
-    let n = bench_text::put(out, 0, b"room ");
-    let length = bench_text::put_decimal(out, n, bench.room);
-    Reply { bench, length }
-}
-
-// What the card answers to a row; the bits that it sends stand at the front of sent.
-pub fn taken(bench: Bench, answer: CardAnswer, sent: &[u8], out: &mut [u8]) -> Reply {
-    match answer {
-        CardAnswer::Sends(n) => {
-            let p = bench_text::put(out, 0, b"answer ");
-            let q = bench_text::put_row(out, p, bench::front(sent, n));
-            state(bench, out, q)
-        }
-        CardAnswer::Silent => {
-            let p = bench_text::put(out, 0, b"silent");
-            state(bench, out, p)
-        }
-        CardAnswer::NotTaken(e) => refused(bench, e, out),
-    }
+// What comes of a host's call: it sends, or it is refused.
+pub fn called(told: Told, row: &[u8], out: &mut [u8]) -> usize {
+    let Told::Refused(e) = told else {
+        return answer(row, out);
+    };
+    refused(e, out)
 }
 
 // ` ; ` and the state, behind a result.
-fn state(bench: Bench, out: &mut [u8], at: usize) -> Reply {
+pub fn put_state(has_card: bool, x: LinkCard, out: &mut [u8], at: usize) -> usize {
     let p = bench_text::put(out, at, b" ; ");
-    if !bench.has_card {
-        let length = bench_text::put(out, p, b"none");
-        return Reply { bench, length };
+    if !has_card {
+        return bench_text::put(out, p, b"none");
     }
-    let card = bench.card;
+    let card = x.card;
     let s = card.state;
-    let length = put_state(out, p, s);
-    Reply { bench, length }
-}
-
-fn put_state(out: &mut [u8], at: usize, s: CardState) -> usize {
     match s {
-        CardState::Off => bench_text::put(out, at, b"off"),
-        CardState::Idle => bench_text::put(out, at, b"idle"),
-        CardState::Ready(l) => put_ready(out, at, l),
-        CardState::Active => bench_text::put(out, at, b"active"),
-        CardState::Halt => bench_text::put(out, at, b"halt"),
-        CardState::Protocol(_) => bench_text::put(out, at, b"protocol"),
+        CardState::Off => bench_text::put(out, p, b"off"),
+        CardState::Idle => bench_text::put(out, p, b"idle"),
+        CardState::Ready(l) => put_ready(out, p, l),
+        CardState::Active => bench_text::put(out, p, b"active"),
+        CardState::Halt => bench_text::put(out, p, b"halt"),
+        CardState::Protocol(_) => bench_text::put(out, p, b"protocol"),
     }
 }
 
@@ -84,4 +63,27 @@ fn put_ready(out: &mut [u8], at: usize, l: Level) -> usize {
         Level::Two => bench_text::put(out, at, b"ready 2"),
         Level::Three => bench_text::put(out, at, b"ready 3"),
     }
+}
+
+// A frame that is declined. An I that does not fit is silence on the air, and its host is told 10.
+fn declined(e: Refusal, out: &mut [u8]) -> usize {
+    if refusal::number(e) == 10 {
+        return words(b"told 10", out);
+    }
+    refused(e, out)
+}
+
+// `answer ROW`, or `silent` where it is empty.
+fn answer(row: &[u8], out: &mut [u8]) -> usize {
+    if row.len() == 0 {
+        return words(b"silent", out);
+    }
+    let p = words(b"answer ", out);
+    bench_text::put_row(out, p, row)
+}
+
+// `delivered HEX`
+fn delivered(message: &[u8], out: &mut [u8]) -> usize {
+    let p = words(b"delivered ", out);
+    bench_text::put_hex(out, p, message)
 }

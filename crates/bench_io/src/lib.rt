@@ -1,5 +1,4 @@
 // Lines from standard input, and answers to standard output. A line is handed over as soon as its line feed has come.
-ghost use Prim.Native.Nat.{_≤_};
 use bench::Line;
 use bench::LineKind;
 use libc::STDIN_FILENO;
@@ -69,6 +68,29 @@ pub fn kind(input: Input, text: &[u8]) -> LineKind {
     bench::kind(l.overlong, text)
 }
 
+// Are its words to be read? A line that is too long is answered.
+pub fn is_script(input: Input, text: &[u8], out: &mut [u8]) -> bool {
+    let k = kind(input, text);
+    match k {
+        LineKind::PassedOver => false,
+        LineKind::TooLong => {
+            answer(input, 0, out);
+            false
+        }
+        LineKind::Script => true,
+    }
+}
+
+// Says the answer, n bytes at the front of out; none means that the line is not understood.
+pub fn answer(input: Input, n: usize, out: &mut [u8]) {
+    if n == 0 {
+        let m = not_understood(input, out);
+        say(out, m);
+        return;
+    }
+    say(out, n);
+}
+
 // `line N: not understood`, at the front of out; answers how many bytes.
 pub fn not_understood(input: Input, out: &mut [u8]) -> usize {
     let a = bench_text::put(out, 0, b"line ");
@@ -111,7 +133,7 @@ fn counted(n: usize) -> usize {
 fn collect(input: Input, buffer: &[u8], line: &mut [u8]) -> Input {
     let mut l = input.line;
     let mut at = input.at;
-    let end = least(input.end, buffer.len());
+    let end = bench_text::within::least(input.end, buffer.len());
     while at < end {
         l = bench::feed(line, l, buffer[at]);
         at += 1;
@@ -144,10 +166,4 @@ fn refill(input: Input, buffer: &mut [u8]) -> Input {
         is_ended: n == 0,
         line,
     }
-}
-
-fn least(a: usize, b: usize) -> usize
-    ensures { λ r. ⌜ r ≤ b ⌝ }
-{
-    if a < b { a } else { b }
 }

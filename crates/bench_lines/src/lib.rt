@@ -10,14 +10,24 @@ pub enum RowLine {
     NotUnderstood,
 }
 
+// A card's words: its UID, so many bytes at the front; whether it speaks blocks; its size index. Where they are not understood the rest is
+// of no meaning.
+pub struct CardWords {
+    pub is_understood: bool,
+    pub uid: [u8; 10],
+    pub length: usize,
+    pub blocks: bool,
+    pub index: u8,
+}
+
 // A card from its words; or they are not understood, and the card is of no meaning.
 pub struct CardLine {
     pub is_understood: bool,
     pub new: NewCard,
 }
 
-// `row ROW`, `short HH`, `bytes HEX`, `crc HEX`, by the line's two words. The lent bytes are for the bytes of the last two.
-pub fn row_line(name: &[u8], value: &[u8], bytes: &mut [u8], row: &mut [u8]) -> RowLine {
+// `row ROW`, `short HH`, `bytes HEX`, `crc HEX`, by the line's two words.
+pub fn row_line(name: &[u8], value: &[u8], row: &mut [u8]) -> RowLine {
     if rows::is_same(name, b"row") {
         return plain(value, row);
     }
@@ -25,25 +35,36 @@ pub fn row_line(name: &[u8], value: &[u8], bytes: &mut [u8], row: &mut [u8]) -> 
         return short(value, row);
     }
     if rows::is_same(name, b"bytes") {
-        let n = count_bytes(value, bytes);
-        return standard(n, bytes, row);
+        return standard(value, row);
     }
     if rows::is_same(name, b"crc") {
-        let n = count_bytes(value, bytes);
-        return standard_crc(n, bytes, row);
+        return standard_crc(value, row);
     }
     RowLine::NotUnderstood
 }
 
 // A card's UID, SAK (`20` where it speaks blocks, else `00`) and size index.
-pub fn card_line(uid: &[u8], sak: &[u8], index: &[u8]) -> CardLine {
+pub fn card_words(uid: &[u8], sak: &[u8], index: &[u8]) -> CardWords {
     let mut bytes = [0u8; 10];
     let n = count_bytes(uid, &mut bytes);
     let i = small_number(index);
     let blocks = rows::is_same(sak, b"20");
-    let new = card::new_card(bench::front(&bytes, n), blocks, within_byte(i));
-    CardLine {
+    CardWords {
         is_understood: is_card(n, blocks, sak, i),
+        uid: bytes,
+        length: n,
+        blocks,
+        index: within_byte(i),
+    }
+}
+
+// The card of these words, for a field.
+pub fn card_line(uid: &[u8], sak: &[u8], index: &[u8]) -> CardLine {
+    let w = card_words(uid, sak, index);
+    let bytes = w.uid;
+    let new = card::new_card(bench::front(&bytes, w.length), w.blocks, w.index);
+    CardLine {
+        is_understood: w.is_understood,
         new,
     }
 }
@@ -125,12 +146,14 @@ fn short(value: &[u8], row: &mut [u8]) -> RowLine {
     }
 }
 
-// The row of the first n bytes, any number of them.
-fn standard(n: usize, bytes: &[u8], row: &mut [u8]) -> RowLine {
-    if bytes.len() < n {
+// The row of a word's bytes, any number of them. A line holds fewer than 8,192.
+fn standard(value: &[u8], row: &mut [u8]) -> RowLine {
+    let mut bytes = [0u8; 8192];
+    let n = count_bytes(value, &mut bytes);
+    if n > 8192 {
         return RowLine::NotUnderstood;
     }
-    let b = bench::front(bytes, n);
+    let b = bench::front(&bytes, n);
     if row.len() / 9 < b.len() {
         return RowLine::NotUnderstood;
     }
@@ -139,11 +162,13 @@ fn standard(n: usize, bytes: &[u8], row: &mut [u8]) -> RowLine {
 }
 
 // The same with CRC_A added.
-fn standard_crc(n: usize, bytes: &[u8], row: &mut [u8]) -> RowLine {
-    if bytes.len() < n {
+fn standard_crc(value: &[u8], row: &mut [u8]) -> RowLine {
+    let mut bytes = [0u8; 8192];
+    let n = count_bytes(value, &mut bytes);
+    if n > 8192 {
         return RowLine::NotUnderstood;
     }
-    let b = bench::front(bytes, n);
+    let b = bench::front(&bytes, n);
     if row.len() / 9 < 2 {
         return RowLine::NotUnderstood;
     }

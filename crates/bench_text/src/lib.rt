@@ -2,8 +2,8 @@
 // index behind it, so that the next text goes there. What does not fit is cut off.
 ghost use Rattle.bench_text.specs.Text.{Wrote, hexText, bitsText, rowText, decimalText};
 
-// Functions with conditions, or for this crate alone.
-mod within;
+// Functions with conditions on what they are called with, and parts. Only the crates of this repository call them.
+pub mod within;
 
 // The given text.
 pub fn put(out: &mut [u8], at: usize, text: &[u8]) -> usize

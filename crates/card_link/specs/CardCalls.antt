@@ -22,11 +22,11 @@ use Rattle.block.specs.declared.Told.{Told}
 use Rattle.block.specs.declared.Told.the-variants.{Quiet, Message, Granted, Deselected, Refused}
 use Rattle.block.specs.Out.{Out}
 use Rattle.block.specs.Row.{blockRow, heardRow}
-use Rattle.card_link.specs.declared.CardLink.{CardLink}
+use Rattle.card_blocks.specs.declared.CardLink.{CardLink}
 use Rattle.card_link.specs.declared.LinkCard.{LinkCard}
 use Rattle.card_link.specs.declared.CardTurn.{CardTurn}
-use Rattle.card_link.specs.CardRules.{cardOpen, owes}
-use Rattle.card_link.specs.CardFrames.{cardBlock, cardReply, cardWtx}
+use Rattle.card_blocks.specs.CardRules.{cardOpen, owes}
+use Rattle.card_blocks.specs.CardFrames.{cardBlock, cardReply, cardWtx}
 
 -- Each call that writes a row asks for room for the longest frame, 256 bytes with parity, whatever is heard
 abbrev pub rowRoom : ℕ

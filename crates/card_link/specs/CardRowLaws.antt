@@ -13,10 +13,10 @@ use Rattle.block.specs.Out.{Out}
 use Rattle.block.specs.Block.{verdict}
 use Rattle.block.specs.Row.{blockRow, heardRow}
 use Rattle.block.specs.HeardLaws.{heard-row}
-use Rattle.card_link.specs.declared.CardLink.{CardLink}
+use Rattle.card_blocks.specs.declared.CardLink.{CardLink}
 use Rattle.card_link.specs.declared.LinkCard.{LinkCard}
-use Rattle.card_link.specs.CardRules.{owes, cardTakes}
-use Rattle.card_link.specs.CardFrames.{cardOut, cardBlock, cardReply}
+use Rattle.card_blocks.specs.CardRules.{owes, cardTakes}
+use Rattle.card_blocks.specs.CardFrames.{cardOut, cardBlock, cardReply}
 use Rattle.card_link.specs.CardCalls.{rowRoom, withRow, called, takesInside, takesIn, owesIn, takeCall, replyCall}
 
 -- a card that owes its host's answer takes no frame

@@ -23,12 +23,12 @@ use Rattle.block.specs.Cut.{part}
 use Rattle.block.specs.AirLaws.{made-row}
 use Rattle.block.specs.Out.{Out}
 use Rattle.block.specs.Row.{blockRow, heardRow}
-use Rattle.card_link.specs.declared.CardLink.{CardLink}
-use Rattle.card_link.specs.declared.CardStep.{CardStep}
+use Rattle.card_blocks.specs.declared.CardLink.{CardLink}
+use Rattle.card_blocks.specs.declared.CardStep.{CardStep}
 use Rattle.card_link.specs.declared.CardTurn.{CardTurn}
 use Rattle.card_link.specs.declared.LinkCard.{LinkCard}
-use Rattle.card_link.specs.CardFrames.{cardHears, cardOut, cardBlock}
-use Rattle.card_link.specs.CardLaws.{block-bytes}
+use Rattle.card_blocks.specs.CardFrames.{cardHears, cardOut, cardBlock}
+use Rattle.card_blocks.specs.CardLaws.{block-bytes}
 use Rattle.card_link.specs.CardCalls.{withRow, linkIn, leftBy, takesOutside, takesInside, takesIn, owing, declined, called, takeCall, turnOf}
 
 -- how many air bits an answer has

@@ -9,17 +9,17 @@ ghost use Rattle.frame.specs.Calls.{goodBytes};
 ghost use Rattle.block.specs.Block.{behind};
 ghost use Rattle.block.specs.Row.{heardRow};
 ghost use Rattle.card.specs.Calls.{newCard};
-ghost use Rattle.card_link.specs.CardFrames.{cardHears, cardOut};
+ghost use Rattle.card_blocks.specs.CardFrames.{cardHears, cardOut};
 ghost use Rattle.card_link.specs.CardCalls.{noLink, linkIn, leftBy, withRow, takesOutside, takesInside, takesIn, owing, declined, takeCall, replyCall, askCall, poweredOn, poweredOff, turnOf};
 ghost use Rattle.card_link.specs.WholeLaws.{bitsIn};
-use crate::CardLink;
-use crate::CardStep;
 use crate::CardTurn;
 use crate::LinkCard;
 use block::Told;
 use card::Card;
 use card::CardAnswer;
 use card::CardState;
+use card_blocks::CardLink;
+use card_blocks::CardStep;
 use refusal::Refusal;
 use uid::Made;
 
@@ -38,7 +38,7 @@ pub fn new_card(bytes: &[u8], blocks: bool, index: u8) -> NewLinkCard
     let new = card::new_card(bytes, blocks, index);
     let card = new.card;
     let made = new.made;
-    let link = crate::open(0, 0);
+    let link = card_blocks::open(0, 0);
     NewLinkCard {
         card: LinkCard { card, link },
         made,
@@ -61,11 +61,12 @@ pub fn power_off(x: LinkCard) -> LinkCard
 {
     let card = x.card;
     let off = card::power_off(card);
-    let link = crate::open(0, 0);
+    let link = card_blocks::open(0, 0);
     LinkCard { card: off, link }
 }
 
-fn is_owing(x: LinkCard) -> bool
+// Does the card owe its host's answer?
+pub fn is_owing(x: LinkCard) -> bool
     ensures { λ r. ⌜ r ≡ owing x ⌝ }
 {
     let card = x.card;
@@ -78,7 +79,7 @@ fn is_owing(x: LinkCard) -> bool
         CardState::Ready(_) => false,
         CardState::Active => false,
         CardState::Halt => false,
-        CardState::Protocol(_) => crate::owes_answer(phase),
+        CardState::Protocol(_) => card_blocks::owes_answer(phase),
     }
 }
 
@@ -98,12 +99,12 @@ fn link_in(c: Card, s: CardState) -> CardLink
     ensures { λ r. ⌜ r ≡ linkIn c s ⌝ }
 {
     match s {
-        CardState::Off => crate::open(0, 0),
-        CardState::Idle => crate::open(0, 0),
-        CardState::Ready(_) => crate::open(0, 0),
-        CardState::Active => crate::open(0, 0),
-        CardState::Halt => crate::open(0, 0),
-        CardState::Protocol(i) => crate::open(c.index, i),
+        CardState::Off => card_blocks::open(0, 0),
+        CardState::Idle => card_blocks::open(0, 0),
+        CardState::Ready(_) => card_blocks::open(0, 0),
+        CardState::Active => card_blocks::open(0, 0),
+        CardState::Halt => card_blocks::open(0, 0),
+        CardState::Protocol(i) => card_blocks::open(c.index, i),
     }
 }
 
@@ -128,7 +129,7 @@ fn halted(c: Card) -> LinkCard
         index: c.index,
         state: CardState::Halt,
     };
-    let link = crate::open(0, 0);
+    let link = card_blocks::open(0, 0);
     LinkCard { card, link }
 }
 
@@ -152,7 +153,7 @@ fn hear_row(c: CardLink, row: &[u8], answer: &[u8], buffer: &mut [u8]) -> CardSt
 {
     let mut bytes = [0u8; 256];
     let n = block::within::read_row(c.own, row, &mut bytes);
-    crate::hears(c, &bytes[..n], answer, buffer)
+    card_blocks::hears(c, &bytes[..n], answer, buffer)
 }
 
 // A step of the link handed back, and its block at the front of the lent row.
@@ -163,7 +164,7 @@ fn finish(card: Card, step: CardStep, answer: &[u8], out: &mut [u8]) -> CardTurn
 {
     let told = step.told;
     let link = step.link;
-    let b = crate::sent(step, answer);
+    let b = card_blocks::sent(step, answer);
     let bits = block::within::put_block(b, out);
     let left = left_by(told, card, link);
     CardTurn {
@@ -259,7 +260,7 @@ pub fn reply(x: LinkCard, answer: &[u8], out: &mut [u8]) -> CardTurn
     }
     let card = x.card;
     let link = x.link;
-    let step = crate::replies(link, answer.len());
+    let step = card_blocks::replies(link, answer.len());
     finish(card, step, answer, out)
 }
 
@@ -276,7 +277,7 @@ pub fn ask(x: LinkCard, wtx: u8, out: &mut [u8]) -> CardTurn
     }
     let card = x.card;
     let link = x.link;
-    let step = crate::asks(link, wtx);
+    let step = card_blocks::asks(link, wtx);
     let none = [0u8; 0];
     finish(card, step, &none, out)
 }

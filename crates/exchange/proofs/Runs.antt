@@ -11,10 +11,10 @@ use Rattle.rows.specs.Rows.{overlay}
 use Rattle.selection.specs.Selection.{size}
 use Rattle.block.specs.Cut.{payloadMax, follows, part, fits}
 use Rattle.block.specs.Block.{kind, wtxOk}
-use Rattle.card_link.specs.CardRules.{cardOpen, cardTakes, cardReplies, cardAsks, cardI, cardTakesI, cardTakesAck, cardTakesNak}
-use Rattle.card_link.specs.CardFrames.{cardBlock, cardReply, cardWtx, cardOut}
-use Rattle.reader_link.specs.ReaderRules.{readerOpen, readerI, readerAgain, readerRepeats, readerEchoes, readerStarts, readerTakesI, readerTakesAck}
-use Rattle.reader_link.specs.ReaderFrames.{readerBlock, readerSend, readerOut}
+use Rattle.card_blocks.specs.CardRules.{cardOpen, cardTakes, cardReplies, cardAsks, cardI, cardTakesI, cardTakesAck, cardTakesNak}
+use Rattle.card_blocks.specs.CardFrames.{cardBlock, cardReply, cardWtx, cardOut}
+use Rattle.reader_blocks.specs.ReaderRules.{readerOpen, readerI, readerAgain, readerRepeats, readerEchoes, readerStarts, readerTakesI, readerTakesAck}
+use Rattle.reader_blocks.specs.ReaderFrames.{readerBlock, readerSend, readerOut}
 use Rattle.exchange.specs.Exchange.{Fate, Arrives, Fails, Act, Answers, Asks, Waits, Round, clean, passes, Run, exchange, talk}
 
 -- n bytes that count up from b

@@ -1,5 +1,5 @@
 -- Both ends joined over a channel: one message of the reader's host and the answer of the card's host.
-use Prim.Native.Nat.{ℕ, _+_, _≤_}
+use Prim.Native.Nat.{ℕ, _+_, _≤_, _<_}
 use mathlib.Core.Path.{_≡_}
 use mathlib.Core.Bool.{Bool, true, false, cond, not}
 use mathlib.Core.List.{List, [], _∷_, _++_}
@@ -9,18 +9,18 @@ use Rattle.block.specs.declared.Block.{Block}
 use Rattle.block.specs.declared.Block.the-variants.{I, Ack, Nak, Deselect, Wtx, Unknown, Nothing}
 use Rattle.block.specs.declared.Told.{Told}
 use Rattle.block.specs.declared.Told.the-variants.{Quiet, Message, Granted, Deselected, Refused}
-use Rattle.card_link.specs.declared.CardPhase.the-variants.{Receiving}
-use Rattle.card_link.specs.declared.CardLink.{CardLink}
-use Rattle.reader_link.specs.declared.ReaderLink.{ReaderLink}
+use Rattle.card_blocks.specs.declared.CardPhase.the-variants.{Receiving}
+use Rattle.card_blocks.specs.declared.CardLink.{CardLink}
+use Rattle.reader_blocks.specs.declared.ReaderLink.{ReaderLink}
 use Rattle.rows.specs.Rows.{overlay}
 use Rattle.frame.specs.Frame.{Verdict, Good, Fault}
 use Rattle.block.specs.Cut.{fewest}
 use Rattle.block.specs.Out.{Out}
 use Rattle.block.specs.Block.{verdict, heardBlock}
-use Rattle.card_link.specs.CardRules.{owes}
-use Rattle.card_link.specs.CardFrames.{cardBlock, cardReply, cardWtx}
-use Rattle.reader_link.specs.ReaderRules.{readerOpen}
-use Rattle.reader_link.specs.ReaderFrames.{readerBlock, readerSend}
+use Rattle.card_blocks.specs.CardRules.{owes}
+use Rattle.card_blocks.specs.CardFrames.{cardBlock, cardReply, cardWtx}
+use Rattle.reader_blocks.specs.ReaderRules.{readerOpen}
+use Rattle.reader_blocks.specs.ReaderFrames.{readerBlock, readerSend}
 
 -- a frame on its way arrives, or fails one of the tests 7, 2, 8, 3, 4 where it is heard
 pub data Fate : Type 0 where
@@ -141,6 +141,16 @@ unfoldable pub countI : List (List ℕ) → ℕ
 countI [] = 0
 countI (f ∷ fs) = isI (heardBlock (Good f)) + countI fs
 
+-- a block that a card in Protocol may have sent last: DESELECT's answer leaves Protocol, and WTX has one byte
+abbrev pub Fine : Block → Type 0
+Fine (Wtx v) = v < 256
+Fine Deselect = ⊥
+Fine (I n chained) = Unit
+Fine (Ack n) = Unit
+Fine (Nak n) = Unit
+Fine Unknown = Unit
+Fine Nothing = Unit
+
 -- between messages: the reader of size index i is open, the card of size index j listens, the numbers differ
 pub record Between (i j : ℕ) (e : Ends) : Type 0 where
   pub reader : e .reader ≡ readerOpen i j (e .reader .number)
@@ -149,6 +159,7 @@ pub record Between (i j : ℕ) (e : Ends) : Type 0 where
   pub joined : e .card .joined ≡ 0
   pub own : e .card .own ≡ j
   pub other : e .card .reader ≡ i
+  pub last : Fine (e .card .last)
   pub lent : e .card .at ≤ length (e .lent)
 
 -- the run r brings the message m, once and whole, to the card's host, and the answer a to the reader's, whose buffer was u; and the ends
@@ -157,6 +168,7 @@ pub record Answered (i j : ℕ) (m a u : List ℕ) (r : Run) : Type 0 where
   pub got : r .got ≡ m ∷ []
   pub told : r .told ≡ Message (length a)
   pub up : r .ends .up ≡ overlay u 0 a
+  pub lent : r .ends .lent ≡ a
   pub between : Between i j (r .ends)
 
 -- demand 2: what comes of the message m and the answer a over a channel without errors, from e to the end of the run r

@@ -13,11 +13,11 @@ use Rattle.block.specs.declared.Block.{Block}
 use Rattle.block.specs.declared.Block.the-variants.{I, Ack, Nothing}
 use Rattle.block.specs.declared.Told.{Told}
 use Rattle.block.specs.declared.Told.the-variants.{Quiet, Message}
-use Rattle.card_link.specs.declared.CardPhase.the-variants.{Receiving, Owing, Answering}
-use Rattle.card_link.specs.declared.CardLink.{CardLink}
-use Rattle.reader_link.specs.declared.ReaderLink.{ReaderLink}
-use Rattle.reader_link.specs.declared.Turn.{Turn}
-use Rattle.reader_link.specs.declared.Turn.the-variants.{Sending, Awaiting, Joining}
+use Rattle.card_blocks.specs.declared.CardPhase.the-variants.{Receiving, Owing, Answering}
+use Rattle.card_blocks.specs.declared.CardLink.{CardLink}
+use Rattle.reader_blocks.specs.declared.ReaderLink.{ReaderLink}
+use Rattle.reader_blocks.specs.declared.Turn.{Turn}
+use Rattle.reader_blocks.specs.declared.Turn.the-variants.{Sending, Awaiting, Joining}
 use Rattle.rows.specs.Rows.{overlay}
 use Rattle.rows.specs.RowLaws.{overlay-nil, overlay-next, length-overlay}
 use Rattle.frame.specs.Frame.{Good}
@@ -25,10 +25,10 @@ use Rattle.block.specs.Cut.{payloadMax, follows, part, fewest, messageMax}
 use Rattle.block.specs.Out.{Out}
 use Rattle.block.specs.Block.{kind, verdict, heardBlock, blockBytes}
 use Rattle.block.specs.CutLaws.{fewest-last, fewest-next, fewest-some, fewest-most, part-full, part-fits, part-rest, part-in, take-part}
-use Rattle.card_link.specs.CardRules.{cardOpen, owes}
-use Rattle.card_link.specs.CardFrames.{cardBlock}
-use Rattle.reader_link.specs.ReaderRules.{lastIsOut, readerOpen}
-use Rattle.reader_link.specs.ReaderFrames.{readerBlock, readerSend}
+use Rattle.card_blocks.specs.CardRules.{cardOpen, owes}
+use Rattle.card_blocks.specs.CardFrames.{cardBlock}
+use Rattle.reader_blocks.specs.ReaderRules.{lastIsOut, readerOpen}
+use Rattle.reader_blocks.specs.ReaderFrames.{readerBlock, readerSend}
 use Rattle.exchange.specs.Exchange.{Round, Answers, clean, Ends, carried, acts, delivered, passes, Run, isQuiet, over, exchange, talk, isI, countI, Between, Exchanged}
 use Rattle.exchange.specs.StepLaws.{card, reader, card-chained, card-last, card-reply, card-acked, reader-start, reader-acked, reader-chained, reader-last}
 
@@ -45,6 +45,7 @@ pub record Rest (i j : ℕ) (a : List ℕ) (got : List (List ℕ)) (down up : Li
   pub up-is : r .ends .up ≡ up
   pub downs-are : countI (r .downs) ≡ x
   pub ups-are : countI (r .ups) ≡ y
+  pub lent-is : r .ends .lent ≡ a
   pub between-is : Between i j (r .ends)
 
 -- when the reader's host has been told something the run is over
@@ -82,6 +83,7 @@ module _ (m a : List ℕ) (e : Ends) (f : List ℕ) (c h : Out CardLink) (l : Li
     up-is = k .up-is;
     downs-are = ap (λ n. isI (heardBlock (Good f)) + n) (k .downs-are);
     ups-are = ap (λ n. isI (heardBlock (Good (h .sent))) + n) (k .ups-are);
+    lent-is = k .lent-is;
     between-is = k .between-is;
   })
 
@@ -135,7 +137,8 @@ module _ (i j : ℕ) (m a d u : List ℕ) (ha : length a ≤ messageMax) (hu : l
         up-is = joined-all i at a u h (omega (arith, part-in i at a h)) l;
         downs-are = refl;
         ups-are = omega arith;
-        between-is = record { reader = refl; number = sym (Bool·not-not n); phase = refl; joined = refl; own = refl; other = refl; lent = h };
+        lent-is = refl;
+        between-is = record { reader = refl; number = sym (Bool·not-not n); phase = refl; joined = refl; own = refl; other = refl; last = tt; lent = h };
       })
 
   -- the card's I of place at is on its way to the reader; k more follow it
@@ -241,7 +244,7 @@ module _ (i j : ℕ) (m a : List ℕ) (e : Ends) (hm : length m ≤ messageMax) 
       let x : Rest i j a (m ∷ []) (overlay (e .down) 0 m) (overlay (e .up) 0 a) (fewest j (length m)) (fewest i (length a)) (talk m a (replicate g clean) e) =
       rw (es, ec) (rw (some, overlay-nil (e .down) 0) at (down-run i j m a (e .down) (e .up) (e .lent) hm hd ha hu k g 0 (e .card .at) n (not n) (e .card .last) (follows j 0 (length m))
       refl refl (rw sub-zero (sym some)) (omega arith) (omega arith) (b .lent))) in
-      record { answered = record { got = x .got-is; told = x .told-is; up = x .up-is; between = x .between-is }; down = x .down-is; downs = x .downs-are; ups = x .ups-are }
+      record { answered = record { got = x .got-is; told = x .told-is; up = x .up-is; lent = x .lent-is; between = x .between-is }; down = x .down-is; downs = x .downs-are; ups = x .ups-are }
 
   -- 631 rounds are always enough
   pub exchanged : Exchanged i j m a e (talk m a (replicate 631 clean) e)
@@ -249,4 +252,4 @@ module _ (i j : ℕ) (m a : List ℕ) (e : Ends) (hm : length m ≤ messageMax) 
 
 -- the ends after RATS and ATS are such a state
 pub after-ats : (i j : ℕ) (d u : List ℕ) → Between i j (record { reader = readerOpen i j false; card = cardOpen j i; down = d; up = u; lent = [] })
-after-ats i j d u = record { reader = refl; number = refl; phase = refl; joined = refl; own = refl; other = refl; lent = omega arith }
+after-ats i j d u = record { reader = refl; number = refl; phase = refl; joined = refl; own = refl; other = refl; last = tt; lent = omega arith }

@@ -6,40 +6,31 @@ use mathlib.Core.Bool.{Bool, true, false, cond, not, false≢true, Bool·beq as 
 use mathlib.Core.List.{List, [], _∷_}
 use lib.ListN.{length}
 use lib.Dec.{eqb, leb, ltb}
-use Rattle.rows.specs.Rows.{All, Bytes}
+use Rattle.rows.specs.Rows.{Bytes}
 use Rattle.rows.specs.ListLaws.{all-take, all-drop}
 use Rattle.refusal.specs.declared.Refusal.{Refusal}
 use Rattle.block.specs.declared.Block.{Block}
 use Rattle.block.specs.declared.Block.the-variants.{I, Ack, Nak, Deselect, Wtx, Unknown, Nothing}
 use Rattle.block.specs.declared.Told.{Told}
 use Rattle.block.specs.declared.Told.the-variants.{Quiet, Message, Granted, Deselected, Refused}
-use Rattle.block.specs.Cut.{payloadMax, follows, part, fits, messageMax}
+use Rattle.block.specs.Cut.{payloadMax, part, fits, messageMax}
 use Rattle.frame.specs.Frame.{Good, Fault}
 use Rattle.selection.specs.Selection.{size}
 use Rattle.refusal.specs.declared.Refusal.the-variants.{Length}
 use Rattle.block.specs.Block.{blockBytes, wtxOk, kind, heardBlock, verdict}
-use Rattle.card_link.specs.declared.CardPhase.{CardPhase}
-use Rattle.card_link.specs.declared.CardPhase.the-variants.{Receiving, Owing, Waiting, Answering}
-use Rattle.card_link.specs.declared.CardLink.{CardLink}
-use Rattle.card_link.specs.declared.CardStep.{CardStep}
-use Rattle.card_link.specs.CardRules.{cardSilent, cardI, cardJoins, cardNext, cardGranted, cardTakesI, cardTakesAck, cardTakesNak, cardRules, owes, cardTakes, cardReplies}
-use Rattle.reader_link.specs.declared.Turn.{Turn}
-use Rattle.reader_link.specs.declared.Turn.the-variants.{Sending, Awaiting, Joining}
-use Rattle.reader_link.specs.declared.ReaderPhase.{ReaderPhase}
-use Rattle.reader_link.specs.declared.ReaderPhase.the-variants.{Open, Talking, Leaving, Finished, Stopped}
-use Rattle.reader_link.specs.declared.ReaderLink.{ReaderLink}
-use Rattle.reader_link.specs.declared.ReaderStep.{ReaderStep}
-use Rattle.reader_link.specs.ReaderRules.{readerKeeps, stops, readerI, readerAgain, ackOwn, ackOther, readerJoins, asksAgain, awaitsI, readerRepeats, readerEchoes, readerTakesI, readerTakesAck, readerRules, readerTakes, isOpen, readerStarts}
-use Rattle.exchange.specs.Exchange.{isQuiet}
-
-abbrev pub Fine : Block → Type 0
-Fine (Wtx v) = v < 256
-Fine Deselect = ⊥
-Fine (I n chained) = Unit
-Fine (Ack n) = Unit
-Fine (Nak n) = Unit
-Fine Unknown = Unit
-Fine Nothing = Unit
+use Rattle.card_blocks.specs.declared.CardPhase.{CardPhase}
+use Rattle.card_blocks.specs.declared.CardPhase.the-variants.{Receiving, Owing, Waiting, Answering}
+use Rattle.card_blocks.specs.declared.CardLink.{CardLink}
+use Rattle.card_blocks.specs.declared.CardStep.{CardStep}
+use Rattle.card_blocks.specs.CardRules.{cardSilent, cardI, cardJoins, cardNext, cardGranted, cardTakesI, cardTakesAck, cardTakesNak, cardRules, owes, cardTakes, cardReplies}
+use Rattle.reader_blocks.specs.declared.Turn.{Turn}
+use Rattle.reader_blocks.specs.declared.Turn.the-variants.{Sending, Awaiting, Joining}
+use Rattle.reader_blocks.specs.declared.ReaderPhase.{ReaderPhase}
+use Rattle.reader_blocks.specs.declared.ReaderPhase.the-variants.{Open, Talking, Leaving, Finished, Stopped}
+use Rattle.reader_blocks.specs.declared.ReaderLink.{ReaderLink}
+use Rattle.reader_blocks.specs.declared.ReaderStep.{ReaderStep}
+use Rattle.reader_blocks.specs.ReaderRules.{stops, readerI, readerAgain, ackOwn, ackOther, readerJoins, asksAgain, awaitsI, readerRepeats, readerEchoes, readerTakesI, readerTakesAck, readerRules, readerTakes, isOpen, readerStarts}
+use Rattle.exchange.specs.Exchange.{isQuiet, Fine}
 
 -- the bytes of such a block are bytes
 pub fine-bytes : (b : Block) (p : List ℕ) → Fine b → Bytes p → Bytes (blockBytes b p)

@@ -4,3 +4,7 @@ pub mod ExchangeLaws
 pub mod RowExchange
 pub mod FineLaws
 pub mod RowExchangeLaws
+pub mod MessageLaws
+pub mod Steps
+pub mod Promise
+pub mod RunLaws

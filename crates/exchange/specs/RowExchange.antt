@@ -1,23 +1,27 @@
 -- Demand 2 on rows: the whole reader and the whole card joined by their calls over a channel without errors. One message of the reader's
 -- host and the answer of the card's host, who gives it as soon as it is owed.
-use Prim.Native.Nat.{ℕ, zero, suc}
+use Prim.Native.Nat.{ℕ, zero, suc, _+_, _≤_}
 use mathlib.Core.Bool.{cond}
 use mathlib.Core.Path.{_≡_}
 use mathlib.Core.List.{List, [], _∷_, _++_, map}
 use lib.ListN.{length}
 use Rattle.rows.specs.Rows.{overlay}
+use Rattle.card.specs.declared.CardState.the-variants.{Protocol}
+use Rattle.reader.specs.declared.Answer.{Answer}
+use Rattle.reader.specs.declared.Answer.the-variants.{Sends, Finds, Selects, Finishes, Declines}
 use Rattle.block.specs.declared.Told.{Told}
-use Rattle.block.specs.declared.Told.the-variants.{Quiet, Message}
-use Rattle.block.specs.Cut.{fewest}
+use Rattle.block.specs.declared.Told.the-variants.{Quiet, Message, Refused}
+use Rattle.block.specs.Cut.{fewest, messageMax}
 use Rattle.block.specs.Out.{Out}
 use Rattle.block.specs.Row.{blockRow}
 use Rattle.card_link.specs.declared.LinkCard.{LinkCard}
 use Rattle.card_link.specs.CardCalls.{owing, takeCall, replyCall}
 use Rattle.reader_link.specs.declared.LinkReader.{LinkReader}
+use Rattle.reader_link.specs.declared.Link.the-variants.{Linked}
 use Rattle.reader_link.specs.declared.LinkAnswer.{LinkAnswer}
 use Rattle.reader_link.specs.declared.LinkAnswer.the-variants.{Selection, Opens, Blocks}
 use Rattle.reader_link.specs.ReaderCalls.{Called, hearCall, sendCall}
-use Rattle.exchange.specs.Exchange.{delivered, isQuiet, countI}
+use Rattle.exchange.specs.Exchange.{Ends, delivered, isQuiet, countI, Between}
 
 -- both ends, their message buffers (down is the card's, up the reader's), and the answer that the card's host lends
 pub record RowEnds : Type 0 where
@@ -27,9 +31,17 @@ pub record RowEnds : Type 0 where
   pub up : List ℕ
   pub lent : List ℕ
 
+-- what a reader's host is told of its messages: nothing of a selection that goes on
+abbrev pub toldOf : Answer → Told
+toldOf (Declines e) = Refused e
+toldOf (Sends n) = Quiet
+toldOf (Finds n) = Quiet
+toldOf Selects = Quiet
+toldOf Finishes = Quiet
+
 abbrev pub toldBy : LinkAnswer → Told
 toldBy (Blocks n t) = t
-toldBy (Selection a) = Quiet
+toldBy (Selection a) = toldOf a
 toldBy (Opens i) = Quiet
 
 -- after a round: the messages that the card's host got in it, the card's row, the ends, what the reader's host is told, its next row
@@ -82,8 +94,27 @@ rowTalk m a room g e =
     let s : Called = sendCall (e .reader) m room in
     rowExchange m a room g (record { reader = s .turn .reader; card = e .card; down = e .down; up = e .up; lent = e .lent }) (toldBy (s .turn .answer)) (s .sent)
 
+-- between messages: the card is in Protocol, the reader linked, and the links are as after a message
+pub record RowBetween (i j : ℕ) (e : RowEnds) : Type 0 where
+  pub links : Ends
+  pub reader : e .reader .link ≡ Linked (links .reader)
+  pub card : e .card .link ≡ links .card
+  pub lent : e .lent ≡ links .lent
+  pub index : ℕ
+  pub protocol : e .card .card .state ≡ Protocol index
+  pub between : Between i j links
+
+-- the terms of demand 2: both ends between messages, message and answer of up to 4,096 bytes, buffers that hold them, rounds enough
+pub record Terms (i j : ℕ) (m a : List ℕ) (rounds : ℕ) (e : RowEnds) : Type 0 where
+  pub ends : RowBetween i j e
+  pub message : length m ≤ messageMax
+  pub answer : length a ≤ messageMax
+  pub down : length m ≤ length (e .down)
+  pub up : length a ≤ length (e .up)
+  pub enough : fewest j (length m) + fewest i (length a) ≤ suc rounds
+
 -- what comes of it, from e to the end of the run r: each host has the other's message, once and whole, the buffers are untouched behind
--- it, and each message went in the fewest blocks
+-- it, each message went in the fewest blocks, and both ends are ready for the next message
 pub record RowExchanged (i j : ℕ) (m a : List ℕ) (e : RowEnds) (r : RowRun) : Type 0 where
   pub got : r .got ≡ m ∷ []
   pub told : r .told ≡ Message (length a)
@@ -96,3 +127,7 @@ pub record RowExchanged (i j : ℕ) (m a : List ℕ) (e : RowEnds) (r : RowRun) 
   pub ups : r .ups ≡ map blockRow upBytes
   pub downBlocks : countI downBytes ≡ fewest j (length m)
   pub upBlocks : countI upBytes ≡ fewest i (length a)
+  pub ready : RowBetween i j (r .ends)
+  pub lent : r .ends .lent ≡ a
+  pub same-reader : r .ends .reader .reader ≡ e .reader .reader
+  pub same-card : r .ends .card .card ≡ e .card .card

@@ -1,15 +1,12 @@
 -- The exchange on rows is the exchange on bytes, since a frame with CRC_A which is not too long reads back as the bytes that were sent.
 use mathlib.Core.Path.{_≡_, refl, sym, ap, _∙_}
-use mathlib.Core.Bool.{Bool, true, false, cond, not, false≢true}
-use mathlib.Core.List.{List, [], _∷_, _++_, map}
+use mathlib.Core.Bool.{Bool, true, false, cond, false≢true}
+use mathlib.Core.List.{List, [], map}
 use Prim.Native.Nat.{ℕ, zero, suc, _+_, _≤_}
-use native.Mathlib.Omega.{arith}
 use lib.ListN.{length, replicate}
-use lib.Dec.{leb, ltb}
-use borrow.Author.Tests.{le-leb}
-use Rattle.rows.specs.Rows.{Bytes, overlay}
-use Rattle.crc.specs.Crc.{withCrc}
-use Rattle.frame.specs.Frame.{standard, readCrc, Verdict, Good}
+use lib.Dec.{leb}
+use Rattle.rows.specs.Rows.{Bytes}
+use Rattle.frame.specs.Frame.{Verdict}
 use Rattle.card.specs.declared.Card.{Card}
 use Rattle.card.specs.declared.CardState.the-variants.{Protocol}
 use Rattle.reader.specs.declared.Reader.{Reader}
@@ -17,32 +14,31 @@ use Rattle.refusal.specs.declared.Refusal.the-variants.{TooLong, NotDue}
 use Rattle.block.specs.declared.Block.{Block}
 use Rattle.block.specs.declared.Told.{Told}
 use Rattle.block.specs.declared.Told.the-variants.{Quiet, Message, Granted, Deselected, Refused}
-use Rattle.block.specs.Cut.{messageMax, part}
+use Rattle.block.specs.Cut.{messageMax, fewest, part}
 use Rattle.block.specs.Block.{verdict, heardBlock, payload, blockBytes}
 use Rattle.block.specs.Out.{Out}
 use Rattle.block.specs.Row.{blockRow}
-use Rattle.card_link.specs.declared.CardLink.{CardLink}
-use Rattle.card_link.specs.declared.CardStep.{CardStep}
-use Rattle.card_link.specs.declared.LinkCard.{LinkCard}
-use Rattle.card_link.specs.CardRules.{cardOpen, owes, cardSilent, cardI, cardTakes, cardReplies}
-use Rattle.card_link.specs.CardFrames.{cardOut, cardBlock, cardReply}
-use Rattle.card_link.specs.CardCalls.{rowRoom, leftBy, withRow, owing, takeCall, replyCall}
+use Rattle.card_blocks.specs.declared.CardLink.{CardLink}
+use Rattle.card_blocks.specs.declared.CardStep.{CardStep}
+use Rattle.card_blocks.specs.CardRules.{cardOpen, owes, cardSilent, cardI, cardTakes, cardReplies}
+use Rattle.card_blocks.specs.CardFrames.{cardOut, cardBlock, cardReply}
+use Rattle.card_link.specs.CardCalls.{rowRoom, leftBy, owing, takeCall, replyCall}
 use Rattle.card_link.specs.CardRowLaws.{take-block, reply-block}
-use Rattle.reader_link.specs.declared.ReaderPhase.{ReaderPhase}
-use Rattle.reader_link.specs.declared.ReaderPhase.the-variants.{Open, Talking, Leaving, Finished, Stopped}
-use Rattle.reader_link.specs.declared.ReaderLink.{ReaderLink}
+use Rattle.reader_blocks.specs.declared.ReaderPhase.{ReaderPhase}
+use Rattle.reader_blocks.specs.declared.ReaderPhase.the-variants.{Open, Talking, Leaving, Finished, Stopped}
+use Rattle.reader_blocks.specs.declared.ReaderLink.{ReaderLink}
+use Rattle.reader_link.specs.declared.Link.{Link}
 use Rattle.reader_link.specs.declared.Link.the-variants.{Linked}
-use Rattle.reader_link.specs.declared.LinkReader.{LinkReader}
 use Rattle.reader_link.specs.declared.LinkAnswer.the-variants.{Blocks}
-use Rattle.reader_link.specs.declared.ReaderStep.{ReaderStep}
-use Rattle.reader_link.specs.ReaderRules.{readerOpen, readerKeeps, readerI, readerTakes, isOpen, readerStarts}
-use Rattle.reader_link.specs.ReaderFrames.{readerOut, readerBlock, readerSend}
-use Rattle.reader_link.specs.ReaderCalls.{Called, linked, linking, awaitsBlock, hearCall}
+use Rattle.reader_blocks.specs.declared.ReaderStep.{ReaderStep}
+use Rattle.reader_blocks.specs.ReaderRules.{readerOpen, readerKeeps, readerI, readerTakes, isOpen, readerStarts}
+use Rattle.reader_blocks.specs.ReaderFrames.{readerOut, readerBlock, readerSend}
+use Rattle.reader_link.specs.ReaderCalls.{linked, linking, awaitsBlock, hearCall}
 use Rattle.reader_link.specs.ReaderRowLaws.{hear-block, send-block}
-use Rattle.exchange.specs.Exchange.{Ends, Answers, clean, acts, Passed, passes, Run, isQuiet, exchange, talk, Between, Exchanged}
-use Rattle.exchange.specs.ExchangeLaws.{passed, exchanged, after-ats}
-use Rattle.exchange.specs.RowExchange.{RowEnds, RowPassed, rowPasses, RowRun, rowExchange, rowTalk, RowExchanged}
-use Rattle.exchange.specs.FineLaws.{Fine, fine-bytes, part-bytes, leaves, FineCard, takes-fine, replies-fine, talks, fine-heard, Goes, FineReader, hears-fine, starts-fine, quiet-talks}
+use Rattle.exchange.specs.Exchange.{Ends, clean, Passed, passes, Run, isQuiet, exchange, talk, Fine, Between, Exchanged}
+use Rattle.exchange.specs.ExchangeLaws.{passed, exchanged-in, after-ats}
+use Rattle.exchange.specs.RowExchange.{RowEnds, RowPassed, rowPasses, RowRun, rowExchange, rowTalk, RowBetween, Terms, RowExchanged}
+use Rattle.exchange.specs.FineLaws.{fine-bytes, part-bytes, leaves, FineCard, takes-fine, replies-fine, talks, fine-heard, Goes, FineReader, hears-fine, starts-fine, quiet-talks}
 
 left-stays : (t : Told) (c : Card) (l : CardLink) → leaves t ≡ false → leftBy t c l ≡ record { card = c; link = l }
 left-stays Quiet c l e = refl
@@ -302,28 +298,64 @@ module _ (c : Card) (i : ℕ) (s : c .state ≡ Protocol i) (r : Reader) (room :
       (row-run g (record { reader = k .link; card = e .card; down = e .down; up = e .up; lent = e .lent }) (k .told) (k .sent)
       (λ q. record { block = x .block; load = x .load; is = x .is; fine = x .fine; bytes = x .bytes; last = l; lent = hl; talking = quiet-talks (k .told) (k .link .phase) (x .goes) q }))
 
-  -- Demand 2 on rows, between messages: 631 rounds are always enough
-  pub row-exchanged : (j k : ℕ) (e : Ends) → length m ≤ messageMax → length a ≤ messageMax → length m ≤ length (e .down) → length a ≤ length (e .up) → Between j k e
-      → Fine (e .card .last) → Bytes (e .lent) → RowExchanged j k m a (wide c r e) (rowTalk m a room 631 (wide c r e))
-  row-exchanged j k e lm la ld lu b l hl =
-      let x : Exchanged j k m a e (talk m a (replicate 631 clean) e) = exchanged j k m a e lm la ld lu b in
-      rw (row-talk 631 e (ap (λ z. isOpen (z .phase)) (b .reader)) l hl)
+  -- Demand 2 on rows, between messages
+  wide-exchanged : (j k g : ℕ) (e : Ends) → length m ≤ messageMax → length a ≤ messageMax → length m ≤ length (e .down) → length a ≤ length (e .up)
+      → fewest k (length m) + fewest j (length a) ≤ suc g → Between j k e → Bytes (e .lent) → RowExchanged j k m a (wide c r e) (rowTalk m a room g (wide c r e))
+  wide-exchanged j k g e lm la ld lu q b hl =
+      let y : Run = talk m a (replicate g clean) e in
+      let x : Exchanged j k m a e y = exchanged-in j k m a e lm la ld lu b g q in
+      let z : Between j k (y .ends) = x .answered .between in
+      let o : isOpen (e .reader .phase) ≡ true = ap (λ z. isOpen (z .phase)) (b .reader) in
+      let o′ : isOpen (y .ends .reader .phase) ≡ true = ap (λ z. isOpen (z .phase)) (z .reader) in
+      let w = linked-open r (e .reader .phase) (e .reader) o in
+      let w′ = linked-open r (y .ends .reader .phase) (y .ends .reader) o′ in
+      rw (row-talk g e o (b .last) hl)
       (record {
         got = x .answered .got;
         told = x .answered .told;
         down = x .down;
         up = x .answered .up;
-        downBytes = talk m a (replicate 631 clean) e .downs;
-        upBytes = talk m a (replicate 631 clean) e .ups;
+        downBytes = y .downs;
+        upBytes = y .ups;
         downs = refl;
         ups = refl;
         downBlocks = x .downs;
         upBlocks = x .ups;
+        ready = record { links = y .ends; reader = ap (λ x. x .link) w′; card = refl; lent = refl; index = i; protocol = s; between = z };
+        lent = x .answered .lent;
+        same-reader = ap (λ x. x .reader) w′ ∙ sym (ap (λ x. x .reader) w);
+        same-card = refl;
       })
 
-  -- .. and so right after RATS and ATS: a reader of size index j, a card of size index k, buffers d and u
-  pub after-ats-exchanged : (j k : ℕ) (d u : List ℕ) → length m ≤ messageMax → length a ≤ messageMax → length m ≤ length d → length a ≤ length u
-      → (e : RowEnds) → e ≡ record { reader = record { reader = r; link = Linked (readerOpen j k false) }; card = record { card = c; link = cardOpen k j }; down = d; up = u; lent = [] }
-      → RowExchanged j k m a e (rowTalk m a room 631 e)
-  after-ats-exchanged j k d u lm la ld lu e is =
-      rw is (row-exchanged j k (record { reader = readerOpen j k false; card = cardOpen k j; down = d; up = u; lent = [] }) lm la ld lu (after-ats j k d u) tt tt)
+-- Demand 2: within its terms an exchange, in any number of rounds that is enough
+pub row-exchanged : (i j room : ℕ) (m a : List ℕ) (rounds : ℕ) (e : RowEnds) → rowRoom ≤ room → Bytes m → Bytes a → Bytes (e .lent)
+    → Terms i j m a rounds e → RowExchanged i j m a e (rowTalk m a room rounds e)
+row-exchanged i j room m a rounds e h hm ha hl t =
+    let k : Ends = t .ends .links in
+    let b : Between i j k = t .ends .between in
+    let l : Ends = record { reader = k .reader; card = k .card; down = e .down; up = e .up; lent = e .lent } in
+    let y : Between i j l =
+    record { reader = b .reader; number = b .number; phase = b .phase; joined = b .joined; own = b .own; other = b .other; last = b .last; lent = rw (t .ends .lent) (b .lent) } in
+    let w = linked-open (e .reader .reader) (k .reader .phase) (k .reader) (ap (λ z. isOpen (z .phase)) (b .reader)) in
+    let x : wide (e .card .card) (e .reader .reader) l ≡ e =
+    λ q. record {
+      reader = (w ∙ sym (ap (λ (z : Link). record { reader = e .reader .reader; link = z }) (t .ends .reader))) q;
+      card = record { card = e .card .card; link = sym (t .ends .card) q };
+      down = e .down;
+      up = e .up;
+      lent = e .lent;
+    } in
+    rw x at (wide-exchanged (e .card .card) (t .ends .index) (t .ends .protocol) (e .reader .reader) room h m a hm ha i j rounds l (t .message) (t .answer) (t .down) (t .up) (t .enough) y hl)
+
+-- right after RATS and ATS both ends are between messages: a reader of size index i, a card of size index j
+pub after-ats-between : (i j k : ℕ) (e : RowEnds) → e .reader .link ≡ Linked (readerOpen i j false) → e .card .link ≡ cardOpen j i → e .lent ≡ [] → e .card .card .state ≡ Protocol k → RowBetween i j e
+after-ats-between i j k e r c l s =
+    record {
+      links = record { reader = readerOpen i j false; card = cardOpen j i; down = []; up = []; lent = [] };
+      reader = r;
+      card = c;
+      lent = l;
+      index = k;
+      protocol = s;
+      between = after-ats i j [] [];
+    }

@@ -10,22 +10,22 @@ use borrow.Author.Tests.{le-ltb, le-leb}
 use Rattle.block.specs.declared.Block.{Block}
 use Rattle.block.specs.declared.Block.the-variants.{I, Ack, Nothing}
 use Rattle.block.specs.declared.Told.the-variants.{Quiet, Message}
-use Rattle.card_link.specs.declared.CardPhase.{CardPhase}
-use Rattle.card_link.specs.declared.CardPhase.the-variants.{Receiving, Owing, Answering}
-use Rattle.card_link.specs.declared.CardLink.{CardLink}
-use Rattle.reader_link.specs.declared.ReaderPhase.the-variants.{Talking}
-use Rattle.reader_link.specs.declared.Turn.{Turn}
-use Rattle.reader_link.specs.declared.Turn.the-variants.{Sending, Awaiting, Joining}
-use Rattle.reader_link.specs.declared.ReaderLink.{ReaderLink}
+use Rattle.card_blocks.specs.declared.CardPhase.{CardPhase}
+use Rattle.card_blocks.specs.declared.CardPhase.the-variants.{Receiving, Owing, Answering}
+use Rattle.card_blocks.specs.declared.CardLink.{CardLink}
+use Rattle.reader_blocks.specs.declared.ReaderPhase.the-variants.{Talking}
+use Rattle.reader_blocks.specs.declared.Turn.{Turn}
+use Rattle.reader_blocks.specs.declared.Turn.the-variants.{Sending, Awaiting, Joining}
+use Rattle.reader_blocks.specs.declared.ReaderLink.{ReaderLink}
 use Rattle.rows.specs.Rows.{overlay}
 use Rattle.selection.specs.Selection.{size}
 use Rattle.block.specs.Cut.{payloadMax, follows, part, messageMax}
 use Rattle.block.specs.Block.{kind, verdict, blockBytes}
 use Rattle.block.specs.CutLaws.{payload-size, fits-both}
-use Rattle.card_link.specs.CardRules.{cardI, cardTakes, cardTakesI, cardTakesAck, cardReplies}
-use Rattle.card_link.specs.CardFrames.{cardOut, cardBlock, cardReply}
-use Rattle.reader_link.specs.ReaderRules.{lastIsOut, readerTakesI, readerTakesAck, readerI, readerStarts, readerOpen}
-use Rattle.reader_link.specs.ReaderFrames.{readerOut, readerBlock, readerSend}
+use Rattle.card_blocks.specs.CardRules.{cardI, cardTakes, cardTakesI, cardTakesAck, cardReplies}
+use Rattle.card_blocks.specs.CardFrames.{cardOut, cardBlock, cardReply}
+use Rattle.reader_blocks.specs.ReaderRules.{lastIsOut, readerTakesI, readerTakesAck, readerI, readerStarts, readerOpen}
+use Rattle.reader_blocks.specs.ReaderFrames.{readerOut, readerBlock, readerSend}
 
 -- a card and a reader by their parts
 abbrev pub card : ℕ → ℕ → Bool → CardPhase → Block → ℕ → ℕ → CardLink

@@ -1,5 +1,281 @@
-// Demand 2: both ends of the block protocol joined over a channel, as definitions and theorems.
+// Demand 2: both ends of the block protocol joined over a channel without errors, for one message and its answer.
 // specs/Exchange.antt: the run on bytes, with a fate for each frame. specs/ExchangeLaws.antt: over a channel without errors each host gets
 // the other's message, once and whole, in the fewest blocks (`exchanged`).
 // specs/RowExchange.antt: the run on rows, through the calls of the whole card and the whole reader. specs/RowExchangeLaws.antt: it is the
-// run on bytes, and so the same holds of it (`row-exchanged`, `after-ats-exchanged`).
+// run on bytes, and so the same holds of it (`row-exchanged`). `exchange` is this run.
+ghost use mathlib.Core.Path.{_≡_};
+ghost use mathlib.Core.Bool.{true, false, cond};
+ghost use Prim.Native.Nat.{ℕ, _-_, _^_, _≤_, _<_};
+ghost use lib.ListN.{length, take};
+ghost use Rattle.rows.specs.Rows.{overlay};
+ghost use Rattle.card_link.specs.CardCalls.{owing, takeCall, turnOf, replyCall};
+ghost use Rattle.exchange.specs.Exchange.{isQuiet};
+ghost use Rattle.exchange.specs.RowExchange.{toldOf, toldBy, Terms};
+ghost use Rattle.exchange.specs.Steps.{endsOf, hosted, hostedRow, countIn, lastIn, advanced, begun, goesOn, doneBy, Fit, stateOf, roundOf, outcomeOf, exchangeOf};
+ghost use Rattle.exchange.specs.Promise.{Exchanges};
+use block::Told;
+use card_link::CardTurn;
+use card_link::LinkCard;
+use reader::Answer;
+use reader_link::LinkAnswer;
+use reader_link::LinkReader;
+use reader_link::LinkTurn;
+
+// After an exchange: both ends; what the reader's host was told last, Quiet if the rounds ran out; whether the card's host has answered; how
+// many rounds there were; how many messages the card's host got, and how many bytes the last of them has.
+pub struct Outcome {
+    pub reader: LinkReader,
+    pub card: LinkCard,
+    pub told: Told,
+    pub answered: bool,
+    pub rounds: usize,
+    pub messages: usize,
+    pub last: usize,
+}
+
+// Between two rounds: bits is how many air bits the reader's frame has that is out.
+pub struct Progress {
+    pub reader: LinkReader,
+    pub card: LinkCard,
+    pub told: Told,
+    pub bits: usize,
+    pub answered: bool,
+    pub rounds: usize,
+    pub messages: usize,
+    pub last: usize,
+}
+
+// After the card's host: the card, how many air bits it has sent, and whether its host has answered.
+pub struct Hosted {
+    pub card: LinkCard,
+    pub bits: usize,
+    pub answered: bool,
+}
+
+fn told_of(a: Answer) -> Told
+    ensures { λ r. ⌜ r ≡ toldOf a ⌝ }
+{
+    match a {
+        Answer::Sends(_) => Told::Quiet,
+        Answer::Finds(_) => Told::Quiet,
+        Answer::Selects => Told::Quiet,
+        Answer::Finishes => Told::Quiet,
+        Answer::Declines(e) => Told::Refused(e),
+    }
+}
+
+// What the reader's host is told of its message.
+fn told_by(a: LinkAnswer) -> Told
+    ensures { λ r. ⌜ r ≡ toldBy a ⌝ }
+{
+    match a {
+        LinkAnswer::Selection(s) => told_of(s),
+        LinkAnswer::Opens(_) => Told::Quiet,
+        LinkAnswer::Blocks(_, t) => t,
+    }
+}
+
+fn is_quiet(t: Told) -> bool
+    ensures { λ r. ⌜ r ≡ isQuiet t ⌝ }
+{
+    match t {
+        Told::Quiet => true,
+        Told::Message(_) => false,
+        Told::Granted => false,
+        Told::Deselected => false,
+        Told::Refused(_) => false,
+    }
+}
+
+// The card takes the reader's frame, with the answer lent that its host gave last.
+fn card_turn(
+    y: LinkCard,
+    answered: bool,
+    row: &[u8],
+    before: &[u8],
+    answer: &[u8],
+    down: &mut [u8],
+    out: &mut [u8],
+) -> CardTurn
+    ensures { λ t. ⌜ t ≡ turnOf (takeCall y (now (row .entry)) (cond answered (now (answer .entry)) (now (before .entry))) (now (down .entry)) (length (now (out .entry)))) ⌝ }
+    ensures { λ _. ⌜ now (down .exit) ≡ takeCall y (now (row .entry)) (cond answered (now (answer .entry)) (now (before .entry))) (now (down .entry)) (length (now (out .entry))) .buffer ⌝ }
+    ensures { λ _. ⌜ now (out .exit) ≡ overlay (now (out .entry)) 0 (takeCall y (now (row .entry)) (cond answered (now (answer .entry)) (now (before .entry))) (now (down .entry)) (length (now (out .entry))) .sent) ⌝ }
+{
+    if answered {
+        return card_link::whole::take(y, row, answer, down, out);
+    }
+    card_link::whole::take(y, row, before, down, out)
+}
+
+// The card's host answers if it is owed. out has the card's frame at its front, if it sent one.
+fn host_turn(y: LinkCard, bits: usize, answered: bool, answer: &[u8], out: &mut [u8]) -> Hosted
+    ensures { λ h. ⌜ h ≡ hosted y bits answered (now (answer .entry)) (length (now (out .entry))) ⌝ }
+    ensures { λ _. ⌜ now (out .exit) ≡ hostedRow y (now (answer .entry)) (now (out .entry)) ⌝ }
+{
+    if card_link::whole::is_owing(y) {
+        let t = card_link::whole::reply(y, answer, out);
+        let card = t.card;
+        return Hosted {
+            card,
+            bits: t.bits,
+            answered: true,
+        };
+    }
+    Hosted {
+        card: y,
+        bits,
+        answered,
+    }
+}
+
+// How many messages the card's host got.
+fn count_in(t: Told) -> usize
+    ensures { λ r. ⌜ r ≡ countIn t ⌝ }
+{
+    match t {
+        Told::Quiet => 0,
+        Told::Message(_) => 1,
+        Told::Granted => 0,
+        Told::Deselected => 0,
+        Told::Refused(_) => 0,
+    }
+}
+
+// How many bytes the last of them has.
+fn last_in(t: Told, last: usize) -> usize
+    ensures { λ r. ⌜ r ≡ lastIn t last ⌝ }
+{
+    match t {
+        Told::Quiet => last,
+        Told::Message(n) => n,
+        Told::Granted => last,
+        Told::Deselected => last,
+        Told::Refused(_) => last,
+    }
+}
+
+// After a round: told is what the card's host was told, and turn what the reader did.
+fn advance(p: Progress, told: Told, h: Hosted, turn: LinkTurn) -> Progress
+    requires { ⌜ (p .messages ≤ p .rounds) × (p .rounds < 2 ^ 64 - 1) ⌝ }
+    ensures { λ r. ⌜ r ≡ advanced p told h turn ⌝ }
+{
+    let card = h.card;
+    let reader = turn.reader;
+    let a = turn.answer;
+    Progress {
+        reader,
+        card,
+        told: told_by(a),
+        bits: reader_link::whole::bits_of(a),
+        answered: h.answered,
+        rounds: p.rounds + 1,
+        messages: p.messages + count_in(told),
+        last: last_in(told, p.last),
+    }
+}
+
+// A round: the card takes the reader's frame, which is at the front of row, its host answers if it is owed, and the reader hears what the card
+// sends. Its next frame is at the front of row then.
+fn round(
+    p: Progress,
+    message: &[u8],
+    before: &[u8],
+    answer: &[u8],
+    down: &mut [u8],
+    up: &mut [u8],
+    row: &mut [u8],
+) -> Progress
+    requires { ⌜ Fit p × (p .rounds < 2 ^ 64 - 1) × (length (now row) ≡ 2304) ⌝ }
+    ensures { λ r. ⌜ stateOf r (now (before .entry)) (now (answer .entry)) (now (down .exit)) (now (up .exit)) (now (row .exit)) ≡ roundOf (now (message .entry)) (now (answer .entry)) (stateOf p (now (before .entry)) (now (answer .entry)) (now (down .entry)) (now (up .entry)) (now (row .entry))) ⌝ }
+    ensures { λ r. ⌜ Fit r ⌝ }
+{
+    let y = p.card;
+    let x = p.reader;
+    let bits = p.bits;
+    let mut reply = [0u8; 2304];
+    let t = card_turn(
+        y,
+        p.answered,
+        &row[..bits],
+        before,
+        answer,
+        down,
+        &mut reply,
+    );
+    let told = t.told;
+    let after = t.card;
+    let h = host_turn(after, t.bits, p.answered, answer, &mut reply);
+    let sent = h.bits;
+    let turn = reader_link::whole::hear(x, &reply[..sent], message, up, row);
+    advance(p, told, h, turn)
+}
+
+// The reader's first frame is out.
+fn begin(turn: LinkTurn, card: LinkCard) -> Progress
+    ensures { λ r. ⌜ r ≡ begun turn card ⌝ }
+{
+    let reader = turn.reader;
+    let a = turn.answer;
+    Progress {
+        reader,
+        card,
+        told: told_by(a),
+        bits: reader_link::whole::bits_of(a),
+        answered: false,
+        rounds: 0,
+        messages: 0,
+        last: 0,
+    }
+}
+
+// Is a round left, and has the reader's host been told nothing?
+fn goes_on(p: Progress, rounds: usize) -> bool
+    ensures { λ r. ⌜ r ≡ goesOn p rounds ⌝ }
+{
+    if p.rounds < rounds {
+        let told = p.told;
+        return is_quiet(told);
+    }
+    false
+}
+
+fn done(p: Progress) -> Outcome
+    ensures { λ r. ⌜ r ≡ doneBy p ⌝ }
+{
+    let reader = p.reader;
+    let card = p.card;
+    let told = p.told;
+    Outcome {
+        reader,
+        card,
+        told,
+        answered: p.answered,
+        rounds: p.rounds,
+        messages: p.messages,
+        last: p.last,
+    }
+}
+
+// The reader's host hands in a message, and the card's host answers it as soon as it is owed; before is what it answered before, none after
+// ATS. At most so many rounds. down is the card's message buffer, up the reader's.
+pub fn exchange(
+    reader: LinkReader,
+    card: LinkCard,
+    message: &[u8],
+    before: &[u8],
+    answer: &[u8],
+    rounds: usize,
+    down: &mut [u8],
+    up: &mut [u8],
+) -> Outcome
+    ensures { λ o. ⌜ outcomeOf o (now (before .entry)) (now (answer .entry)) (now (down .exit)) (now (up .exit)) ≡ exchangeOf reader card (now (message .entry)) (now (before .entry)) (now (answer .entry)) rounds (now (down .entry)) (now (up .entry)) ⌝ }
+    ensures { λ o. ⌜ ((i j : ℕ) → Terms i j (now (message .entry)) (now (answer .entry)) rounds (endsOf reader card (now (down .entry)) (now (up .entry)) false (now (before .entry)) (now (answer .entry))) → Exchanges i j reader card (now (message .entry)) (now (before .entry)) (now (answer .entry)) rounds (now (down .entry)) (now (up .entry)) o (now (down .exit)) (now (up .exit))) ⌝ }
+{
+    let mut row = [0u8; 2304];
+    let turn = reader_link::whole::send(reader, message, &mut row);
+    let mut p = begin(turn, card);
+    while goes_on(p, rounds) {
+        p = round(p, message, before, answer, down, up, &mut row);
+    }
+    done(p)
+}

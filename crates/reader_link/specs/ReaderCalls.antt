@@ -25,23 +25,24 @@ use Rattle.reader.specs.Calls.{awaits, sentBy}
 use Rattle.reader.specs.declared.Phase.{Phase}
 use Rattle.reader.specs.declared.Phase.the-variants as phase
 use Rattle.reader.specs.declared.Reader.{Reader}
-use Rattle.reader.specs.declared.Answer.the-variants.{Declines}
+use Rattle.reader.specs.declared.Answer.{Answer}
+use Rattle.reader.specs.declared.Answer.the-variants.{Sends, Finds, Selects, Finishes, Declines}
 use Rattle.reader.specs.declared.Turn.{Turn}
 use Rattle.block.specs.declared.Told.{Told}
 use Rattle.block.specs.declared.Told.the-variants.{Quiet, Refused}
 use Rattle.block.specs.Out.{Out}
 use Rattle.block.specs.Row.{blockRow, heardRow}
-use Rattle.reader_link.specs.declared.ReaderPhase.{ReaderPhase}
-use Rattle.reader_link.specs.declared.ReaderPhase.the-variants.{Open, Talking, Leaving, Finished, Stopped}
-use Rattle.reader_link.specs.declared.ReaderLink.{ReaderLink}
+use Rattle.reader_blocks.specs.declared.ReaderPhase.{ReaderPhase}
+use Rattle.reader_blocks.specs.declared.ReaderPhase.the-variants.{Open, Talking, Leaving, Finished, Stopped}
+use Rattle.reader_blocks.specs.declared.ReaderLink.{ReaderLink}
 use Rattle.reader_link.specs.declared.Link.{Link}
 use Rattle.reader_link.specs.declared.Link.the-variants.{NoLink, RatsSent, Linked}
 use Rattle.reader_link.specs.declared.LinkReader.{LinkReader}
 use Rattle.reader_link.specs.declared.LinkAnswer.{LinkAnswer}
 use Rattle.reader_link.specs.declared.LinkAnswer.the-variants.{Selection, Opens, Blocks}
 use Rattle.reader_link.specs.declared.LinkTurn.{LinkTurn}
-use Rattle.reader_link.specs.ReaderRules.{readerOpen, isOpen}
-use Rattle.reader_link.specs.ReaderFrames.{readerBlock, readerSend, readerDeselect}
+use Rattle.reader_blocks.specs.ReaderRules.{readerOpen, isOpen}
+use Rattle.reader_blocks.specs.ReaderFrames.{readerBlock, readerSend, readerDeselect}
 
 -- no frame sent yet
 abbrev pub newReader : LinkReader
@@ -55,6 +56,19 @@ pub record Called : Type 0 where
 
 abbrev pub called : LinkReader → LinkAnswer → List ℕ → List ℕ → Called
 called x a sent buffer = record { turn = record { reader = x; answer = a }; sent = sent; buffer = buffer }
+
+-- how many air bits of the next frame stand at the front of the lent row
+abbrev pub bitsOf : Answer → ℕ
+bitsOf (Sends n) = n
+bitsOf (Finds n) = n
+bitsOf Selects = 0
+bitsOf Finishes = 0
+bitsOf (Declines e) = 0
+
+abbrev pub bitsBy : LinkAnswer → ℕ
+bitsBy (Selection a) = bitsOf a
+bitsBy (Opens i) = 0
+bitsBy (Blocks n t) = n
 
 -- Each call that writes a row asks for room for the longest frame, 256 bytes with parity, whatever is heard
 abbrev pub rowRoom : ℕ

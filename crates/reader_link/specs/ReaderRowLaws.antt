@@ -8,11 +8,11 @@ use Rattle.rows.specs.Rows.{Bytes}
 use Rattle.block.specs.Block.{verdict}
 use Rattle.block.specs.Row.{blockRow, heardRow}
 use Rattle.block.specs.HeardLaws.{heard-row}
-use Rattle.reader_link.specs.declared.ReaderLink.{ReaderLink}
+use Rattle.reader_blocks.specs.declared.ReaderLink.{ReaderLink}
 use Rattle.reader_link.specs.declared.Link.the-variants.{Linked}
 use Rattle.reader_link.specs.declared.LinkReader.{LinkReader}
-use Rattle.reader_link.specs.ReaderRules.{isOpen}
-use Rattle.reader_link.specs.ReaderFrames.{readerBlock, readerSend}
+use Rattle.reader_blocks.specs.ReaderRules.{isOpen}
+use Rattle.reader_blocks.specs.ReaderFrames.{readerBlock, readerSend}
 use Rattle.reader_link.specs.ReaderCalls.{rowRoom, tested, linking, awaitsBlock, hearCall, sendCall}
 
 module _ (x : LinkReader) (r : ReaderLink) (room : ℕ) (s : x .link ≡ Linked r) (h : rowRoom ≤ room) where

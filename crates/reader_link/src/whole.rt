@@ -10,20 +10,20 @@ ghost use Rattle.selection.specs.Heard.{readAts};
 ghost use Rattle.reader.specs.Reader.{hear};
 ghost use Rattle.block.specs.Block.{behind};
 ghost use Rattle.block.specs.Row.{heardRow};
-ghost use Rattle.reader_link.specs.ReaderFrames.{readerHears, readerOut, readerBlock};
-ghost use Rattle.reader_link.specs.ReaderCalls.{newReader, called, declinedBy, selecting, linked, linking, afterAts, awaitsBlock, frameDue, hearsIn, hearCall, isNewIn, startCall, isSelected, b6, ratsDue, ratsCall, between, sendIn, sendCall, deselectIn, deselectCall};
+ghost use Rattle.reader_blocks.specs.ReaderFrames.{readerHears, readerOut, readerBlock};
+ghost use Rattle.reader_link.specs.ReaderCalls.{newReader, bitsOf, bitsBy, called, declinedBy, selecting, linked, linking, afterAts, awaitsBlock, frameDue, hearsIn, hearCall, isNewIn, startCall, isSelected, b6, ratsDue, ratsCall, between, sendIn, sendCall, deselectIn, deselectCall};
 use crate::Link;
 use crate::LinkAnswer;
 use crate::LinkReader;
 use crate::LinkTurn;
-use crate::ReaderLink;
-use crate::ReaderPhase;
-use crate::ReaderStep;
 use block::Told;
 use reader::Answer;
 use reader::Phase;
 use reader::Reader;
 use reader::Turn;
+use reader_blocks::ReaderLink;
+use reader_blocks::ReaderPhase;
+use reader_blocks::ReaderStep;
 use refusal::Refusal;
 use selection::AtsRead;
 
@@ -34,6 +34,29 @@ pub fn new_reader() -> LinkReader
     LinkReader {
         reader: reader::new_reader(),
         link: Link::NoLink,
+    }
+}
+
+// How many air bits of the next frame stand at the front of the lent row; none: no frame.
+pub fn bits_of(a: LinkAnswer) -> usize
+    ensures { λ r. ⌜ r ≡ bitsBy a ⌝ }
+{
+    match a {
+        LinkAnswer::Selection(s) => selection_bits(s),
+        LinkAnswer::Opens(_) => 0,
+        LinkAnswer::Blocks(n, _) => n,
+    }
+}
+
+fn selection_bits(a: Answer) -> usize
+    ensures { λ r. ⌜ r ≡ bitsOf a ⌝ }
+{
+    match a {
+        Answer::Sends(n) => n,
+        Answer::Finds(n) => n,
+        Answer::Selects => 0,
+        Answer::Finishes => 0,
+        Answer::Declines(_) => 0,
     }
 }
 
@@ -116,7 +139,7 @@ fn finish(r: Reader, step: ReaderStep, message: &[u8], out: &mut [u8]) -> LinkTu
     let told = step.told;
     let link = step.link;
     let phase = link.phase;
-    let b = crate::sent(step, message);
+    let b = reader_blocks::sent(step, message);
     let bits = block::within::put_block(b, out);
     let left = linked(r, phase, link);
     LinkTurn {
@@ -132,7 +155,7 @@ fn hear_row(l: ReaderLink, row: &[u8], message: &[u8], buffer: &mut [u8]) -> Rea
 {
     let mut bytes = [0u8; 256];
     let n = block::within::read_row(l.own, row, &mut bytes);
-    crate::hears(l, &bytes[..n], message, buffer)
+    reader_blocks::hears(l, &bytes[..n], message, buffer)
 }
 
 // A row while a block or DESELECT's answer is awaited.
@@ -160,7 +183,7 @@ fn hear_ats(r: Reader, own: u8, row: &[u8]) -> LinkTurn
     let a = selection::ats::read_ats(own, row);
     match a {
         AtsRead::Index(i) => {
-            let l = crate::open(own, i, false);
+            let l = reader_blocks::open(own, i, false);
             LinkTurn {
                 reader: LinkReader {
                     reader: r,
@@ -377,7 +400,7 @@ fn is_between(link: Link) -> bool
         Link::RatsSent(_) => false,
         Link::Linked(l) => {
             let phase = l.phase;
-            crate::is_open(phase)
+            reader_blocks::is_open(phase)
         }
     }
 }
@@ -393,7 +416,7 @@ fn send_due(x: LinkReader, message: &[u8], out: &mut [u8]) -> LinkTurn
         Link::NoLink => declines(x, Refusal::NotDue),
         Link::RatsSent(_) => declines(x, Refusal::NotDue),
         Link::Linked(l) => {
-            let step = crate::starts(l, message.len());
+            let step = reader_blocks::starts(l, message.len());
             finish(r, step, message, out)
         }
     }
@@ -425,7 +448,7 @@ fn deselect_due(x: LinkReader, out: &mut [u8]) -> LinkTurn
         Link::NoLink => declines(x, Refusal::NotDue),
         Link::RatsSent(_) => declines(x, Refusal::NotDue),
         Link::Linked(l) => {
-            let step = crate::parts(l);
+            let step = reader_blocks::parts(l);
             let none = [0u8; 0];
             finish(r, step, &none, out)
         }

@@ -13,8 +13,8 @@ use Rattle.sweep_rules.specs.Limits.{mostCards}
 use Rattle.sweep_rules.specs.Run.{sweep}
 use Rattle.sweep_rules.specs.Terms.{within}
 use Rattle.sweep.specs.CallLaws.{Promised, no-field}
-use Rattle.sweep.specs.RunLaws as run-laws
-use Rattle.sweep.specs.Steps as steps
+use Rattle.sweep_steps.specs.RunLaws as run-laws
+use Rattle.sweep_steps.specs.Steps as steps
 use Rattle.card.specs.declared.Card.{Card}
 use Rattle.reader.specs.declared.Reader.{Reader}
 use Rattle.sweep_row.specs.declared.pass.Progress.{Progress}

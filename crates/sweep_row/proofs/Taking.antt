@@ -24,9 +24,9 @@ use Rattle.log.specs.Log.{Exchange, exchangeBytes, logBytes, listBytes, entryBy
 use Rattle.sweep_rules.specs.Limits.{mostCards}
 use Rattle.sweep_rules.specs.Run.{sweep}
 use Rattle.sweep.specs.CallLaws.{Promised}
-use Rattle.sweep.specs.RunLaws as run-laws
-use Rattle.sweep.specs.Steps as steps
-use Rattle.sweep.specs.declared.within.Progress as plain
+use Rattle.sweep_steps.specs.RunLaws as run-laws
+use Rattle.sweep_steps.specs.Steps as steps
+use Rattle.sweep_steps.specs.declared.within.Progress as plain
 use Rattle.card.specs.declared.Card.{Card}
 use Rattle.reader.specs.declared.Reader.{Reader}
 use Rattle.sweep_row.specs.declared.air.Air.{Air}

@@ -17,7 +17,7 @@ use Rattle.sweep_rules.specs.Demand.{Typed}
 use Rattle.sweep_rules.specs.Limits.{mostCards, mostFrames}
 use Rattle.sweep_rules.specs.Run.{Out}
 use Rattle.sweep_rules.specs.Terms.{cardFits}
-use Rattle.sweep.specs.Steps.{goes, foundBy}
+use Rattle.sweep_steps.specs.Steps.{goes, foundBy}
 use Rattle.sweep.specs.declared.Swept.{Swept}
 use Rattle.card.specs.declared.Card.{Card}
 use Rattle.card.specs.declared.CardState.the-variants.{Off}
@@ -30,7 +30,6 @@ use Rattle.refusal.specs.declared.Refusal.the-variants.{Argument}
 use Rattle.uid.specs.declared.UidSize.the-variants.{Single}
 use Rattle.sweep_row.specs.declared.RowSwept.{RowSwept}
 use Rattle.sweep_row.specs.declared.air.Air.{Air}
-use Rattle.sweep_row.specs.declared.air.One.{One}
 use Rattle.sweep_row.specs.declared.air.HeardCard.{HeardCard}
 use Rattle.sweep_row.specs.declared.seen.Seen.{Seen}
 use Rattle.sweep_row.specs.declared.finish.Exchanged.{Exchanged}
@@ -57,9 +56,6 @@ heardIn a = take (a .bits) (a .heard)
 -- .. and with one card's answer to the frame f
 unfoldable pub heardWith : Air → List ℕ → Card → List ℕ
 heardWith a f c = join (answers c f) (heardIn a)
-
-abbrev pub one : Card → List ℕ → List ℕ → One
-one c f s = record { card = takes c f; bits = length (join (answers c f) s) }
 
 unfoldable pub heardCard : Air → Reader → Card → HeardCard
 heardCard a r c =

@@ -8,7 +8,7 @@ use borrow.Author.Tests.{eq-eqb, ne-eqb}
 use Rattle.rows.specs.Rows.{overlay}
 use Rattle.log.specs.Log.{exchangeBytes, listBytes}
 use Rattle.sweep_rules.specs.Demand.{Typed}
-use Rattle.sweep.specs.Steps.{foundBy}
+use Rattle.sweep_steps.specs.Steps.{foundBy}
 use Rattle.card.specs.declared.Card.{Card}
 use Rattle.sweep_row.specs.declared.RowSwept.{RowSwept}
 use Rattle.sweep_row.specs.declared.air.HeardCard.{HeardCard}

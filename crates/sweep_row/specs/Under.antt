@@ -12,8 +12,8 @@ use Rattle.sweep_rules.specs.Limits.{mostCards, logRoom, listRoom}
 use Rattle.sweep_rules.specs.Run.{sweep}
 use Rattle.sweep_rules.specs.Terms.{within}
 use Rattle.sweep.specs.CallLaws.{Promised}
-use Rattle.sweep.specs.RunLaws as run-laws
-use Rattle.sweep.specs.declared.within.Progress as plain
+use Rattle.sweep_steps.specs.RunLaws as run-laws
+use Rattle.sweep_steps.specs.declared.within.Progress as plain
 use Rattle.card.specs.declared.Card.{Card}
 use Rattle.reader.specs.declared.Reader.{Reader}
 use Rattle.refusal.specs.declared.Refusal.the-variants.{Argument}

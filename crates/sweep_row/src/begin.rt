@@ -63,7 +63,7 @@ pub fn empty(log: &mut [u8], list: &mut [u8]) -> RowSwept
         index: 0,
         state: CardState::Off,
     };
-    let p = sweep::within::run([c; 16], 0, log, list);
+    let p = sweep_steps::within::run([c; 16], 0, log, list);
     let t = p.turn;
     let r = t.reader;
     let a = t.answer;

@@ -1,5 +1,5 @@
 -- `bench_reader::play` meets its contract. The measure is the number of turns that are left. Assumes nothing.
-use mathlib.Core.Path.{_≡_, refl}
+use mathlib.Core.Path.{_≡_, refl, _∙_}
 use native.Mathlib.Omega.{arith}
 use borrow.Author.Needs.{needs}
 use lib.ListN.{length}
@@ -7,10 +7,11 @@ use Rattle.bench_reader.proofs.play.Statement.{statement}
 use Rattle.bench_reader.proofs.play.Tie as tie
 
 abbrev Inv-loop : tie.InvT-loop
-Inv-loop buffer₀ line₀ bytes₀ row₀ out₀ p₀ turns₀ buffer line bytes row out p turns = (length buffer ≡ length buffer₀) × (length line ≡ length line₀) × (length bytes ≡ length bytes₀) × (length row ≡ length row₀) × (length out ≡ length out₀)
+Inv-loop buffer₀ line₀ message₀ answer₀ out₀ bench₀ input₀ turns₀ buffer line message answer out bench input turns =
+    (length buffer ≡ length buffer₀) × (length line ≡ length line₀) × (length message ≡ length message₀) × (length answer ≡ length answer₀) × (length out ≡ length out₀)
 
 abbrev μ-loop : tie.MeasureT-loop
-μ-loop buffer₀ line₀ bytes₀ row₀ out₀ p₀ turns₀ buffer line bytes row out p turns = turns
+μ-loop buffer₀ line₀ message₀ answer₀ out₀ bench₀ input₀ turns₀ buffer line message answer out bench input turns = turns
 
 start-requires : tie.Need-start-requires Inv-loop μ-loop
 start-requires c κs = tt
@@ -24,8 +25,11 @@ loop-holds c = (refl, refl, refl, refl, refl)
 sub-turns : tie.Need-sub-turns Inv-loop μ-loop
 sub-turns c = omega arith
 
-answer-next-requires : tie.Need-answer-next-requires Inv-loop μ-loop
-answer-next-requires c κs = tt
+next-line-requires : tie.Need-next-line-requires Inv-loop μ-loop
+next-line-requires c κs = tt
+
+has-line-requires : tie.Need-has-line-requires Inv-loop μ-loop
+has-line-requires c κs = tt
 
 same-length : tie.Need-same-length Inv-loop μ-loop
 same-length c = search needs
@@ -45,11 +49,18 @@ same-length-5 c = search needs
 returns : tie.Need-returns Inv-loop μ-loop
 returns c = tt
 
+answer-line-requires : tie.Need-answer-line-requires Inv-loop μ-loop
+answer-line-requires c κs = tt
+
 loop-less : tie.Need-loop-less Inv-loop μ-loop
 loop-less c = omega arith
 
 loop-again : tie.Need-loop-again Inv-loop μ-loop
-loop-again c = search needs
+loop-again c =
+    let a = c .before .before .before .before .before .before .answer-line .kept in
+    let n = c .before .before .before .before .before .before .before .before .before .before .before .before .before .before .before .before .before .next-line .kept in
+    let i = c .before .before .before .before .before .before .before .before .before .before .before .before .before .before .before .before .before .before .before .before .before .loop .inv in
+    (n .1 .0 ∙ i .0, n .1 .1 .0 ∙ i .1, a .1 .1 .1 .0 ∙ i .2, a .1 .1 .1 .1 .0 ∙ i .3, a .1 .1 .1 .1 .1 .0 ∙ i .4)
 
 same-length-6 : tie.Need-same-length-6 Inv-loop μ-loop
 same-length-6 c = search needs
@@ -79,13 +90,15 @@ play-spec =
     start-requires-2
     loop-holds
     sub-turns
-    answer-next-requires
+    next-line-requires
+    has-line-requires
     same-length
     same-length-2
     same-length-3
     same-length-4
     same-length-5
     returns
+    answer-line-requires
     loop-less
     loop-again
     same-length-6

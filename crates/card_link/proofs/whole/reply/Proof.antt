@@ -3,7 +3,7 @@ use mathlib.Core.Path.{sym, ap, _∙_}
 use mathlib.Core.List.{[]}
 use denote.Ref.{now}
 use borrow.Author.Tests.{not-true, not-false}
-use Rattle.card_link.specs.CardFrames.{cardOut, cardReply}
+use Rattle.card_blocks.specs.CardFrames.{cardOut, cardReply}
 use Rattle.card_link.specs.CardCalls.{withRow, owing, replyCall}
 use Rattle.card_link.specs.WholeLaws.{two, two-not-due, two-room, two-due}
 use borrow.Author.Needs.{needs}

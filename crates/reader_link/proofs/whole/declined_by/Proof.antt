@@ -1,32 +1,24 @@
 use borrow.Author.Needs.{needs}
 use Rattle.reader_link.proofs.whole.declined_by.Statement.{statement}
 use Rattle.reader_link.proofs.whole.declined_by.Tie as tie
-use Rattle.reader_link.proofs.whole.declined_by.Reads as reads
-use Rattle.reader_link.proofs.whole.declined_by.Lts as lts
 
--- src/whole.rt:45:47
 enum-told : tie.Need-enum-told
 enum-told c = search needs
 
--- src/whole.rt:46:52
 enum-told-2 : tie.Need-enum-told-2
 enum-told-2 c = search needs
 
--- src/whole.rt:47:50
 enum-told-3 : tie.Need-enum-told-3
 enum-told-3 c = search needs
 
--- src/whole.rt:41:1
 returns : tie.Need-returns
-returns c = ?
+returns c = rw (c .enum-told .given .1)
 
--- src/whole.rt:41:1
 returns-2 : tie.Need-returns-2
-returns-2 c = ?
+returns-2 c = rw (c .enum-told2 .given .1)
 
--- src/whole.rt:41:1
 returns-3 : tie.Need-returns-3
-returns-3 c = ?
+returns-3 c = rw (c .enum-told3 .given .1)
 
 pub declined-by-spec : {M : Type 1} → statement M
 declined-by-spec =

@@ -1,59 +1,56 @@
+-- `reader_link::whole::deselect_due` meets its contract, by those of `parts` and `finish`. Assumes nothing.
+use mathlib.Core.Path.{refl, sym, ap, _∙_}
+use mathlib.Core.List.{[]}
+use denote.Ref.{now}
+use Rattle.reader_blocks.specs.ReaderFrames.{readerOut, readerDeselect}
+use Rattle.reader_link.specs.ReaderCalls.{linking, deselectIn}
+use Rattle.reader_link.specs.WholeLaws.{two, declined-at}
 use borrow.Author.Needs.{needs}
 use Rattle.reader_link.proofs.whole.deselect_due.Statement.{statement}
 use Rattle.reader_link.proofs.whole.deselect_due.Tie as tie
-use Rattle.reader_link.proofs.whole.deselect_due.Reads as reads
-use Rattle.reader_link.proofs.whole.deselect_due.Lts as lts
-use Rattle.reader_link.proofs.parts.Reads as parts-reads
-use Rattle.reader_link.proofs.whole.declines.Reads as declines-reads
-use Rattle.reader_link.proofs.whole.finish.Reads as finish-reads
 
--- src/whole.rt:425:37
 enum-told : tie.Need-enum-told
 enum-told c = search needs
 
--- src/whole.rt:425:25
 declines-requires : tie.Need-declines-requires
 declines-requires c κs = search needs
 
--- src/whole.rt:426:42
 enum-told-2 : tie.Need-enum-told-2
 enum-told-2 c = search needs
 
--- src/whole.rt:426:30
 declines-requires-2 : tie.Need-declines-requires-2
 declines-requires-2 c κs = search needs
 
--- src/whole.rt:427:22
 enum-known-link : tie.Need-enum-known-link
 enum-known-link c = search needs
 
--- src/whole.rt:428:17
 parts-requires : tie.Need-parts-requires
 parts-requires c κs = search needs
 
--- src/whole.rt:430:29
 slice-aggregate-finish : tie.Need-slice-aggregate-finish
 slice-aggregate-finish c = search needs
 
--- src/whole.rt:430:13
 finish-requires : tie.Need-finish-requires
 finish-requires c κs = search needs
 
--- src/whole.rt:417:1
 returns : tie.Need-returns
-returns c = ?
+returns c =
+    let a = c .before .before .before .before .before .args in
+    declined-at (λ k. deselectIn k (a .x)) (a .x) _ (now (a .out)) (c .before .enum-told .given .1) refl (c .declines .ensures)
 
--- src/whole.rt:417:1
 returns-2 : tie.Need-returns-2
-returns-2 c = ?
+returns-2 c =
+    let a = c .before .before .before .before .before .args in
+    declined-at (λ k. deselectIn k (a .x)) (a .x) _ (now (a .out)) (c .before .enum-told2 .given .1) refl (c .declines2 .ensures)
 
--- src/whole.rt:417:1
 same-length : tie.Need-same-length
 same-length c = search needs
 
--- src/whole.rt:417:1
 returns-3 : tie.Need-returns-3
-returns-3 c = ?
+unfolding readerDeselect
+returns-3 c =
+    let a = c .before .before .before .before .before .before .before .before .before .before .before .args in
+    two (now (a .out)) (ap (λ s. linking (a .x .reader) (readerOut s [] [] 0 [])) (c .before .before .before .before .before .parts .ensures) ∙ sym (ap (λ k. deselectIn k (a .x)) (c .before .before .before .before .before .before .before .link .given .1))) (c .before .before .finish .ensures)
 
 pub deselect-due-spec : {M : Type 1} → statement M
 deselect-due-spec =

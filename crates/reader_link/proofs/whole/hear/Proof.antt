@@ -1,47 +1,48 @@
+-- `reader_link::whole::hear` meets its contract, by that of `hear_due`. Assumes nothing.
+use mathlib.Core.Path.{sym, _∙_}
+use denote.Ref.{now}
+use borrow.Author.Tests.{not-true, not-false}
+use Rattle.reader_link.specs.ReaderCalls.{frameDue, hearCall}
+use Rattle.reader_link.specs.WholeLaws.{not-due, no-room, is-due}
 use borrow.Author.Needs.{needs}
 use Rattle.reader_link.proofs.whole.hear.Statement.{statement}
 use Rattle.reader_link.proofs.whole.hear.Tie as tie
-use Rattle.reader_link.proofs.whole.hear.Reads as reads
-use Rattle.reader_link.proofs.whole.hear.Lts as lts
-use Rattle.reader_link.proofs.whole.declines.Reads as declines-reads
-use Rattle.reader_link.proofs.whole.frame_due.Reads as frame-due-reads
-use Rattle.reader_link.proofs.whole.hear_due.Reads as hear-due-reads
 
--- src/whole.rt:256:9
 frame-due-requires : tie.Need-frame-due-requires
 frame-due-requires c κs = search needs
 
--- src/whole.rt:257:9
 declines-requires : tie.Need-declines-requires
 declines-requires c κs = search needs
 
--- src/whole.rt:257:9
 returns : tie.Need-returns
-returns c = ?
+unfolding hearCall
+returns c =
+    let a = c .before .before .before .before .before .before .before .before .args in
+    not-due (frameDue (a .x .link) (a .x .reader)) (a .x) _ (now (a .buffer)) (now (a .out)) (sym (c .before .before .frame-due .ensures) ∙ not-true _ (c .before .if1 .taken)) (c .declines .ensures)
 
--- src/whole.rt:260:9
 declines-requires-2 : tie.Need-declines-requires-2
 declines-requires-2 c κs = search needs
 
--- src/whole.rt:260:9
 returns-2 : tie.Need-returns-2
-returns-2 c = ?
+unfolding hearCall
+returns-2 c =
+    let a = c .before .before .before .before .before .before .before .before .before .args in
+    no-room (frameDue (a .x .link) (a .x .reader)) (a .x) _ (now (a .buffer)) (now (a .out)) (sym (c .before .before .before .frame-due .ensures) ∙ not-false _ (c .before .before .if1 .left)) (c .before .if2 .taken) (c .declines2 .ensures)
 
--- src/whole.rt:262:5
 hear-due-requires : tie.Need-hear-due-requires
 hear-due-requires c κs = search needs
 
--- src/whole.rt:243:1
 same-length : tie.Need-same-length
 same-length c = search needs
 
--- src/whole.rt:243:1
 same-length-2 : tie.Need-same-length-2
 same-length-2 c = search needs
 
--- src/whole.rt:243:1
 returns-3 : tie.Need-returns-3
-returns-3 c = ?
+unfolding hearCall
+returns-3 c =
+    let a = c .before .before .before .before .before .before .before .before .before .before .before .before .before .before .before .args in
+    is-due (frameDue (a .x .link) (a .x .reader)) (a .x) _ (now (a .buffer)) (now (a .out)) (sym (c .before .before .before .before .before .before .before .before .before .frame-due .ensures) ∙ not-false _ (c .before .before .before .before .before .before .before .before .if1 .left)) (c .before .before .before .before .before .before .before .if2 .left) (c .before .before .before .before .hear-due .ensures)
 
 pub hear-spec : {M : Type 1} → statement M
 hear-spec =

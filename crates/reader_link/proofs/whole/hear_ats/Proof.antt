@@ -1,39 +1,29 @@
+-- `reader_link::whole::hear_ats` meets its contract, by that of `read_ats`. Assumes nothing.
+use mathlib.Core.Path.{sym, _∙_}
 use borrow.Author.Needs.{needs}
 use Rattle.reader_link.proofs.whole.hear_ats.Statement.{statement}
 use Rattle.reader_link.proofs.whole.hear_ats.Tie as tie
-use Rattle.reader_link.proofs.whole.hear_ats.Reads as reads
-use Rattle.reader_link.proofs.whole.hear_ats.Lts as lts
-use Rattle.reader_link.proofs.open.Reads as open-reads
-use Rattle.reader_link.proofs.whole.over.Reads as over-reads
-use Rattle.selection.proofs.ats.read_ats.Reads as read-ats-reads
 
--- src/whole.rt:160:9
 read-ats-requires : tie.Need-read-ats-requires
 read-ats-requires c κs = search needs
 
--- src/whole.rt:162:24
 enum-known-a : tie.Need-enum-known-a
 enum-known-a c = search needs
 
--- src/whole.rt:163:17
 open-requires : tie.Need-open-requires
 open-requires c κs = search needs
 
--- src/whole.rt:172:25
 enum-known-a-2 : tie.Need-enum-known-a-2
 enum-known-a-2 c = search needs
 
--- src/whole.rt:173:17
 over-requires : tie.Need-over-requires
 over-requires c κs = search needs
 
--- src/whole.rt:157:1
 returns : tie.Need-returns
-returns c = ?
+returns c = rw (c.«open».ensures, sym (c .before .before .before .before .read-ats .ensures) ∙ c .before .before .a .given .1)
 
--- src/whole.rt:157:1
 returns-2 : tie.Need-returns-2
-returns-2 c = ?
+returns-2 c = rw (c .over .ensures, sym (c .before .before .before .before .read-ats .ensures) ∙ c .before .before .a2 .given .1)
 
 pub hear-ats-spec : {M : Type 1} → statement M
 hear-ats-spec =

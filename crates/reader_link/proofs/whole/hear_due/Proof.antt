@@ -1,59 +1,51 @@
+-- `reader_link::whole::hear_due` meets its contract, by how far the reader is. Assumes nothing.
+use denote.Ref.{now}
+use Rattle.reader_link.specs.WholeLaws.{hears-selecting, hears-ats, hears-block}
 use borrow.Author.Needs.{needs}
 use Rattle.reader_link.proofs.whole.hear_due.Statement.{statement}
 use Rattle.reader_link.proofs.whole.hear_due.Tie as tie
-use Rattle.reader_link.proofs.whole.hear_due.Reads as reads
-use Rattle.reader_link.proofs.whole.hear_due.Lts as lts
-use Rattle.reader_link.proofs.whole.hear_ats.Reads as hear-ats-reads
-use Rattle.reader_link.proofs.whole.hear_block.Reads as hear-block-reads
-use Rattle.reader_link.proofs.whole.hear_selecting.Reads as hear-selecting-reads
 
--- src/whole.rt:208:48
 enum-told : tie.Need-enum-told
 enum-told c = search needs
 
--- src/whole.rt:208:25
 hear-selecting-requires : tie.Need-hear-selecting-requires
 hear-selecting-requires c κs = search needs
 
--- src/whole.rt:209:24
 enum-known-link : tie.Need-enum-known-link
 enum-known-link c = search needs
 
--- src/whole.rt:209:32
 hear-ats-requires : tie.Need-hear-ats-requires
 hear-ats-requires c κs = search needs
 
--- src/whole.rt:210:22
 enum-known-link-2 : tie.Need-enum-known-link-2
 enum-known-link-2 c = search needs
 
--- src/whole.rt:210:28
 hear-block-requires : tie.Need-hear-block-requires
 hear-block-requires c κs = search needs
 
--- src/whole.rt:193:1
 same-length : tie.Need-same-length
 same-length c = search needs
 
--- src/whole.rt:193:1
 returns : tie.Need-returns
-returns c = ?
+returns c =
+    let a = c .before .before .before .before .before .before .before .before .before .before .before .args in
+    hears-selecting (a .x) (now (a .row)) (now (a .message)) (now (a .buffer)) (now (a .out)) (c .before .before .before .before .enum-told .given .1) (c .before .before .hear-selecting .ensures)
 
--- src/whole.rt:193:1
 returns-2 : tie.Need-returns-2
-returns-2 c = ?
+returns-2 c =
+    let a = c .before .before .before .before .before .before .before .before .before .args in
+    hears-ats (a .x) (now (a .row)) (now (a .message)) (now (a .buffer)) (now (a .out)) _ (c .before .before .link .given .1) (c .hear-ats .ensures)
 
--- src/whole.rt:193:1
 same-length-2 : tie.Need-same-length-2
 same-length-2 c = search needs
 
--- src/whole.rt:193:1
 same-length-3 : tie.Need-same-length-3
 same-length-3 c = search needs
 
--- src/whole.rt:193:1
 returns-3 : tie.Need-returns-3
-returns-3 c = ?
+returns-3 c =
+    let a = c .before .before .before .before .before .before .before .before .before .before .before .before .before .before .before .args in
+    hears-block (a .x) (now (a .row)) (now (a .message)) (now (a .buffer)) (now (a .out)) _ (c .before .before .before .before .before .before .before .before .link2 .given .1) (c .before .before .before .before .hear-block .ensures)
 
 pub hear-due-spec : {M : Type 1} → statement M
 hear-due-spec =

@@ -1,38 +1,35 @@
+-- `reader_link::whole::hear_row` meets its contract, what was read is what `hears` hears. Assumes nothing.
+use denote.Ref.{now}
+use native.Mathlib.Omega.{arith}
+use lib.ListN.{length, length-take}
+use Rattle.block.specs.AirLaws.{read-fits, read-front}
+use Rattle.reader_link.specs.WholeLaws.{heard-as}
 use borrow.Author.Needs.{needs}
 use Rattle.reader_link.proofs.whole.hear_row.Statement.{statement}
 use Rattle.reader_link.proofs.whole.hear_row.Tie as tie
-use Rattle.reader_link.proofs.whole.hear_row.Reads as reads
-use Rattle.reader_link.proofs.whole.hear_row.Lts as lts
-use Rattle.block.proofs.within.read_row.Reads as read-row-reads
-use Rattle.reader_link.proofs.hears.Reads as hears-reads
 
--- src/whole.rt:134:49
 slice-aggregate-read-row : tie.Need-slice-aggregate-read-row
 slice-aggregate-read-row c = search needs
 
--- src/whole.rt:134:9
 read-row-requires : tie.Need-read-row-requires
 read-row-requires c κs = search needs
 
--- src/whole.rt:135:21
 array-share-prefix-bytes : tie.Need-array-share-prefix-bytes
-array-share-prefix-bytes c = ?
+array-share-prefix-bytes c = read-fits _ _ _ _ (c .before .read-row .ensures .0) (c .before .read-row .ensures .1)
 
--- src/whole.rt:135:21
 slice-aggregate-hears : tie.Need-slice-aggregate-hears
-slice-aggregate-hears c = ?
+slice-aggregate-hears c = let m = read-fits _ _ _ _ (c .before .before .read-row .ensures .0) (c .before .before .read-row .ensures .1) in rw length-take (omega (arith, m))
 
--- src/whole.rt:135:5
 hears-requires : tie.Need-hears-requires
 hears-requires c κs = search needs
 
--- src/whole.rt:129:1
 same-length : tie.Need-same-length
 same-length c = search needs
 
--- src/whole.rt:129:1
 returns : tie.Need-returns
-returns c = ?
+returns c =
+    let a = c .before .before .before .before .before .before .before .before .before .before .before .args in
+    heard-as (a .l) (length (now (a .buffer))) (length (now (a .message))) (now (a .buffer)) (read-front _ _ _ _ (c .before .before .before .before .before .before .read-row .ensures .0) (c .before .before .before .before .before .before .read-row .ensures .1)) (c .before .before .hears .ensures)
 
 pub hear-row-spec : {M : Type 1} → statement M
 hear-row-spec =

@@ -1,60 +1,63 @@
+-- `reader_link::whole::rats` meets its contract, by that of `selection::sent::rats`. Assumes nothing.
+use mathlib.Core.Path.{_≡_, sym, _∙_}
+use denote.Ref.{now}
+use lib.ListN.{length}
+use native.Mathlib.Omega.{arith}
+use borrow.Author.Tests.{not-true, not-false}
+use Rattle.reader_link.specs.ReaderCalls.{ratsDue, ratsCall}
+use Rattle.reader_link.specs.WholeLaws.{two-not-due, two-no-room, two-is-due, rats-index, rats-sent}
 use borrow.Author.Needs.{needs}
 use Rattle.reader_link.proofs.whole.rats.Statement.{statement}
 use Rattle.reader_link.proofs.whole.rats.Tie as tie
-use Rattle.reader_link.proofs.whole.rats.Reads as reads
-use Rattle.reader_link.proofs.whole.rats.Lts as lts
-use Rattle.reader_link.proofs.whole.declines.Reads as declines-reads
-use Rattle.reader_link.proofs.whole.rats_due.Reads as rats-due-reads
-use Rattle.rows.proofs.within.put.Reads as put-reads
-use Rattle.selection.proofs.sent.rats.Reads as rats-reads
 
--- src/whole.rt:351:9
 rats-due-requires : tie.Need-rats-due-requires
 rats-due-requires c κs = search needs
 
--- src/whole.rt:352:9
 declines-requires : tie.Need-declines-requires
 declines-requires c κs = search needs
 
--- src/whole.rt:352:9
 returns : tie.Need-returns
-returns c = ?
+unfolding ratsCall
+returns c =
+    let a = c .before .before .before .before .before .args in
+    two-not-due (ratsDue (a .x .link) (a .x .reader)) (a .x) _ (now (a .out)) (sym (c .before .before .rats-due .ensures) ∙ not-true _ (c .before .if1 .taken)) (c .declines .ensures)
 
--- src/whole.rt:355:9
 declines-requires-2 : tie.Need-declines-requires-2
 declines-requires-2 c κs = search needs
 
--- src/whole.rt:355:9
 returns-2 : tie.Need-returns-2
-returns-2 c = ?
+unfolding ratsCall
+returns-2 c =
+    let a = c .before .before .before .before .before .before .args in
+    two-no-room (ratsDue (a .x .link) (a .x .reader)) (a .x) _ (now (a .out)) (sym (c .before .before .before .rats-due .ensures) ∙ not-false _ (c .before .before .if1 .left)) (c .before .if2 .taken) (c .declines2 .ensures)
 
--- src/whole.rt:358:9
 declines-requires-3 : tie.Need-declines-requires-3
 declines-requires-3 c κs = search needs
 
--- src/whole.rt:358:9
 returns-3 : tie.Need-returns-3
-returns-3 c = ?
+unfolding ratsCall
+returns-3 c =
+    let a = c .before .before .before .before .before .before .before .args in
+    two-is-due (ratsDue (a .x .link) (a .x .reader)) (a .x) _ (now (a .out)) (sym (c .before .before .before .before .rats-due .ensures) ∙ not-false _ (c .before .before .before .if1 .left)) (c .before .before .if2 .left) (rats-index (a .x) (a .index) (now (a .out)) (c .before .if3 .taken) (c .declines3 .ensures))
 
--- src/whole.rt:360:15
 rats-requires : tie.Need-rats-requires
 rats-requires c κs = search needs
 
--- src/whole.rt:361:31
 slice-aggregate-put : tie.Need-slice-aggregate-put
 slice-aggregate-put c = search needs
 
--- src/whole.rt:361:5
 put-requires : tie.Need-put-requires
 put-requires c κs = search needs
 
--- src/whole.rt:345:1
 same-length : tie.Need-same-length
 same-length c = search needs
 
--- src/whole.rt:345:1
 returns-4 : tie.Need-returns-4
-returns-4 c = ?
+unfolding ratsCall
+returns-4 c =
+    let a = c .before .before .before .before .before .before .before .before .before .before .before .before .args in
+    let n : length (c .before .before .before .before .before .rats .result) ≡ 36 = search needs in
+    two-is-due (ratsDue (a .x .link) (a .x .reader)) (a .x) _ (now (a .out)) (sym (c .before .before .before .before .before .before .before .before .before .rats-due .ensures) ∙ not-false _ (c .before .before .before .before .before .before .before .before .if1 .left)) (c .before .before .before .before .before .before .before .if2 .left) (rats-sent (a .x) (a .index) (now (a .out)) (c .before .before .before .before .before .rats .result) _ (omega (arith, c .before .before .before .before .before .before .if3 .left)) n (c .before .before .before .before .before .rats .ensures) (c .before .before .put .ensures))
 
 pub rats-spec : {M : Type 1} → statement M
 rats-spec =

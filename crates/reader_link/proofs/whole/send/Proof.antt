@@ -1,43 +1,45 @@
+-- `reader_link::whole::send` meets its contract, by that of `send_due`. Assumes nothing.
+use mathlib.Core.Path.{sym, _∙_}
+use denote.Ref.{now}
+use borrow.Author.Tests.{not-true, not-false}
+use Rattle.reader_link.specs.ReaderCalls.{between, sendCall}
+use Rattle.reader_link.specs.WholeLaws.{two-not-due, two-no-room, two-is-due}
 use borrow.Author.Needs.{needs}
 use Rattle.reader_link.proofs.whole.send.Statement.{statement}
 use Rattle.reader_link.proofs.whole.send.Tie as tie
-use Rattle.reader_link.proofs.whole.send.Reads as reads
-use Rattle.reader_link.proofs.whole.send.Lts as lts
-use Rattle.reader_link.proofs.whole.declines.Reads as declines-reads
-use Rattle.reader_link.proofs.whole.is_between.Reads as is-between-reads
-use Rattle.reader_link.proofs.whole.send_due.Reads as send-due-reads
 
--- src/whole.rt:408:9
 is-between-requires : tie.Need-is-between-requires
 is-between-requires c κs = search needs
 
--- src/whole.rt:409:9
 declines-requires : tie.Need-declines-requires
 declines-requires c κs = search needs
 
--- src/whole.rt:409:9
 returns : tie.Need-returns
-returns c = ?
+unfolding sendCall
+returns c =
+    let a = c .before .before .before .before .before .args in
+    two-not-due (between (a .x .link)) (a .x) _ (now (a .out)) (sym (c .before .before .is-between .ensures) ∙ not-true _ (c .before .if1 .taken)) (c .declines .ensures)
 
--- src/whole.rt:412:9
 declines-requires-2 : tie.Need-declines-requires-2
 declines-requires-2 c κs = search needs
 
--- src/whole.rt:412:9
 returns-2 : tie.Need-returns-2
-returns-2 c = ?
+unfolding sendCall
+returns-2 c =
+    let a = c .before .before .before .before .before .before .args in
+    two-no-room (between (a .x .link)) (a .x) _ (now (a .out)) (sym (c .before .before .before .is-between .ensures) ∙ not-false _ (c .before .before .if1 .left)) (c .before .if2 .taken) (c .declines2 .ensures)
 
--- src/whole.rt:414:5
 send-due-requires : tie.Need-send-due-requires
 send-due-requires c κs = search needs
 
--- src/whole.rt:403:1
 same-length : tie.Need-same-length
 same-length c = search needs
 
--- src/whole.rt:403:1
 returns-3 : tie.Need-returns-3
-returns-3 c = ?
+unfolding sendCall
+returns-3 c =
+    let a = c .before .before .before .before .before .before .before .before .before .args in
+    two-is-due (between (a .x .link)) (a .x) _ (now (a .out)) (sym (c .before .before .before .before .before .before .is-between .ensures) ∙ not-false _ (c .before .before .before .before .before .if1 .left)) (c .before .before .before .before .if2 .left) (c .before .before .send-due .ensures)
 
 pub send-spec : {M : Type 1} → statement M
 send-spec =

@@ -1,53 +1,56 @@
+-- `reader_link::whole::start` meets its contract, by those of `sends` and `select_turn`. Assumes nothing.
+use mathlib.Core.Path.{sym, ap, _∙_}
+use mathlib.Core.List.{[]}
+use denote.Ref.{now}
+use borrow.Author.Tests.{not-true, not-false}
+use Rattle.reader.specs.Reader.{sends}
+use Rattle.reader.specs.StepLaws.{begin-new}
+use Rattle.reader_link.specs.ReaderCalls.{isNewIn, selecting, startCall}
+use Rattle.reader_link.specs.WholeLaws.{two, two-not-due, two-no-room, two-is-due, new-begins}
 use borrow.Author.Needs.{needs}
 use Rattle.reader_link.proofs.whole.start.Statement.{statement}
 use Rattle.reader_link.proofs.whole.start.Tie as tie
-use Rattle.reader_link.proofs.whole.start.Reads as reads
-use Rattle.reader_link.proofs.whole.start.Lts as lts
-use Rattle.reader.proofs.within.blank.Reads as blank-reads
-use Rattle.reader.proofs.within.sends.Reads as sends-reads
-use Rattle.reader_link.proofs.whole.declines.Reads as declines-reads
-use Rattle.reader_link.proofs.whole.is_new.Reads as is-new-reads
-use Rattle.reader_link.proofs.whole.select_turn.Reads as select-turn-reads
 
--- src/whole.rt:282:9
 is-new-requires : tie.Need-is-new-requires
 is-new-requires c κs = search needs
 
--- src/whole.rt:283:9
 declines-requires : tie.Need-declines-requires
 declines-requires c κs = search needs
 
--- src/whole.rt:283:9
 returns : tie.Need-returns
-returns c = ?
+unfolding startCall
+returns c =
+    let a = c .before .before .before .before .before .args in
+    two-not-due (isNewIn (a .x .link) (a .x .reader)) (a .x) _ (now (a .out)) (sym (c .before .before .is-new .ensures) ∙ not-true _ (c .before .if1 .taken)) (c .declines .ensures)
 
--- src/whole.rt:286:9
 declines-requires-2 : tie.Need-declines-requires-2
 declines-requires-2 c κs = search needs
 
--- src/whole.rt:286:9
 returns-2 : tie.Need-returns-2
-returns-2 c = ?
+unfolding startCall
+returns-2 c =
+    let a = c .before .before .before .before .before .before .args in
+    two-no-room (isNewIn (a .x .link) (a .x .reader)) (a .x) _ (now (a .out)) (sym (c .before .before .before .is-new .ensures) ∙ not-false _ (c .before .before .if1 .left)) (c .before .if2 .taken) (c .declines2 .ensures)
 
--- src/whole.rt:288:35
 blank-requires : tie.Need-blank-requires
 blank-requires c κs = search needs
 
--- src/whole.rt:288:9
 sends-requires : tie.Need-sends-requires
 sends-requires c κs = search needs
 
--- src/whole.rt:289:5
 select-turn-requires : tie.Need-select-turn-requires
 select-turn-requires c κs = search needs
 
--- src/whole.rt:276:1
 same-length : tie.Need-same-length
 same-length c = search needs
 
--- src/whole.rt:276:1
 returns-3 : tie.Need-returns-3
-returns-3 c = ?
+unfolding startCall
+returns-3 c =
+    let a = c .before .before .before .before .before .before .before .before .before .before .before .args in
+    let n = sym (c .before .before .before .before .before .before .before .before .is-new .ensures) ∙ not-false _ (c .before .before .before .before .before .before .before .if1 .left) in
+    two-is-due (isNewIn (a .x .link) (a .x .reader)) (a .x) _ (now (a .out)) n (c .before .before .before .before .before .before .if2 .left)
+    (two (now (a .out)) (ap (λ t. selecting t []) (c .before .before .before .before .sends .ensures ∙ ap sends (c .before .before .before .before .before .blank .ensures) ∙ sym (begin-new (a .sweeps) (a .x .reader) (new-begins (a .x .link) (a .x .reader) n)))) (c .before .before .select-turn .ensures))
 
 pub start-spec : {M : Type 1} → statement M
 start-spec =

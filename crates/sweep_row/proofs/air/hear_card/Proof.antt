@@ -6,7 +6,7 @@ use Rattle.rows.specs.Rows.{overlay}
 use Rattle.field.specs.Merge.{join}
 use Rattle.card.specs.Card.{takes, answers}
 use Rattle.reader.specs.Reader.{frame}
-use Rattle.sweep.specs.ExchangeLaws.{Front, front-of}
+use Rattle.sweep_steps.specs.ExchangeLaws.{Front, front-of}
 use Rattle.sweep_row.specs.Row.{heardWith, heardCard, heardIn}
 use borrow.Author.Needs.{needs}
 use Rattle.sweep_row.proofs.air.hear_card.Statement.{statement}

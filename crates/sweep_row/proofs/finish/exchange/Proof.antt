@@ -3,8 +3,8 @@ use mathlib.Core.Path.{_≡_, sym, ap₂}
 use native.Mathlib.Omega.{arith}
 use lib.ListN.{length, length-take}
 use Rattle.reader.specs.Reader.{frame}
-use Rattle.sweep.specs.ExchangeLaws.{Front, front-of}
-use Rattle.sweep.specs.FrameLaws.{frame-clean}
+use Rattle.sweep_steps.specs.ExchangeLaws.{Front, front-of}
+use Rattle.sweep_steps.specs.FrameLaws.{frame-clean}
 use Rattle.sweep_row.specs.Row.{exchangeWith, turnWith, exchangedWith}
 use borrow.Author.Needs.{needs}
 use Rattle.sweep_row.proofs.finish.exchange.Statement.{statement}

@@ -1,7 +1,7 @@
 use mathlib.Core.Path.{ap}
 use native.Mathlib.Omega.{arith}
 use lib.ListN.{length}
-use Rattle.sweep.specs.Steps.{foundBy}
+use Rattle.sweep_steps.specs.Steps.{foundBy}
 use Rattle.sweep_row.specs.Row.{finished, exchangedWith}
 use borrow.Author.Needs.{needs}
 use Rattle.sweep_row.proofs.finish.finish.Statement.{statement}
@@ -41,7 +41,7 @@ unfolding finished exchangedWith
 returns c =
     let g = c .before .before .before .before .before .before .put-found in
     let x = c .before .before .before .before .before .before .before .before .before .before .before .before .exchange in
-    (rw (g .ensures .0, x .ensures .0), (x .ensures .1, rw (x .ensures .0) at (g .ensures .1)))
+    (rw (g .ensures .0, x .ensures .0), (x .ensures .1, rw (x .ensures .0) at (g .ensures .1 .0)))
 
 pub finish-spec : {M : Type 1} → statement M
 finish-spec =

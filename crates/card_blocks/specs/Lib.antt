@@ -1,0 +1,3 @@
+pub mod CardRules
+pub mod CardFrames
+pub mod CardLaws

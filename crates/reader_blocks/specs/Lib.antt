@@ -1,0 +1,3 @@
+pub mod ReaderRules
+pub mod ReaderFrames
+pub mod ReaderLaws
