@@ -70,7 +70,7 @@ fn bits_in(a: CardAnswer) -> usize
 }
 
 // One card takes the frame, and its answer joins the bits that are heard so far.
-fn take_one(c: Card, frame: &[u8], heard: &mut [u8], bits: usize) -> One
+pub fn take_one(c: Card, frame: &[u8], heard: &mut [u8], bits: usize) -> One
     requires { ⌜ (bits ≤ length (now heard)) × (45 ≤ length (now heard)) ⌝ }
     ensures { λ r. ⌜ r ≡ one c (now (frame .entry)) (take bits (now (heard .entry))) ⌝ }
     ensures { λ r. ⌜ now (heard .exit) ≡ overlay (now (heard .entry)) 0 (join (answers c (now (frame .entry))) (take bits (now (heard .entry)))) ⌝ }

@@ -19,9 +19,9 @@ use Rattle.refusal.specs.declared.Refusal.{Refusal}
 use Rattle.refusal.specs.declared.Refusal.the-variants.{Room, Argument, NotDue}
 use Rattle.sweep.specs.Sweep.{call, refused, done, sweepOf}
 use Rattle.sweep.specs.Promise.{Terms, Sweeps}
-use Rattle.sweep.specs.Steps.{ends}
+use Rattle.sweep_steps.specs.Steps.{ends}
 use Rattle.sweep.specs.declared.Swept.{Swept}
-use Rattle.sweep.specs.declared.within.Progress.{Progress}
+use Rattle.sweep_steps.specs.declared.within.Progress.{Progress}
 
 -- what the contract says of a call that gave s, log₁ and list₁
 abbrev pub Promised : Reader → List Card → ℕ → List ℕ → List ℕ → Swept → List ℕ → List ℕ → Type 0

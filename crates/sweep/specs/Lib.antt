@@ -1,9 +1,3 @@
 pub mod Sweep
 pub mod Promise
-pub mod Steps
-pub mod FoundLaws
-pub mod FrameLaws
-pub mod ExchangeLaws
-pub mod RunLaws
-pub mod TermLaws
 pub mod CallLaws

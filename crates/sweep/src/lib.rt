@@ -7,12 +7,6 @@ use reader::Answer;
 use reader::Reader;
 use refusal::Refusal;
 
-// The fields that a sweep takes.
-pub mod terms;
-
-// Functions with conditions on what they are called with. Only the crates of this repository call them.
-pub mod within;
-
 // "over 16 cards" is 6; "The sweep asks for 8,192 bytes of log and 176 of list".
 pub const MOST_CARDS: usize = 16;
 
@@ -65,10 +59,10 @@ pub fn sweep(r: Reader, cards: [Card; 16], n: usize, log: &mut [u8], list: &mut 
     if n > MOST_CARDS {
         return refused(r, cards, Refusal::Argument);
     }
-    if !terms::is_within(cards, n) {
+    if !sweep_steps::terms::is_within(cards, n) {
         return refused(r, cards, Refusal::Argument);
     }
-    let p = within::run(cards, n, log, list);
+    let p = sweep_steps::within::run(cards, n, log, list);
     let turn = p.turn;
     let last = turn.reader;
     let answer = turn.answer;

@@ -14,69 +14,51 @@ use Rattle.sweep.specs.CallLaws.{not-due, no-log, no-list, too-many, no-
 use Rattle.sweep.proofs.Kept.{log-fits, list-fits, kept}
 use Rattle.sweep.proofs.sweep.Statement.{statement}
 use Rattle.sweep.proofs.sweep.Tie as tie
-use Rattle.sweep.proofs.sweep.Reads as reads
-use Rattle.sweep.proofs.sweep.Lts as lts
-use Rattle.reader.proofs.within.is_new.Reads as is-new-reads
-use Rattle.sweep.proofs.refused.Reads as refused-reads
-use Rattle.sweep.proofs.terms.is_within.Reads as is-within-reads
-use Rattle.sweep.proofs.within.run.Reads as run-reads
 
--- src/lib.rt:54:9
 is-new-requires : tie.Need-is-new-requires
 is-new-requires c κs = tt
 
--- src/lib.rt:55:9
 refused-requires : tie.Need-refused-requires
 refused-requires c κs = tt
 
--- src/lib.rt:55:9
 returns : tie.Need-returns
 returns c =
     let a = c .before .before .before .before .before .args in
     not-due (a .r) (a .cards) (a .n) (now (a .log)) (now (a .list)) (c .refused .result) (c .refused .ensures) (sym (c .before .before .is-new .ensures) ∙ not-true _ (c .before .if1 .taken))
 
--- src/lib.rt:58:9
 refused-requires-2 : tie.Need-refused-requires-2
 refused-requires-2 c κs = tt
 
--- src/lib.rt:58:9
 returns-2 : tie.Need-returns-2
 returns-2 c =
     let a = c .before .before .before .before .before .before .args in
     let new : isNew (a .r .phase) ≡ true = sym (c .before .before .before .is-new .ensures) ∙ not-false _ (c .before .before .if1 .left) in
     no-log (a .r) (a .cards) (a .n) (now (a .log)) (now (a .list)) new (c .refused2 .result) (c .refused2 .ensures) (c .before .if2 .taken)
 
--- src/lib.rt:61:9
 refused-requires-3 : tie.Need-refused-requires-3
 refused-requires-3 c κs = tt
 
--- src/lib.rt:61:9
 returns-3 : tie.Need-returns-3
 returns-3 c =
     let a = c .before .before .before .before .before .before .before .args in
     let new : isNew (a .r .phase) ≡ true = sym (c .before .before .before .before .is-new .ensures) ∙ not-false _ (c .before .before .before .if1 .left) in
     no-list (a .r) (a .cards) (a .n) (now (a .log)) (now (a .list)) new (c .before .before .if2 .left) (c .refused3 .result) (c .refused3 .ensures) (c .before .if3 .taken)
 
--- src/lib.rt:64:9
 refused-requires-4 : tie.Need-refused-requires-4
 refused-requires-4 c κs = tt
 
--- src/lib.rt:64:9
 returns-4 : tie.Need-returns-4
 returns-4 c =
     let a = c .before .before .before .before .before .before .before .before .args in
     let new : isNew (a .r .phase) ≡ true = sym (c .before .before .before .before .before .is-new .ensures) ∙ not-false _ (c .before .before .before .before .if1 .left) in
     too-many (a .r) (a .cards) (a .n) (now (a .log)) (now (a .list)) new (c .before .before .before .if2 .left) (c .before .before .if3 .left) (c .refused4 .result) (c .refused4 .ensures) (c .before .if4 .taken)
 
--- src/lib.rt:66:9
 is-within-requires : tie.Need-is-within-requires
 is-within-requires c κs = c .if4 .left
 
--- src/lib.rt:67:9
 refused-requires-5 : tie.Need-refused-requires-5
 refused-requires-5 c κs = tt
 
--- src/lib.rt:67:9
 returns-5 : tie.Need-returns-5
 returns-5 c =
     let a = c .before .before .before .before .before .before .before .before .before .before .args in
@@ -84,7 +66,6 @@ returns-5 c =
     no-field (a .r) (a .cards) (a .n) (now (a .log)) (now (a .list)) new (c .before .before .before .before .before .if2 .left) (c .before .before .before .before .if3 .left) (c .before .before .before .if4 .left) (c .refused5 .result) (c .refused5 .ensures)
     (sym (c .before .before .is-within .ensures .0) ∙ not-true _ (c .before .if5 .taken))
 
--- src/lib.rt:69:9
 run-requires : tie.Need-run-requires
 run-requires c κs =
     let a = c .before .before .before .before .before .before .before .before .before .before .before .args in
@@ -93,15 +74,12 @@ run-requires c κs =
     let field : within (take (a .n) (a .cards)) ≡ true = sym (c .before .before .before .is-within .ensures .0) ∙ w in
     (c .before .before .before .before .if4 .left, log-fits (a .cards) (a .n) typed field (now (a .log)) (c .before .before .before .before .before .before .if2 .left), list-fits (a .cards) (a .n) typed field (now (a .list)) (c .before .before .before .before .before .if3 .left))
 
--- src/lib.rt:49:1
 same-length : tie.Need-same-length
 same-length c = c .before .before .before .before .before .before .before .run .kept .1 .1 .0
 
--- src/lib.rt:49:1
 same-length-2 : tie.Need-same-length-2
 same-length-2 c = c .before .before .before .before .before .before .before .run .kept .1 .1 .1 .0
 
--- src/lib.rt:49:1
 returns-6 : tie.Need-returns-6
 returns-6 c =
     let a = c .before .before .before .before .before .before .before .before .before .before .before .before .before .before .before .before .before .before .before .args in

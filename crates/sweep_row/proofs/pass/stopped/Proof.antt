@@ -1,0 +1,16 @@
+use borrow.Author.Needs.{needs}
+use Rattle.sweep_row.proofs.pass.stopped.Statement.{statement}
+use Rattle.sweep_row.proofs.pass.stopped.Tie as tie
+
+none-requires : tie.Need-none-requires
+none-requires c κs = search needs
+
+silence-requires : tie.Need-silence-requires
+silence-requires c κs = search needs
+
+returns : tie.Need-returns
+returns c =
+    rw (c .silence .ensures, c .before .none .ensures)
+
+pub stopped-spec : {M : Type 1} → statement M
+stopped-spec = tie.close (tie.spec none-requires silence-requires returns)

@@ -1,0 +1,6 @@
+pub mod Row
+pub mod SeenLaws
+pub mod Under
+pub mod TurnLaws
+pub mod PadLaws
+pub mod FieldLaws

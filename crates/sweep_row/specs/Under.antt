@@ -1,0 +1,87 @@
+-- The invariant of the sweep over a lent row.
+use Prim.Native.Nat.{ℕ, suc, _+_, _-_, _*_, _≤_, _<_}
+use mathlib.Core.Bool.{Bool, true, false, cond}
+use mathlib.Core.List.{List, _++_}
+use mathlib.Core.Path.{_≡_}
+use lib.ListN.{length, replicate}
+use Rattle.rows.specs.Rows.{All}
+use Rattle.reader.specs.Reader.{isNew, frame}
+use Rattle.field.specs.TakeLaws as take-laws
+use Rattle.sweep_rules.specs.Demand.{Typed}
+use Rattle.sweep_rules.specs.Limits.{mostCards, logRoom, listRoom}
+use Rattle.sweep_rules.specs.Run.{sweep}
+use Rattle.sweep_rules.specs.Terms.{within}
+use Rattle.sweep.specs.CallLaws.{Promised}
+use Rattle.sweep_steps.specs.RunLaws as run-laws
+use Rattle.sweep_steps.specs.declared.within.Progress as plain
+use Rattle.card.specs.declared.Card.{Card}
+use Rattle.reader.specs.declared.Reader.{Reader}
+use Rattle.refusal.specs.declared.Refusal.the-variants.{Argument}
+use Rattle.sweep_row.specs.declared.pass.Progress.{Progress}
+use Rattle.sweep_row.specs.Row.{sweptRow, noCard, refusedRow, goesOn}
+use Rattle.sweep_row.specs.SeenLaws.{SeenFrom}
+
+-- a row of at most 16 cards as an array of 16, of which the first n are the field: the laws of the plain sweep are told of such arrays
+abbrev pub padded : ℕ → List Card → List Card
+padded n cards = cards ++ replicate (mostCards - n) noCard
+
+-- the tests that come before the first card
+pub record Begun (r : Reader) (cards : List Card) (log list : List ℕ) : Type 0 where
+  pub new : isNew (r .phase) ≡ true
+  pub log-room : logRoom ≤ length log
+  pub list-room : listRoom ≤ length list
+  pub few : length cards ≤ mostCards
+
+-- the cards behind the place are seen
+pub record Looking (r : Reader) (cards₀ : List Card) (log₀ list₀ : List ℕ) (p : Progress) (cards : List Card) (log list : List ℕ) : Type 0 where
+  pub begun : Begun r cards₀ log₀ list₀
+  pub row : cards ≡ cards₀
+  pub log-row : log ≡ log₀
+  pub list-row : list ≡ list₀
+  pub count : p .cards ≡ length cards₀
+  pub at : p .at < length cards₀
+  pub bits : p .air .bits ≤ length (p .air .heard)
+  pub refused : p .swept ≡ refusedRow r Argument
+  pub seen : SeenFrom cards₀ (suc (p .at)) (p .seen)
+
+-- how far the plain sweep is where the cards cs have not taken the frame yet
+abbrev pub plainAt : Progress → List Card → plain.Progress
+plainAt p cs =
+    record {
+      turn = record { reader = p .swept .reader; answer = p .swept .answer };
+      cards = padded (p .cards) cs;
+      logged = p .swept .logged;
+      frames = p .swept .frames;
+      found = p .swept .found;
+    }
+
+-- the cards behind the place have taken the frame that is out; cs are the cards before it, heard₀ is what stood in the row that is heard
+pub record Taking (r : Reader) (cards₀ : List Card) (log₀ list₀ : List ℕ) (p : Progress) (cards : List Card) (log list : List ℕ) : Type 0 where
+  pub begun : Begun r cards₀ log₀ list₀
+  pub field : within cards₀ ≡ true
+  pub typed : All Typed cards₀
+  pub cs : List Card
+  pub heard₀ : List ℕ
+  pub size : length cs ≡ length cards₀
+  pub count : p .cards ≡ length cards₀
+  pub at : p .at < length cards₀
+  pub goes : goesOn (p .swept) ≡ true
+  pub sweep-at : run-laws.Under (sweep cards₀) (padded (length cards₀) cards₀) (length cards₀) log₀ list₀ (plainAt p cs) log list
+  pub take-at : take-laws.Under heard₀ cs (length cs) (frame (p .swept .reader)) (p .air .heard) cards (p .air .bits) (suc (p .at))
+
+-- going and looking say which
+abbrev pub UnderIf : Bool → Bool → Reader → List Card → List ℕ → List ℕ → Progress → List Card → List ℕ → List ℕ → Type 0
+UnderIf false l r cards₀ log₀ list₀ p cards log list = Promised r cards₀ (length cards₀) log₀ list₀ (sweptRow (p .swept) cards) log list
+UnderIf true true r cards₀ log₀ list₀ p cards log list = Looking r cards₀ log₀ list₀ p cards log list
+UnderIf true false r cards₀ log₀ list₀ p cards log list = Taking r cards₀ log₀ list₀ p cards log list
+
+abbrev pub Under : Reader → List Card → List ℕ → List ℕ → Progress → List Card → List ℕ → List ℕ → Type 0
+Under r cards₀ log₀ list₀ p cards log list = UnderIf (p .going) (p .looking) r cards₀ log₀ list₀ p cards log list
+
+-- the turns to come are fewer after each: in a pass the place, and the passes
+abbrev pub measure : Progress → ℕ
+measure p = cond (p .looking) (17 * 257 + p .at) (17 * (256 - p .swept .frames) + p .at)
+
+-- a sweep over any row of n cards begins
+pub record Opened (r : Reader) (n : ℕ) (log₀ list₀ : List ℕ) (p : Progress) (log list : List ℕ) : Type 0 where
+  pub begins : (cards : List Card) → length cards ≡ n → Under r cards log₀ list₀ p cards log list

@@ -1,0 +1,99 @@
+-- One exchange of a sweep over an array of cards, and how far a sweep is: the loop's state.
+use Prim.Native.Nat.{ℕ, _+_, _*_, _≤_, _<_}
+use mathlib.Core.Bool.{Bool, true, false, _&&_}
+use mathlib.Core.List.{List, [], _∷_, _++_}
+use mathlib.Core.Path.{_≡_}
+use lib.ListN.{length, take, drop}
+use lib.Dec.{ltb}
+use Rattle.rows.specs.Rows.{overlay}
+use Rattle.uid.specs.Uid.{uidBytes}
+use Rattle.reader.specs.Reader.{blank, sends, frame, hear}
+use Rattle.field.specs.Calls.{cardsAfter}
+use Rattle.field.specs.Field.{heardFrom}
+use Rattle.log.specs.Log.{Exchange, exchangeBytes, logBytes, listBytes}
+use Rattle.sweep_rules.specs.Limits.{mostCards, mostFrames}
+use Rattle.sweep_rules.specs.Run.{Out}
+use Rattle.card.specs.declared.Card.{Card}
+use Rattle.reader.specs.declared.Reader.{Reader}
+use Rattle.reader.specs.declared.Turn.{Turn}
+use Rattle.reader.specs.declared.Phase.the-variants.{ReqaSent}
+use Rattle.reader.specs.declared.Answer.{Answer}
+use Rattle.reader.specs.declared.Answer.the-variants.{Sends, Finds, Selects, Finishes, Declines}
+use Rattle.sweep_steps.specs.declared.within.Exchanged.{Exchanged}
+use Rattle.sweep_steps.specs.declared.within.Progress.{Progress}
+
+-- a frame is out
+abbrev pub goes : Answer → Bool
+goes (Sends n) = true
+goes (Finds n) = true
+goes Selects = false
+goes Finishes = false
+goes (Declines e) = false
+
+-- the UIDs that a turn has found, one or none
+abbrev pub foundIn : Answer → List ℕ → List (List ℕ)
+foundIn (Sends n) u = []
+foundIn (Finds n) u = u ∷ []
+foundIn Selects u = []
+foundIn Finishes u = []
+foundIn (Declines e) u = []
+
+unfoldable pub foundBy : Turn → List (List ℕ)
+foundBy t = foundIn (t .answer) (uidBytes (t .reader .uid))
+
+-- the reader's frame, and what it hears from the field cs
+unfoldable pub exchangeOf : Reader → List Card → Exchange
+exchangeOf r cs = (frame r, heardFrom (frame r) cs)
+
+-- after it, over an array of which the first n cards are the field
+unfoldable pub exchanged : Reader → List Card → ℕ → Exchanged
+exchanged r cards n =
+    record {
+      turn = hear r (heardFrom (frame r) (take n cards));
+      cards = cardsAfter cards n (frame r);
+      bytes = length (exchangeBytes (exchangeOf r (take n cards)));
+    }
+
+-- how far a sweep is before the first exchange, and after one more
+unfoldable pub started : List Card → Progress
+started cards = record { turn = sends (blank ReqaSent true); cards = cards; logged = 0; frames = 0; found = 0 }
+
+unfoldable pub stepped : Progress → ℕ → Progress
+stepped p n =
+    let x : Exchanged = exchanged (p .turn .reader) (p .cards) n in
+    record { turn = x .turn; cards = x .cards; logged = p .logged + x .bytes; frames = p .frames + 1; found = p .found + length (foundBy (x .turn)) }
+
+-- the exchange that comes next, and the reader's turn after it
+abbrev pub nextExchange : Progress → ℕ → Exchange
+nextExchange p n = exchangeOf (p .turn .reader) (take n (p .cards))
+
+abbrev pub nextTurn : Progress → ℕ → Turn
+nextTurn p n = exchanged (p .turn .reader) (p .cards) n .turn
+
+-- log and list have room for it
+pub record Roomy (p : Progress) (n : ℕ) (log list : List ℕ) : Type 0 where
+  pub few : n ≤ mostCards
+  pub log-room : p .logged + length (exchangeBytes (nextExchange p n)) ≤ length log
+  pub list-room : 11 * p .found + 11 * length (foundBy (nextTurn p n)) ≤ length list
+  pub more : p .frames < mostFrames
+
+-- log and list before it and afterwards; an entry of the list takes 11 bytes
+pub record Written (p : Progress) (n : ℕ) (log list log′ list′ : List ℕ) : Type 0 where
+  pub log-row : log′ ≡ overlay log (p .logged) (exchangeBytes (nextExchange p n))
+  pub list-row : list′ ≡ overlay list (11 * p .found) (listBytes (foundBy (nextTurn p n)))
+  pub entries : length (listBytes (foundBy (nextTurn p n))) ≡ 11 * length (foundBy (nextTurn p n))
+
+-- it goes on
+unfoldable pub goesOn : Progress → Bool
+goesOn p = ltb (p .frames) mostFrames && goes (p .turn .answer)
+
+-- the whole run o is done
+abbrev pub ends : List Card → ℕ → Out → Progress
+ends cards n o =
+    record {
+      turn = o .last;
+      cards = o .cards ++ drop n cards;
+      logged = length (logBytes (o .exchanges));
+      frames = length (o .exchanges);
+      found = length (o .found);
+    }

@@ -1,0 +1,155 @@
+// The sweep's loop: an exchange is a reader frame and what is heard after it. Called by our own crates only, which lend the room.
+ghost use mathlib.Core.Path.{_≡_};
+ghost use mathlib.Core.Bool.{true};
+ghost use Prim.Native.Nat.{_+_, _*_, _≤_, _<_};
+ghost use lib.ListN.{length, take};
+ghost use Rattle.rows.specs.Rows.{overlay, clean};
+ghost use Rattle.log.specs.Log.{exchangeBytes, logBytes, listBytes};
+ghost use Rattle.log.specs.Calls.{mostBits};
+ghost use Rattle.sweep_rules.specs.Limits.{mostCards};
+ghost use Rattle.sweep_rules.specs.Run.{sweep};
+ghost use Rattle.sweep_steps.specs.Steps.{goes, foundBy, exchangeOf, exchanged, stepped, goesOn, ends, Roomy, Written};
+use card::Card;
+use reader::Answer;
+use reader::Phase;
+use reader::Reader;
+use reader::Turn;
+
+// After an exchange: the reader's turn, the cards, and the bytes of log that it took.
+pub struct Exchanged {
+    pub turn: Turn,
+    pub cards: [Card; 16],
+    pub bytes: usize,
+}
+
+// How far a sweep is: the reader's turn, the cards, the bytes of log so far, the frames sent and the UIDs found.
+pub struct Progress {
+    pub turn: Turn,
+    pub cards: [Card; 16],
+    pub logged: usize,
+    pub frames: usize,
+    pub found: usize,
+}
+
+// The records of a reader frame and of what was heard after it. The answer is their number of bytes.
+pub fn put_exchange(log: &mut [u8], at: usize, frame: &[u8], heard: &[u8]) -> usize
+    requires { ⌜ (clean (now frame) ≡ true) × (length (now frame) ≤ mostBits) × (length (now heard) ≤ mostBits) × (at + length (exchangeBytes (now frame, now heard)) ≤ length (now log)) ⌝ }
+    ensures { λ r. ⌜ r ≡ length (exchangeBytes (now (frame .entry), now (heard .entry))) ⌝ }
+    ensures { λ r. ⌜ now (log .exit) ≡ overlay (now (log .entry)) at (exchangeBytes (now (frame .entry), now (heard .entry))) ⌝ }
+{
+    let first = log::within::put_sent(log, at, frame);
+    let second = log::within::put_heard(log, at + first, heard);
+    first + second
+}
+
+// The reader's frame, taken by the first n cards; its records in the log; and the reader's turn on what it heard.
+fn exchange(r: Reader, cards: [Card; 16], n: usize, log: &mut [u8], at: usize) -> Exchanged
+    requires { ⌜ (n ≤ mostCards) × (at + length (exchangeBytes (exchangeOf r (take n cards))) ≤ length (now log)) ⌝ }
+    ensures { λ x. ⌜ x ≡ exchanged r cards n ⌝ }
+    ensures { λ x. ⌜ now (log .exit) ≡ overlay (now (log .entry)) at (exchangeBytes (exchangeOf r (take n cards))) ⌝ }
+{
+    let mut frame = [0u8; 81];
+    reader::within::put_frame(r, &mut frame);
+    let bits = reader::within::frame_bits(r);
+    let mut heard = [0u8; 45];
+    let t = field::within::take_all(cards, n, &frame[..bits], &mut heard);
+    let m = t.bits;
+    let bytes = put_exchange(log, at, &frame[..bits], &heard[..m]);
+    let next = reader::within::hear_rules(r, &heard[..m]);
+    let after = t.cards;
+    Exchanged {
+        turn: next,
+        cards: after,
+        bytes: bytes,
+    }
+}
+
+// The UID that a turn has found goes into the list. The answer is how many it found.
+pub fn put_found(t: Turn, list: &mut [u8], at: usize) -> usize
+    requires { ⌜ at + 11 * length (foundBy t) ≤ length (now list) ⌝ }
+    ensures { λ r. ⌜ r ≡ length (foundBy t) ⌝ }
+    ensures { λ r. ⌜ now (list .exit) ≡ overlay (now (list .entry)) at (listBytes (foundBy t)) ⌝ }
+    ensures { λ r. ⌜ length (listBytes (foundBy t)) ≡ 11 * length (foundBy t) ⌝ }
+{
+    let a = t.answer;
+    let r = t.reader;
+    let u = r.uid;
+    match a {
+        Answer::Sends(_) => 0,
+        Answer::Finds(_) => {
+            log::within::put_entry(list, at, u);
+            1
+        }
+        Answer::Selects => 0,
+        Answer::Finishes => 0,
+        Answer::Declines(_) => 0,
+    }
+}
+
+// One exchange more.
+fn step(p: Progress, n: usize, log: &mut [u8], list: &mut [u8]) -> Progress
+    requires { ⌜ Roomy p n (now log) (now list) ⌝ }
+    ensures { λ r. ⌜ r ≡ stepped p n ⌝ }
+    ensures { λ r. ⌜ Written p n (now (log .entry)) (now (list .entry)) (now (log .exit)) (now (list .exit)) ⌝ }
+{
+    let t = p.turn;
+    let r = t.reader;
+    let cards = p.cards;
+    let at = p.logged;
+    let x = exchange(r, cards, n, log, at);
+    let next = x.turn;
+    let found = put_found(next, list, 11 * p.found);
+    let after = x.cards;
+    Progress {
+        turn: next,
+        cards: after,
+        logged: at + x.bytes,
+        frames: p.frames + 1,
+        found: p.found + found,
+    }
+}
+
+// Does the reader have a frame out, and may it send one more?
+pub fn goes(a: Answer) -> bool
+    ensures { λ r. ⌜ r ≡ goes a ⌝ }
+{
+    match a {
+        Answer::Sends(_) => true,
+        Answer::Finds(_) => true,
+        Answer::Selects => false,
+        Answer::Finishes => false,
+        Answer::Declines(_) => false,
+    }
+}
+
+fn goes_on(p: Progress) -> bool
+    ensures { λ r. ⌜ r ≡ goesOn p ⌝ }
+{
+    if p.frames < 256 {
+        let t = p.turn;
+        let a = t.answer;
+        return goes(a);
+    }
+    false
+}
+
+// A whole sweep over the first n cards. It is called where log and list have room for what it writes.
+pub fn run(cards: [Card; 16], n: usize, log: &mut [u8], list: &mut [u8]) -> Progress
+    requires { ⌜ (n ≤ mostCards) × (length (logBytes (sweep (take n cards) .exchanges)) ≤ length (now log)) × (length (listBytes (sweep (take n cards) .found)) ≤ length (now list)) ⌝ }
+    ensures { λ p. ⌜ p ≡ ends cards n (sweep (take n cards)) ⌝ }
+    ensures { λ p. ⌜ now (log .exit) ≡ overlay (now (log .entry)) 0 (logBytes (sweep (take n cards) .exchanges)) ⌝ }
+    ensures { λ p. ⌜ now (list .exit) ≡ overlay (now (list .entry)) 0 (listBytes (sweep (take n cards) .found)) ⌝ }
+{
+    let t = reader::within::sends(reader::within::blank(Phase::ReqaSent, true));
+    let mut p = Progress {
+        turn: t,
+        cards: cards,
+        logged: 0,
+        frames: 0,
+        found: 0,
+    };
+    while goes_on(p) {
+        p = step(p, n, log, list);
+    }
+    p
+}
