@@ -40,10 +40,10 @@ impl Collected {
         Some(())
     }
 
-    /// Sweeps the cards on a new reader and forgets them.
-    fn sweep(&mut self, for_people: bool) -> Vec<String> {
-        let mut cards = std::mem::take(&mut self.cards);
-        if std::mem::take(&mut self.refused) {
+    /// Sweeps the cards on a new reader; they are kept as they were.
+    fn sweep(&self, for_people: bool) -> Vec<String> {
+        let mut cards = self.cards.clone();
+        if self.refused {
             return vec![format!("refused {}", refusal::ARGUMENT)];
         }
         let swept = match sweep(&mut Reader::new(), &mut cards, LOG_ROOM, LIST_ROOM) {
@@ -101,8 +101,12 @@ pub struct VectorsSweep {
 
 impl Program for VectorsSweep {
     fn words(&mut self, words: &[&str]) -> Option<Vec<String>> {
-        if words == ["sweep"] {
+        // Over a lent row or as values: the answer is the same. After `sweep` the cards are forgotten.
+        if words == ["row"] {
             return Some(self.collected.sweep(false));
+        }
+        if words == ["sweep"] {
+            return Some(std::mem::take(&mut self.collected).sweep(false));
         }
         self.collected.card_line(words)?;
         Some(Vec::new())
@@ -148,7 +152,11 @@ mod tests {
             for line in lines {
                 script.say(line);
             }
-            script.say("sweep")
+            let by_row = script.say("row");
+            assert_eq!(script.say("row"), by_row);
+            assert_eq!(script.say("sweep"), by_row);
+            assert_eq!(script.say("row"), "frames 1\nlog 000764C000");
+            by_row
         };
         assert_eq!(ask(&["88020304"]), "refused 6");
         assert_eq!(ask(&["0102"]), "refused 6");

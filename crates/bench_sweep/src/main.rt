@@ -1,4 +1,4 @@
-// A field of cards from text, swept at the end of the input: BENCH.md's language.
+// A field of cards from text, swept at the end of the input, over a lent row: BENCH.md's language.
 use bench_field::Collected;
 use bench_io::Input;
 
@@ -17,7 +17,7 @@ fn main() {
     let mut log = [0u8; 8192];
     let mut list = [0u8; 176];
     let mut row = [0u8; 8192];
-    bench_swept::answer(c, true, &mut log, &mut list, &mut row, &mut out);
+    bench_swept::answer_by_row(c, true, &mut log, &mut list, &mut row, &mut out);
 }
 
 // The cards of all lines. A proved loop has to end, and nothing says that the input does: it counts its turns down from a number that no run

@@ -24,8 +24,8 @@ pub fn collect(c: Collected, input: Input, line: &[u8], out: &mut [u8]) -> Colle
     }
 }
 
-// Sweeps the cards on a new reader and says what came of it, with or without the trace for people. The lent log, list, row and out are for the
-// sweep's own use.
+// Sweeps the cards on a new reader, as values, and says what came of it, with or without the trace for people. The lent log, list, row and out
+// are for the sweep's own use.
 pub fn answer(
     c: Collected,
     has_trace: bool,
@@ -40,12 +40,42 @@ pub fn answer(
     }
     let cards = c.cards;
     let s = sweep::sweep(reader::new_reader(), cards, c.count, log, list);
+    say_answer(s, c.count, has_trace, log, list, row, out);
+}
+
+// The same, over a lent row.
+pub fn answer_by_row(
+    c: Collected,
+    has_trace: bool,
+    log: &mut [u8],
+    list: &mut [u8],
+    row: &mut [u8],
+    out: &mut [u8],
+) {
+    if c.is_refused {
+        say_refused(Refusal::Argument, out);
+        return;
+    }
+    let cards = c.cards;
+    let s = sweep_row::within::sweep_by_row(reader::new_reader(), cards, c.count, log, list);
+    say_answer(s, c.count, has_trace, log, list, row, out);
+}
+
+fn say_answer(
+    s: Swept,
+    count: usize,
+    has_trace: bool,
+    log: &[u8],
+    list: &[u8],
+    row: &mut [u8],
+    out: &mut [u8],
+) {
     let last = s.answer;
     match last {
-        Answer::Sends(_) => say_swept(s, c.count, has_trace, log, list, row, out),
-        Answer::Finds(_) => say_swept(s, c.count, has_trace, log, list, row, out),
-        Answer::Selects => say_swept(s, c.count, has_trace, log, list, row, out),
-        Answer::Finishes => say_swept(s, c.count, has_trace, log, list, row, out),
+        Answer::Sends(_) => say_swept(s, count, has_trace, log, list, row, out),
+        Answer::Finds(_) => say_swept(s, count, has_trace, log, list, row, out),
+        Answer::Selects => say_swept(s, count, has_trace, log, list, row, out),
+        Answer::Finishes => say_swept(s, count, has_trace, log, list, row, out),
         Answer::Declines(e) => say_refused(e, out),
     }
 }

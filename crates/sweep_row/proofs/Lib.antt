@@ -4,3 +4,4 @@ pub mod Looking
 pub mod Turning
 pub mod Opening
 pub mod Lent
+pub mod Parted

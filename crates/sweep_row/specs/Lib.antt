@@ -4,3 +4,4 @@ pub mod Under
 pub mod TurnLaws
 pub mod PadLaws
 pub mod FieldLaws
+pub mod ArrayLaws

@@ -13,6 +13,7 @@ mod begin;
 mod finish;
 mod pass;
 mod seen;
+pub mod within;
 
 // After a sweep: the reader and its last answer, Finishes or why the sweep was declined; how many frames the reader sent, how many bytes of the
 // log are written, and how many UIDs stand in the list.

@@ -1,4 +1,5 @@
-// Fields of cards from text, each swept by a line `sweep`, after which the cards are forgotten.
+// Fields of cards from text, each swept by a line `sweep`, after which the cards are forgotten. A line `row` sweeps them over a lent row, and they
+// are kept.
 use bench::LineKind;
 use bench_field::Collected;
 use bench_io::Input;
@@ -52,7 +53,7 @@ fn play(
     }
 }
 
-// Reads the next line: a card's, or `sweep`; unless the input is over.
+// Reads and answers the next line, unless the input is over.
 fn answer_next(
     p: Played,
     buffer: &mut [u8],
@@ -72,35 +73,48 @@ fn answer_next(
             is_over: true,
         };
     }
-    if is_sweep(input, line) {
-        bench_swept::answer(before, false, log, list, row, out);
-        return Played {
-            collected: bench_field::none(),
-            input,
-            is_over: false,
-        };
-    }
     Played {
-        collected: bench_swept::collect(before, input, line, out),
+        collected: answer_line(before, input, line, log, list, row, out),
         input,
         is_over: false,
     }
 }
 
-// Is the line the word `sweep` alone?
-fn is_sweep(input: Input, line: &[u8]) -> bool {
+// The cards after a line: a card's, `row` or `sweep`.
+fn answer_line(
+    c: Collected,
+    input: Input,
+    line: &[u8],
+    log: &mut [u8],
+    list: &mut [u8],
+    row: &mut [u8],
+    out: &mut [u8],
+) -> Collected {
+    if is_word(input, line, b"row") {
+        bench_swept::answer_by_row(c, false, log, list, row, out);
+        return c;
+    }
+    if is_word(input, line, b"sweep") {
+        bench_swept::answer(c, false, log, list, row, out);
+        return bench_field::none();
+    }
+    bench_swept::collect(c, input, line, out)
+}
+
+// Is the line this word alone?
+fn is_word(input: Input, line: &[u8], word: &[u8]) -> bool {
     let text = bench_io::text(input, line);
     let kind = bench_io::kind(input, text);
     match kind {
         LineKind::PassedOver => false,
         LineKind::TooLong => false,
-        LineKind::Script => is_word(text),
+        LineKind::Script => is_alone(text, word),
     }
 }
 
-fn is_word(text: &[u8]) -> bool {
+fn is_alone(text: &[u8], word: &[u8]) -> bool {
     if bench::word(text, 1).len() != 0 {
         return false;
     }
-    rows::is_same(bench::word(text, 0), b"sweep")
+    rows::is_same(bench::word(text, 0), word)
 }

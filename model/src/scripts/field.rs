@@ -108,6 +108,25 @@ fn field(s: &mut Script<VectorsSweep>, lines: &[String]) -> String {
     s.say("sweep")
 }
 
+/// The same field over a lent row, and then as values.
+fn both(s: &mut Script<VectorsSweep>, lines: &[String]) -> String {
+    for line in lines {
+        s.say(line);
+    }
+    let by_row = s.say("row");
+    assert_eq!(s.say("sweep"), by_row);
+    by_row
+}
+
+/// Every third field both ways.
+fn nth(s: &mut Script<VectorsSweep>, n: usize, lines: &[String]) -> String {
+    if n % 3 == 0 {
+        both(s, lines)
+    } else {
+        field(s, lines)
+    }
+}
+
 fn texts(lines: &[&str]) -> Vec<String> {
     lines.iter().map(|l| l.to_string()).collect()
 }
@@ -121,12 +140,12 @@ pub fn script(seed: u64) -> Script<VectorsSweep> {
     refused_fields(&mut s);
     s.remark("random fields");
     let mut fields = 0;
-    while fields < 260 && s.output.len() < 235_000 {
+    while fields < 260 && s.output.len() < 252_000 {
         let lines = random_field(&mut random);
         if lines.len() > 10 && random.chance(70) {
             continue;
         }
-        field(&mut s, &lines);
+        nth(&mut s, fields, &lines);
         fields += 1;
     }
     assert!(fields >= 200, "only {fields} random fields fit");
@@ -135,27 +154,27 @@ pub fn script(seed: u64) -> Script<VectorsSweep> {
 
 fn document_fields(s: &mut Script<VectorsSweep>) {
     s.remark("no cards, and document 01's fields");
-    assert_eq!(s.say("sweep"), "frames 1\nlog 000764C000");
+    assert_eq!(both(s, &[]), "frames 1\nlog 000764C000");
     let starts = |answer: String, start: &str| assert!(answer.starts_with(start), "{answer}");
-    starts(field(s, &texts(&["80122821", "01020304 idle 00"])), "frames 10\nfound 01020304\nfound 80122821\n");
-    starts(field(s, &texts(&["01020304 idle 00", "80122821"])), "frames 10\n");
-    starts(field(s, &texts(&["80122821", "04112233445566", "01020304"])), "frames 17\n");
-    starts(field(s, &texts(&["04112233445566", "01020304"])), "frames 12\n");
-    starts(field(s, &texts(&["80122821 idle 00 0", "80122821441020 idle 20 5", "56341280122821440010"])), "frames ");
+    starts(both(s, &texts(&["80122821", "01020304 idle 00"])), "frames 10\nfound 01020304\nfound 80122821\n");
+    starts(both(s, &texts(&["01020304 idle 00", "80122821"])), "frames 10\n");
+    starts(both(s, &texts(&["80122821", "04112233445566", "01020304"])), "frames 17\n");
+    starts(both(s, &texts(&["04112233445566", "01020304"])), "frames 12\n");
+    starts(both(s, &texts(&["80122821 idle 00 0", "80122821441020 idle 20 5", "56341280122821440010"])), "frames ");
     s.remark("one card of each size, alone");
     for uid in ["80122821", "80122821441020", "56341280122821440010"] {
-        field(s, &texts(&[uid]));
+        both(s, &texts(&[uid]));
     }
     s.remark("halted cards");
     assert_eq!(
-        field(s, &texts(&["01020304 halt 00 3", "04112233445566 halt"])),
+        both(s, &texts(&["01020304 halt 00 3", "04112233445566 halt"])),
         "frames 1\ncard 01020304 halt 00 3\ncard 04112233445566 halt 20 8\nlog 000764C000"
     );
-    field(s, &texts(&["01020304 halt", "01020305", "01020306 halt 20 1", "01020307 idle 00 2"]));
+    both(s, &texts(&["01020304 halt", "01020305", "01020306 halt 20 1", "01020307 idle 00 2"]));
     s.remark("u6 = 88, and other bytes that look like the tag");
-    field(s, &texts(&["01020304050688080910", "01020304050608080910", "01020304050608080911"]));
-    field(s, &texts(&["88888888888888888888", "88888808888888", "88888888888888888880", "08888888"]));
-    field(s, &texts(&["88020304050607", "88020308050607", "88020388050607080910"]));
+    both(s, &texts(&["01020304050688080910", "01020304050608080910", "01020304050608080911"]));
+    both(s, &texts(&["88888888888888888888", "88888808888888", "88888888888888888880", "08888888"]));
+    both(s, &texts(&["88020304050607", "88020308050607", "88020388050607080910"]));
     s.remark("a word line, and lines that are not understood, change nothing");
     for line in [
         "01020304",
@@ -168,10 +187,13 @@ fn document_fields(s: &mut Script<VectorsSweep>) {
         "80122821 idle 20 123456",
         "80122821 idle 20 8 9",
         "sweep 1",
+        "row 1",
+        "rows",
         "swept",
         "# a remark",
         "",
         "80122821  halt  00  08\r",
+        " row ",
         "sweep",
     ] {
         s.say(line);
@@ -187,7 +209,7 @@ fn parting_fields(s: &mut Script<VectorsSweep>) {
     let pair = |s: &mut Script<VectorsSweep>, base: &[u8], byte: usize| {
         let mut other = base.to_vec();
         other[byte] ^= 0x80;
-        field(s, &[show_hex(base), show_hex(&other)]);
+        nth(s, byte, &[show_hex(base), show_hex(&other)]);
     };
     for byte in 0..4 {
         pair(s, &base4, byte);
@@ -199,8 +221,8 @@ fn parting_fields(s: &mut Script<VectorsSweep>) {
         pair(s, &base10, byte);
     }
     s.remark("position 7 of level 1 and of level 2 against the tag 88");
-    field(s, &texts(&["08112233", "11223344556677", "99223344556677889900"]));
-    field(s, &texts(&["11223308556677", "11223344556677889900"]));
+    both(s, &texts(&["08112233", "11223344556677", "99223344556677889900"]));
+    both(s, &texts(&["11223308556677", "11223344556677889900"]));
     s.remark("every last bit at once");
     for base in [&base4[..], &base7[..], &base10[..]] {
         let mut lines = vec![show_hex(base)];
@@ -225,9 +247,9 @@ fn parting_fields(s: &mut Script<VectorsSweep>) {
 
 fn combs(s: &mut Script<VectorsSweep>, random: &mut Random) {
     s.remark("combs of sixteen ten-byte UIDs: the most frames");
-    for _ in 0..2 {
+    for way in [both, field] {
         let lines: Vec<String> = comb(random).iter().map(|u| show_hex(u)).collect();
-        assert!(field(s, &lines).starts_with("frames 249\n"));
+        assert!(way(s, &lines).starts_with("frames 249\n"));
     }
 }
 
@@ -249,19 +271,19 @@ fn refused_fields(s: &mut Script<VectorsSweep>) {
         &["88020304 off 00 9"],
     ];
     for lines in refused {
-        assert_eq!(field(s, &texts(lines)), "refused 6");
+        assert_eq!(both(s, &texts(lines)), "refused 6");
     }
     let many = |count: u8| -> Vec<String> { (0..count).map(|i| format!("0102{:02X}04", i * 5)).collect() };
-    assert_eq!(field(s, &many(17)), "refused 6");
-    assert!(field(s, &many(16)).starts_with("frames "));
+    assert_eq!(both(s, &many(17)), "refused 6");
+    assert!(both(s, &many(16)).starts_with("frames "));
     let halted: Vec<String> = many(17).iter().map(|l| format!("{l} halt")).collect();
-    assert_eq!(field(s, &halted), "refused 6");
+    assert_eq!(both(s, &halted), "refused 6");
     let mut repeated = many(16);
     repeated.push("0102".to_string());
-    assert_eq!(field(s, &repeated), "refused 6");
+    assert_eq!(both(s, &repeated), "refused 6");
     s.remark("a shorter UID that begins a longer one is no repetition");
-    field(s, &texts(&["01020304", "01020304050607", "01020304050607080910"]));
-    assert_eq!(s.say("sweep"), "frames 1\nlog 000764C000");
+    both(s, &texts(&["01020304", "01020304050607", "01020304050607080910"]));
+    assert_eq!(both(s, &[]), "frames 1\nlog 000764C000");
 }
 
 /// A locker field of four wristbands that part at the last bit of a byte.
@@ -274,13 +296,13 @@ pub fn locker() -> Script<BenchSweep> {
     s
 }
 
-/// Random fields, each ending in `sweep`, for larger comparisons.
+/// Random fields, every third over a lent row too, each ending in `sweep`, for larger comparisons.
 pub fn random_scripts(count: usize, seed: u64) -> Script<VectorsSweep> {
     let mut s = Script::new(VectorsSweep::default());
     let mut random = Random::new(seed);
-    for _ in 0..count {
+    for n in 0..count {
         let lines = random_field(&mut random);
-        field(&mut s, &lines);
+        nth(&mut s, n, &lines);
     }
     s
 }

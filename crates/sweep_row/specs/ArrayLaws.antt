@@ -1,0 +1,105 @@
+-- A row that is the first n cards of an array: what the sweep's contract says of the row, it says of the array. Assumes nothing.
+use mathlib.Core.Path.{_≡_, ap, subst, _∙_}
+use Prim.Native.Nat.{ℕ, _+_, _-_, _*_, _/_, _≤_}
+use mathlib.Core.Bool.{Bool, true, false, not, cond, _||_}
+use mathlib.Core.List.{List, [], map, _++_, append-nil}
+use lib.ListN.{length, take, drop, take-append-drop}
+use lib.Dec.{ltb}
+use Rattle.rows.specs.Rows.{overlay}
+use Rattle.uid.specs.Uid.{uidBytes, falling, frameSum}
+use Rattle.reader.specs.Reader.{isNew}
+use Rattle.log.specs.Log.{logBytes, listBytes}
+use Rattle.sweep_rules.specs.Demand.{idle, halted}
+use Rattle.sweep_rules.specs.Limits.{mostCards, logRoom, listRoom}
+use Rattle.sweep_rules.specs.Run.{Out, sweep}
+use Rattle.sweep_rules.specs.Terms.{within}
+use Rattle.sweep.specs.CallLaws.{Promised}
+use Rattle.sweep.specs.Promise.{Terms, Sweeps}
+use Rattle.sweep.specs.Sweep.{Call, call, refused, done, sweepOf}
+use Rattle.card.specs.declared.Card.{Card}
+use Rattle.reader.specs.declared.Reader.{Reader}
+use Rattle.refusal.specs.declared.Refusal.the-variants.{Room, Argument, NotDue}
+use Rattle.sweep_row.specs.declared.RowSwept.{RowSwept}
+use Rattle.sweep_row.specs.PadLaws.{take-row, drop-row}
+use Rattle.sweep_row.specs.Row.{sweptRow}
+
+-- the same call, over a row that more cards follow
+abbrev with : List Card → Call → Call
+with k c =
+    record {
+      swept = record {
+        reader = c .swept .reader;
+        answer = c .swept .answer;
+        cards = c .swept .cards ++ k;
+        frames = c .swept .frames;
+        logged = c .swept .logged;
+        found = c .swept .found;
+      };
+      log = c .log;
+      list = c .list;
+    }
+
+module _ (r : Reader) (cards : List Card) (n : ℕ) (log list : List ℕ) (long : length (take n cards) ≡ n) where
+  abbrev front : List Card
+  front = take n cards
+
+  abbrev rest : List Card
+  rest = drop n cards
+
+  again : take n front ≡ front
+  again = take-row n front long
+
+  no-more : drop n front ≡ []
+  no-more = drop-row n front long
+
+  whole : front ++ rest ≡ cards
+  whole = take-append-drop n cards
+
+  runs-on : (o : Out) → with rest (done front n log list o) ≡ done cards n log list o
+  unfolding done
+  runs-on o = rw (no-more, append-nil)
+
+  -- the call's three tests, over the cards k
+  abbrev tests : Bool → Bool → Bool → List Card → Call → Call
+  tests a b c k d = cond a (call (refused r k NotDue) log list) (cond b (call (refused r k Room) log list) (cond c (call (refused r k Argument) log list) d))
+
+  same-tests : (a b c : Bool) (d d′ : Call) → with rest d ≡ d′ → with rest (tests a b c front d) ≡ tests a b c cards d′
+  same-tests true b c d d′ e = ap (λ k. call (refused r k NotDue) log list) whole
+  same-tests false true c d d′ e = ap (λ k. call (refused r k Room) log list) whole
+  same-tests false false true d d′ e = ap (λ k. call (refused r k Argument) log list) whole
+  same-tests false false false d d′ e = e
+
+  same-call : with rest (sweepOf r front n log list) ≡ sweepOf r cards n log list
+  unfolding sweepOf
+  same-call =
+      rw again (same-tests (not (isNew (r .phase))) (ltb (length log) logRoom || ltb (length list) listRoom) (ltb mostCards n || not (within front))
+      (done front n log list (sweep front)) (done cards n log list (sweep front)) (runs-on (sweep front)))
+
+  terms : Terms r cards n log list → Terms r front n log list
+  terms t = record { new = t .new; log-room = t .log-room; list-room = t .list-room; few = t .few; field = ap within again ∙ t .field }
+
+  halts : map halted (take n front) ++ drop n front ≡ map halted front
+  halts = rw (again, no-more, append-nil)
+
+  sweeps : (s : RowSwept) (after : List Card) (log₁ list₁ : List ℕ) → Sweeps front n log list (sweptRow s after) log₁ list₁
+      → Sweeps cards n log list (sweptRow s (after ++ rest)) log₁ list₁
+  sweeps s after log₁ list₁ w =
+      record {
+        reader = w .reader;
+        answer = w .answer;
+        list = subst (λ k. list₁ ≡ overlay list 0 (listBytes (map uidBytes (falling (idle k))))) again (w .list);
+        found = subst (λ k. s .found ≡ length (idle k)) again (w .found);
+        cards = ap (λ k. k ++ rest) (w .cards ∙ halts);
+        log = subst (λ k. log₁ ≡ overlay log 0 (logBytes (sweep k .exchanges))) again (w .log);
+        logged = subst (λ k. s .logged ≡ length (logBytes (sweep k .exchanges))) again (w .logged);
+        records = subst (λ k. s .frames ≡ length (sweep k .exchanges)) again (w .records);
+        frames = subst (λ k. s .frames ≡ frameSum (falling (idle k))) again (w .frames);
+        bound = subst (λ k. s .frames ≤ 1 + 8 * length (idle k) + length (idle k) * (length (idle k) - 1) / 2) again (w .bound);
+      }
+
+  pub array-promised : (s : RowSwept) (after : List Card) (log₁ list₁ : List ℕ) → Promised r front (length front) log list (sweptRow s after) log₁ list₁
+      → Promised r cards n log list (sweptRow s (after ++ rest)) log₁ list₁
+  array-promised s after log₁ list₁ p = go (subst (λ m. Promised r front m log list (sweptRow s after) log₁ list₁) long p)
+    where
+      go : Promised r front n log list (sweptRow s after) log₁ list₁ → Promised r cards n log list (sweptRow s (after ++ rest)) log₁ list₁
+      go k = (ap (with rest) (k .0) ∙ same-call, λ t. sweeps s after log₁ list₁ (k .1 (terms t)))
