@@ -8,7 +8,6 @@ mod card;
 mod card_link;
 mod coverage;
 mod crc;
-#[cfg(test)]
 mod exchange;
 mod frames;
 mod known;
@@ -21,15 +20,17 @@ mod refusal;
 mod scripts;
 mod sweep;
 mod uid;
+mod vectors_exchange;
 mod vectors_frame;
 mod write;
 
 const USAGE: &str = "\
-model vectors_frame | vectors_sweep | bench_sweep | bench_card | bench_reader   play a script from standard input
+model vectors_frame | vectors_sweep | vectors_exchange | bench_sweep | bench_card | bench_reader
+                                         play a script from standard input
 model write DIR                          write the stored scripts and their answers
 model check DIR                          compare the stored ones with what would be written
 model coverage                           what the stored scripts reach
-model scripts card|reader|field COUNT SEED   random scripts for larger comparisons";
+model scripts card|reader|field|exchange COUNT SEED   random scripts for larger comparisons";
 
 fn report(outcome: Result<(), String>) {
     if let Err(what) = outcome {
@@ -45,7 +46,8 @@ fn random_scripts(kind: &str, count: &str, seed: &str) -> Result<(), String> {
         "card" => scripts::card::random_scripts(count, seed).input,
         "reader" => scripts::reader::random_scripts(count, seed).input,
         "field" => scripts::field::random_scripts(count, seed).input,
-        _ => return Err("scripts for card, reader or field".to_string()),
+        "exchange" => scripts::exchange::random_scripts(count, seed).input,
+        _ => return Err("scripts for card, reader, field or exchange".to_string()),
     };
     print!("{text}");
     Ok(())
@@ -57,6 +59,7 @@ fn main() {
     match arguments[..] {
         ["vectors_frame"] => language::play(vectors_frame::VectorsFrame),
         ["vectors_sweep"] => language::play(bench_sweep::VectorsSweep::default()),
+        ["vectors_exchange"] => language::play(vectors_exchange::VectorsExchange::default()),
         ["bench_sweep"] => language::play(bench_sweep::BenchSweep::default()),
         ["bench_card"] => language::play(bench_card::BenchCard::new()),
         ["bench_reader"] => language::play(bench_reader::BenchReader::new()),

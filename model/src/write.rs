@@ -25,10 +25,16 @@ pub fn all() -> Vec<Stored> {
     vec![
         stored("vectors_frame", scripts::frame::script(SEED + 1)),
         stored("vectors_sweep", scripts::field::script(SEED + 2)),
+        stored("vectors_exchange", exchange()),
         stored("bench_card", card),
         stored("bench_reader", reader),
         stored("bench_sweep", scripts::field::locker()),
     ]
+}
+
+/// The script of both ends.
+fn exchange() -> Script<crate::vectors_exchange::VectorsExchange> {
+    scripts::exchange::script(SEED + 7)
 }
 
 /// The scripts of the card and of the reader: first the selection, then RATS and blocks.
@@ -49,6 +55,14 @@ pub fn bench_scripts() {
     card.lines().for_each(|line| drop(replayed.say(line)));
     let mut replayed = Script::new(crate::bench_reader::BenchReader::new());
     reader.lines().for_each(|line| drop(replayed.say(line)));
+}
+
+/// Plays the script of both ends again, for what it reaches.
+pub fn exchange_script() {
+    let input = exchange().input;
+    crate::coverage::forget();
+    let mut replayed = Script::new(crate::vectors_exchange::VectorsExchange::default());
+    input.lines().for_each(|line| drop(replayed.say(line)));
 }
 
 /// Is there a program of this name below the folder? Those that are not there are left out, with a word.

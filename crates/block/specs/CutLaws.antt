@@ -8,7 +8,7 @@ use native.Mathlib.Omega.{arith}
 use lib.Dec.{leb, ltb}
 use lib.ListN.{length, take, drop, getD, List·getD-eq-default, length-append, length-take, length-drop}
 use lib.Seq.{take-add, take-all}
-use borrow.Author.Tests.{lt-ltb, le-ltb, le-leb, lt-leb, leb-true, leb-false}
+use borrow.Author.Tests.{le-ltb, le-leb, lt-leb, leb-true, leb-false}
 use Rattle.rows.specs.ListLaws.{is-nil}
 use Rattle.selection.specs.Selection.{size}
 use Rattle.block.specs.Cut.{payloadMax, follows, part, partBytes, fewest, fits, messageMax}
@@ -44,10 +44,6 @@ payload-size i = omega (arith, size-least i)
 pub payload-most : (i : ℕ) → payloadMax i ≤ 253
 unfolding payloadMax
 payload-most = each-size (λ s. s - 3 ≤ 253) (omega arith) (omega arith) (omega arith) (omega arith) (omega arith) (omega arith) (omega arith) (omega arith) (omega arith)
-
-pub payload-least : (i : ℕ) → 13 ≤ payloadMax i
-unfolding payloadMax
-payload-least i = omega (arith, size-least i)
 
 -- what lies past a table's end is not read
 getD-in : (l : List ℕ) (i d e : ℕ) → i < length l → getD l i d ≡ getD l i e
@@ -113,10 +109,6 @@ fits-true n room e = let h : n ≤ min messageMax room = leb-true n (min message
 pub follows-sub : (i at len : ℕ) → payloadMax i ≤ len → ltb at (len - payloadMax i) ≡ follows i at len
 unfolding follows
 follows-sub i at len h = leb-iff (suc at) (len - payloadMax i) (suc (at + payloadMax i)) len (λ k. omega arith) (λ k. omega arith)
-
-pub follows-more : (i at len : ℕ) → at + payloadMax i < len → follows i at len ≡ true
-unfolding follows
-follows-more i at len h = lt-ltb (at + payloadMax i) len h
 
 pub follows-none : (i at len : ℕ) → len ≤ at + payloadMax i → follows i at len ≡ false
 unfolding follows

@@ -6,8 +6,8 @@ use Prim.Native.Nat.{ℕ, zero, suc, _+_, _-_, _≤_, _<_}
 use native.Mathlib.Nat.{zero-add, sub-zero}
 use native.Mathlib.Numerals.{one-add}
 use native.Mathlib.Omega.{arith}
-use lib.ListN.{length, take, drop, replicate}
-use lib.Seq.{length-take-le, take-all, take-at}
+use lib.ListN.{length, take, replicate}
+use lib.Seq.{length-take-le, take-all}
 use borrow.Author.Tests.{ltb-true, ltb-false}
 use Rattle.block.specs.declared.Block.{Block}
 use Rattle.block.specs.declared.Block.the-variants.{I, Ack, Nothing}
@@ -19,7 +19,7 @@ use Rattle.reader_blocks.specs.declared.ReaderLink.{ReaderLink}
 use Rattle.reader_blocks.specs.declared.Turn.{Turn}
 use Rattle.reader_blocks.specs.declared.Turn.the-variants.{Sending, Awaiting, Joining}
 use Rattle.rows.specs.Rows.{overlay}
-use Rattle.rows.specs.RowLaws.{overlay-nil, overlay-next, length-overlay}
+use Rattle.rows.specs.RowLaws.{overlay-nil, overlay-next, overlay-front, length-overlay}
 use Rattle.frame.specs.Frame.{Good}
 use Rattle.block.specs.Cut.{payloadMax, follows, part, fewest, messageMax}
 use Rattle.block.specs.Out.{Out}
@@ -31,11 +31,6 @@ use Rattle.reader_blocks.specs.ReaderRules.{lastIsOut, readerOpen}
 use Rattle.reader_blocks.specs.ReaderFrames.{readerBlock, readerSend}
 use Rattle.exchange.specs.Exchange.{Round, Answers, clean, Ends, carried, acts, delivered, passes, Run, isQuiet, over, exchange, talk, isI, countI, Between, Exchanged}
 use Rattle.exchange.specs.StepLaws.{card, reader, card-chained, card-last, card-reply, card-acked, reader-start, reader-acked, reader-chained, reader-last}
-
--- the first bytes of a buffer that a message was written to
-take-overlay : (d s : List ℕ) → length s ≤ length d → take (length s) (overlay d 0 s) ≡ s
-unfolding overlay
-take-overlay d s h = take-at s (drop (0 + length s) d) (length s) refl
 
 -- what a run that is under way still brings: messages for the card's host, I blocks each way, and the end
 pub record Rest (i j : ℕ) (a : List ℕ) (got : List (List ℕ)) (down up : List ℕ) (x y : ℕ) (r : Run) : Type 0 where
@@ -194,7 +189,7 @@ module _ (i j : ℕ) (m a d u lent : List ℕ) (hm : length m ≤ messageMax) (h
       let s : Ends = record { reader = reader i j n Awaiting at 0 0 0; card = card j i c Receiving last at ca; down = d₁; up = u; lent = lent } in
       let r : Out ReaderLink = readerBlock (s .reader) (verdict i (h₁ .sent)) m u in
       let some : suc ka ≡ fewest i (length a) = omega (arith, fewest-some i (length a)) in
-      rw one (rw (is-i n false p, is-i n b′ (part i 0 a), one-add ka, some, take-overlay d m hd) at
+      rw one (rw (is-i n false p, is-i n b′ (part i 0 a), one-add ka, some, overlay-front d m) at
       (tick m a s (blockBytes (I n false) p) c₁ h₁ a r e₁ (ap (λ o. (o, a)) (card-reply j i Nothing 0 0 n a (overlay d 0 m) ha)) refl i j (replicate g clean) [] (overlay d 0 m) (overlay u 0 a) 0 ka
       (up-run i j m a (overlay d 0 m) u ha hu ka g 0 at n Awaiting b′ refl (rw sub-zero (sym some)) (omega arith) (omega arith) h refl r (rw (overlay-nil u 0) refl))))
 

@@ -8,7 +8,6 @@ use lib.ListN.{length}
 use lib.Dec.{eqb, leb, ltb}
 use Rattle.rows.specs.Rows.{Bytes}
 use Rattle.rows.specs.ListLaws.{all-take, all-drop}
-use Rattle.refusal.specs.declared.Refusal.{Refusal}
 use Rattle.block.specs.declared.Block.{Block}
 use Rattle.block.specs.declared.Block.the-variants.{I, Ack, Nak, Deselect, Wtx, Unknown, Nothing}
 use Rattle.block.specs.declared.Told.{Told}
@@ -29,7 +28,7 @@ use Rattle.reader_blocks.specs.declared.ReaderPhase.{ReaderPhase}
 use Rattle.reader_blocks.specs.declared.ReaderPhase.the-variants.{Open, Talking, Leaving, Finished, Stopped}
 use Rattle.reader_blocks.specs.declared.ReaderLink.{ReaderLink}
 use Rattle.reader_blocks.specs.declared.ReaderStep.{ReaderStep}
-use Rattle.reader_blocks.specs.ReaderRules.{stops, readerI, readerAgain, ackOwn, ackOther, readerJoins, asksAgain, awaitsI, readerRepeats, readerEchoes, readerTakesI, readerTakesAck, readerRules, readerTakes, isOpen, readerStarts}
+use Rattle.reader_blocks.specs.ReaderRules.{readerI, readerAgain, ackOwn, ackOther, readerJoins, asksAgain, awaitsI, readerRepeats, readerEchoes, readerTakesI, readerTakesAck, readerRules, readerTakes, isOpen, readerStarts}
 use Rattle.exchange.specs.Exchange.{isQuiet, Fine}
 
 -- the bytes of such a block are bytes
@@ -138,9 +137,6 @@ pub record FineReader (s : ReaderStep) : Type 0 where
 reader-either : (t : Bool) (a b : ReaderStep) → FineReader a → FineReader b → FineReader (cond t a b)
 reader-either true a b f g = f
 reader-either false a b f g = g
-
-stops-fine : (e : Refusal) → FineReader (stops e)
-stops-fine e = record { sends = tt; goes = tt }
 
 asks-fine : (t : Turn) (n : Bool) → Fine (asksAgain t n)
 asks-fine Sending n = tt

@@ -5,9 +5,7 @@ use mathlib.Core.List.{List, [], _∷_, _++_}
 use Prim.Native.Nat.{ℕ, zero, suc, _+_, _-_, _≤_, _<_}
 use native.Mathlib.Nat.{zero-add}
 use native.Mathlib.Omega.{arith}
-use lib.ListN.{length, take, getD, length-append}
-use mir.Val.{Fits}
-use mir.Syntax.{w8}
+use lib.ListN.{length, take, length-append}
 use lib.Seq.{length-take-le}
 use lib.Dec.{ltb}
 use borrow.Author.Tests.{ltb-true, ltb-false}
@@ -254,11 +252,6 @@ module _ (x : LinkReader) (y : LinkCard) (m before a : List ℕ) (rounds : ℕ) 
       rw ep (λ i. sumOf 0 0 0 (rowExchange m a rowRoom rounds (record { reader = e .0 i .reader; card = y; down = down; up = up; lent = before }) (toldBy (e .0 i .answer)) (ef i)))
 
 -- ---- demand 2
-
--- what is told of a slice's bytes by index
-pub bytes-at : (l : List ℕ) → ((i : ℕ) → Fits w8 (getD l i 0)) → Bytes l
-bytes-at [] h = tt
-bytes-at (b ∷ l) h = (h 0 .fits, bytes-at l (λ i. h (suc i)))
 
 pub exchanges : (x : LinkReader) (y : LinkCard) (m before a : List ℕ) (rounds : ℕ) (down up down′ up′ : List ℕ) (o : Outcome) → Bytes m → Bytes before → Bytes a
     → outcomeOf o before a down′ up′ ≡ exchangeOf x y m before a rounds down up

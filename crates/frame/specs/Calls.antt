@@ -7,7 +7,6 @@ use lib.Dec.{eqb, leb, ltb}
 use Rattle.rows.specs.Rows.{overlay, clean}
 use Rattle.parity.specs.Bits.{unbits}
 use Rattle.frame.specs.Frame.{Verdict, Good, Fault, mostBytes}
-use Rattle.refusal.specs.declared.Refusal.{Refusal}
 use Rattle.refusal.specs.declared.Refusal.the-variants.{Room, Length, Collision}
 use Rattle.frame.specs.declared.Written.{Written}
 use Rattle.frame.specs.declared.Written.the-variants.{Bits, NotWritten}

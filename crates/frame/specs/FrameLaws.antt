@@ -17,10 +17,10 @@ use Rattle.parity.specs.LoopLaws.{odd-bit}
 use Rattle.crc.specs.Crc.{withCrc, crcGood}
 use Rattle.crc.specs.CrcLaws.{length-with, with-bytes, take-with, good-with}
 use Rattle.refusal.specs.declared.Refusal.the-variants.{Length, Parity, Crc, Collision}
-use Rattle.frame.specs.declared.ReceivedShort.{ReceivedShort}
 use Rattle.frame.specs.declared.ReceivedShort.the-variants.{Byte, NotShort}
 use Rattle.frame.specs.Frame.{short, airByte, standard, dataOf, bytesOf, faulty, wholeBytes, readFrame, withoutCrc, crcChecked, readCrc, Verdict, Good, Fault}
 use Rattle.frame.specs.Calls.{readShort}
+use Rattle.frame.specs.ByteLaws.{length-bytes}
 
 -- ---- lengths
 
@@ -37,11 +37,6 @@ pub standard-append : (l m : List ℕ) → standard (l ++ m) ≡ standard l ++ s
 unfolding standard
 standard-append [] m = refl
 standard-append (b ∷ l) m = simp (standard-append l m, append-assoc)
-
-pub length-bytesOf : (n : ℕ) (d : List ℕ) → length (bytesOf n d) ≡ n
-unfolding bytesOf
-length-bytesOf zero d = refl
-length-bytesOf (suc n) d = ap suc (length-bytesOf n (drop 8 d))
 
 -- ---- a received row, byte by byte
 
@@ -115,7 +110,7 @@ read-passed least most h l e = go (wholeBytes least most (length h)) (clean h) (
 pub read-size : (least most : ℕ) (h l : List ℕ) → readFrame least most h ≡ Good l → (least ≤ length l) × (length l ≤ most)
 read-size least most h l e =
     let p = read-passed least most h l e in
-    let n : length l ≡ length h / 9 = sym (ap length (p .bytes)) ∙ length-bytesOf (length h / 9) (dataOf (length h / 9) h) in
+    let n : length l ≡ length h / 9 = sym (ap length (p .bytes)) ∙ length-bytes (length h / 9) (dataOf (length h / 9) h) in
     let s = whole-size least most (length h) (p .whole) in
     (omega (arith, n, s .1), omega (arith, n, s .2))
 

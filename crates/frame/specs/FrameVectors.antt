@@ -1,7 +1,6 @@
 -- Worked values of document 01, on the definitions: REQA in the log record 00 07 64 C0 00, and the ATQA 04 00 in 40 12 20 00 40.
 use mathlib.Core.Path.{_≡_, refl}
-use mathlib.Core.List.{List, [], _∷_, _++_}
-use Prim.Native.Nat.{ℕ}
+use mathlib.Core.List.{[], _∷_}
 use Rattle.parity.specs.Bits.{bitsOf, ones, odd}
 use Rattle.frame.specs.Frame.{short, airByte, standard}
 

@@ -1,21 +1,22 @@
 -- Laws for the loops over the bytes of a frame: one turn, and the end. Assumes nothing.
-use mathlib.Core.Path.{_≡_, refl, sym, ap, _∙_}
-use mathlib.Core.Bool.{Bool, true, false, not, _&&_, _||_}
-use mathlib.Core.List.{List, [], _∷_, _++_, append-assoc, append-nil}
+use mathlib.Core.Path.{_≡_, ap, _∙_}
+use mathlib.Core.Bool.{true, false, not, _&&_}
+use mathlib.Core.List.{List, [], _∷_, _++_, append-nil}
 use Prim.Native.Nat.{ℕ, zero, suc, _+_, _*_, _-_, _≤_, _<_}
 use native.Mathlib.Numerals.{add-one}
 use native.Mathlib.Nat.{zero-add}
 use native.Mathlib.Omega.{arith}
-use lib.ListN.{length, take, drop, getD, set, length-append, length-drop}
+use lib.ListN.{length, take, drop, getD, set, length-drop}
 use lib.Seq.{take-suc, length-take-le, drop-drop, getD-drop}
 use lib.Dec.{eqb}
 use Rattle.rows.specs.Rows.{overlay, clean}
 use Rattle.rows.specs.RowLaws.{overlay-next, overlay-set}
-use Rattle.parity.specs.Bits.{bitsOf, unbits, odd}
+use Rattle.parity.specs.Bits.{unbits, odd}
 use Rattle.crc.specs.Crc.{crcBytes, withCrc}
 use Rattle.crc.specs.CrcLaws.{length-crc}
 use Rattle.frame.specs.Frame.{airByte, standard, dataOf, bytesOf, faulty}
-use Rattle.frame.specs.FrameLaws.{length-airByte, length-standard, standard-append, length-bytesOf, bytes-first}
+use Rattle.frame.specs.FrameLaws.{length-airByte, length-standard, standard-append, bytes-first}
+use Rattle.frame.specs.ByteLaws.{length-bytes}
 
 -- ---- writing
 
@@ -77,6 +78,6 @@ pub bytes-turn : (d r : List ℕ) (i : ℕ) → i < length d → 9 * (i + 1) ≤
     → set (overlay d 0 (bytesOf i (dataOf i r))) i (unbits (take 8 (drop (9 * i) r))) ≡ overlay d 0 (bytesOf (i + 1) (dataOf (i + 1) r))
 bytes-turn d r i h k =
     let l : List ℕ = bytesOf i (dataOf i r) in
-    let e : length l ≡ i = length-bytesOf i (dataOf i r) in
+    let e : length l ≡ i = length-bytes i (dataOf i r) in
     rw (add-one, bytes-last i r (omega arith))
     (rw (zero-add, e) at (overlay-set d 0 l (unbits (take 8 (drop (9 * i) r))) (rw (zero-add, e) h)))

@@ -1,14 +1,16 @@
 -- Laws of tests on rows and of lists. Assumes nothing.
 use mathlib.Core.Path.{_≡_, refl, ap, ap₂}
 use mathlib.Core.Logic.{_≢_}
-use Prim.Native.Nat.{ℕ, zero, suc, _+_, _≤_, _<_}
+use Prim.Native.Nat.{ℕ, zero, suc}
 use mathlib.Core.Bool.{Bool, true, false, _&&_, false≢true}
 use mathlib.Core.List.{List, [], _∷_, _++_, map}
-use lib.ListN.{length, take, drop}
+use lib.ListN.{length, take, drop, getD}
+use mir.Val.{Fits}
+use mir.Syntax.{w8}
 use lib.Dec.{eqb}
 use native.Mathlib.Omega.{arith}
 use borrow.Author.Tests.{eqb-true, eq-eqb}
-use Rattle.rows.specs.Rows.{All, same}
+use Rattle.rows.specs.Rows.{All, Bytes, same}
 
 pub both : (a b : Bool) → (a && b) ≡ true → (a ≡ true) × (b ≡ true)
 both true true e = (refl, refl)
@@ -82,3 +84,8 @@ map-all f g (a ∷ l) h = ap₂ _∷_ (h .0) (map-all f g l (h .1))
 pub is-nil : (d : List ℕ) → length d ≡ 0 → d ≡ []
 is-nil [] e = refl
 is-nil (x ∷ d) e = absurd (omega arith)
+
+-- what a slice's or an array's bytes are, told by index
+pub bytes-at : (l : List ℕ) → ((i : ℕ) → Fits w8 (getD l i 0)) → Bytes l
+bytes-at [] h = tt
+bytes-at (b ∷ l) h = (h 0 .fits, bytes-at l (λ i. h (suc i)))

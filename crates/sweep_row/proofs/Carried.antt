@@ -2,14 +2,13 @@
 use mathlib.Core.Path.{_≡_, refl, sym, ap, subst, _∙_}
 use Prim.Native.Nat.{ℕ, _≤_}
 use mathlib.Core.Bool.{true}
-use mathlib.Core.List.{List, [], _++_, append-nil}
-use lib.ListN.{length, take, drop}
+use mathlib.Core.List.{List, append-nil}
+use lib.ListN.{length, take}
 use Rattle.rows.specs.Rows.{All, overlay}
 use Rattle.log.specs.Log.{logBytes, listBytes}
 use Rattle.sweep_rules.specs.Demand.{Typed}
 use Rattle.sweep_rules.specs.Run.{sweep}
 use Rattle.sweep_rules.specs.Terms.{within}
-use Rattle.sweep_rules.proofs.Demand3.{demand3}
 use Rattle.sweep.specs.CallLaws.{Promised, runs}
 use Rattle.sweep.specs.Sweep.{call, done}
 use Rattle.sweep.proofs.Kept.{log-fits, list-fits, kept}

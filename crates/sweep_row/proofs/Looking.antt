@@ -1,32 +1,28 @@
 -- The first pass over a row: is it a field that a sweep takes? Assumes nothing.
 use mathlib.Core.Path.{_≡_, refl, sym, ap, ap₂, subst, _∙_}
-use Prim.Native.Nat.{ℕ, suc, _-_, _≤_, _<_}
+use Prim.Native.Nat.{ℕ, suc, _-_, _<_}
 use native.Mathlib.Omega.{arith}
-use mathlib.Core.Bool.{Bool, true, false, cond, _&&_, false≢true}
-use mathlib.Core.List.{List, []}
-use lib.ListN.{length, take, drop, getD, set}
-use lib.Dec.{leb}
+use mathlib.Core.Bool.{Bool, true, false, cond, false≢true}
+use mathlib.Core.List.{List}
+use lib.ListN.{length, take, getD, set}
 use borrow.Author.Tests.{le-leb}
-use Rattle.rows.specs.Rows.{All}
 use Rattle.reader.specs.Reader.{frame, sends}
 use Rattle.field.specs.TakeLaws as take-laws
 use Rattle.sweep_rules.specs.Demand.{Typed}
 use Rattle.sweep_rules.specs.Limits.{mostCards}
 use Rattle.sweep_rules.specs.Run.{sweep}
-use Rattle.sweep_rules.specs.Terms.{allFit, apart, within}
+use Rattle.sweep_rules.specs.Terms.{within}
 use Rattle.sweep.specs.CallLaws.{Promised, no-field}
 use Rattle.sweep_steps.specs.RunLaws as run-laws
 use Rattle.sweep_steps.specs.Steps as steps
 use Rattle.card.specs.declared.Card.{Card}
 use Rattle.reader.specs.declared.Reader.{Reader}
-use Rattle.refusal.specs.declared.Refusal.the-variants.{Argument}
-use Rattle.sweep_row.specs.declared.RowSwept.{RowSwept}
 use Rattle.sweep_row.specs.declared.pass.Progress.{Progress}
 use Rattle.sweep_row.specs.declared.seen.Seen.{Seen}
 use Rattle.sweep_row.specs.PadLaws.{take-padded, length-padded, take-row, take-start}
-use Rattle.sweep_row.specs.Row.{sweptRow, noCard, silence, noneSeen, seenWith, refusedRow, firstRow, goesOn, looks, again, back, stopped, decided, Ready}
+use Rattle.sweep_row.specs.Row.{sweptRow, noCard, silence, noneSeen, seenWith, firstRow, goesOn, looks, again, back, stopped, decided, Ready}
 use Rattle.sweep_row.specs.SeenLaws.{SeenFrom, seen-none, seen-next, set-own}
-use Rattle.sweep_row.specs.Under.{padded, plainAt, Begun, Looking, Taking, UnderIf, Under}
+use Rattle.sweep_row.specs.Under.{padded, Begun, Looking, Taking, UnderIf, Under}
 
 -- it begins
 pub looking-first : (r : Reader) (cards : List Card) (log list : List ℕ) → Begun r cards log list → 0 < length cards → Looking r cards log list (looks r (length cards)) cards log list

@@ -1,6 +1,6 @@
 -- How a sweep over a row begins: declined by the plain sweep's tests, over at once where the row is empty, or with the first pass. Assumes nothing.
 use mathlib.Core.Path.{_≡_, refl, sym, ap, subst, _∙_}
-use Prim.Native.Nat.{ℕ, suc, _≤_, _<_}
+use Prim.Native.Nat.{ℕ, _≤_, _<_}
 use native.Mathlib.Omega.{arith}
 use mathlib.Core.Bool.{true, false}
 use mathlib.Core.List.{List, [], _∷_}
@@ -33,25 +33,24 @@ module _ (r : Reader) (n : ℕ) (log list : List ℕ) where
       → ((cards : List Card) → length cards ≡ n → Promised r cards (length cards) log list (sweptRow s cards) log₁ list₁) → Opened r n log list p log₁ list₁
   stops p s e log₁ list₁ k = record { begins = λ cards h. subst (λ q. Under r cards log list q cards log₁ list₁) (sym e) (k cards h) }
 
-  module _ (p : Progress) (x : Refusal) (s : RowSwept) (is : s ≡ refusedRow r x) (ep : p ≡ stopped s) where
-    stops-at : p ≡ stopped (refusedRow r x)
-    stops-at = ep ∙ ap stopped is
+  module _ (p : Progress) (s : RowSwept) (e : p ≡ stopped s) where
+    declines : (x : Refusal) → s ≡ refusedRow r x → ((cards : List Card) → length cards ≡ n → Promised r cards (length cards) log list (sweptRow (refusedRow r x) cards) log list) → Opened r n log list p log list
+    declines x is k = stops p (refusedRow r x) (e ∙ ap stopped is) log list k
 
-    pub opens-not-due : x ≡ NotDue → isNew (r .phase) ≡ false → Opened r n log list p log list
-    opens-not-due ex new = stops p (refusedRow r NotDue) (stops-at ∙ ap (λ y. stopped (refusedRow r y)) ex) log list (λ cards h. not-due r cards (length cards) log list (sweptRow (refusedRow r NotDue) cards) refl new)
+    pub opens-not-due : s ≡ refusedRow r NotDue → isNew (r .phase) ≡ false → Opened r n log list p log list
+    opens-not-due is new = declines NotDue is (λ cards h. not-due r cards (length cards) log list (sweptRow (refusedRow r NotDue) cards) refl new)
 
     module _ (new : isNew (r .phase) ≡ true) where
-      pub opens-no-log : x ≡ Room → length log < logRoom → Opened r n log list p log list
-      opens-no-log ex k = stops p (refusedRow r Room) (stops-at ∙ ap (λ y. stopped (refusedRow r y)) ex) log list (λ cards h. no-log r cards (length cards) log list new (sweptRow (refusedRow r Room) cards) refl k)
+      pub opens-no-log : s ≡ refusedRow r Room → length log < logRoom → Opened r n log list p log list
+      opens-no-log is k = declines Room is (λ cards h. no-log r cards (length cards) log list new (sweptRow (refusedRow r Room) cards) refl k)
 
       module _ (hlog : logRoom ≤ length log) where
-        pub opens-no-list : x ≡ Room → length list < listRoom → Opened r n log list p log list
-        opens-no-list ex k = stops p (refusedRow r Room) (stops-at ∙ ap (λ y. stopped (refusedRow r y)) ex) log list (λ cards h. no-list r cards (length cards) log list new hlog (sweptRow (refusedRow r Room) cards) refl k)
+        pub opens-no-list : s ≡ refusedRow r Room → length list < listRoom → Opened r n log list p log list
+        opens-no-list is k = declines Room is (λ cards h. no-list r cards (length cards) log list new hlog (sweptRow (refusedRow r Room) cards) refl k)
 
-        pub opens-too-many : x ≡ Argument → listRoom ≤ length list → mostCards < n → Opened r n log list p log list
-        opens-too-many ex hlist k =
-            stops p (refusedRow r Argument) (stops-at ∙ ap (λ y. stopped (refusedRow r y)) ex) log list
-            (λ cards h. too-many r cards (length cards) log list new hlog hlist (sweptRow (refusedRow r Argument) cards) refl (subst (λ m. mostCards < m) (sym h) k))
+        pub opens-too-many : listRoom ≤ length list → s ≡ refusedRow r Argument → mostCards < n → Opened r n log list p log list
+        opens-too-many hlist is k =
+            declines Argument is (λ cards h. too-many r cards (length cards) log list new hlog hlist (sweptRow (refusedRow r Argument) cards) refl (subst (λ m. mostCards < m) (sym h) k))
 
   module _ (new : isNew (r .phase) ≡ true) (hlog : logRoom ≤ length log) (hlist : listRoom ≤ length list) where
     none : Begun r [] log list

@@ -2,12 +2,12 @@
 use mathlib.Core.Path.{_≡_, refl, sym, ap, ap₂, subst, _∙_}
 use Prim.Native.Nat.{ℕ, suc, _+_, _-_, _*_, _≤_, _<_}
 use native.Mathlib.Omega.{arith}
-use mathlib.Core.Bool.{Bool, true, false, _&&_}
-use mathlib.Core.List.{List, [], _∷_, _++_}
-use lib.ListN.{length, take, drop, getD, set, replicate, length-append, length-take}
+use mathlib.Core.Bool.{Bool, true, false}
+use mathlib.Core.List.{List, _++_}
+use lib.ListN.{length, take, getD, set, replicate, length-append, length-take}
 use lib.Seq.{take-at}
 use Rattle.rows.specs.EachLaws.{length-fill}
-use Rattle.rows.specs.Rows.{All, overlay, fill}
+use Rattle.rows.specs.Rows.{overlay}
 use Rattle.uid.specs.Uid.{byteCount, uidBytes}
 use Rattle.uid.specs.declared.Uid.{Uid}
 use Rattle.uid.specs.declared.UidSize.{UidSize}
@@ -21,19 +21,18 @@ use Rattle.field.specs.Calls.{cardsAfter}
 use Rattle.field.specs.Field.{allTake, heardFrom}
 use Rattle.field.specs.TakeLaws as take-laws
 use Rattle.log.specs.Log.{Exchange, exchangeBytes, logBytes, listBytes, entryBytes}
-use Rattle.sweep_rules.specs.Limits.{mostCards, mostFrames}
-use Rattle.sweep_rules.specs.Run.{sweep, Out}
+use Rattle.sweep_rules.specs.Limits.{mostCards}
+use Rattle.sweep_rules.specs.Run.{sweep}
 use Rattle.sweep.specs.CallLaws.{Promised}
 use Rattle.sweep_steps.specs.RunLaws as run-laws
 use Rattle.sweep_steps.specs.Steps as steps
 use Rattle.sweep_steps.specs.declared.within.Progress as plain
 use Rattle.card.specs.declared.Card.{Card}
 use Rattle.reader.specs.declared.Reader.{Reader}
-use Rattle.sweep_row.specs.declared.RowSwept.{RowSwept}
 use Rattle.sweep_row.specs.declared.air.Air.{Air}
 use Rattle.sweep_row.specs.declared.pass.Progress.{Progress}
 use Rattle.sweep_row.specs.PadLaws.{take-padded, drop-padded, padded-after, length-after, take-start, take-next, heard-all, row-all}
-use Rattle.sweep_row.specs.Row.{sweptRow, noCard, silence, heardIn, airWith, exchangeWith, turnWith, finished, Roomy, goesOn, endRow, again, onward, Ready}
+use Rattle.sweep_row.specs.Row.{sweptRow, noCard, silence, heardIn, airWith, exchangeWith, turnWith, finished, Roomy, goesOn, again, onward, Ready}
 use Rattle.sweep_row.specs.Under.{padded, plainAt, Taking, UnderIf, Under}
 use Rattle.sweep_row.proofs.Carried.{row-log-fits, row-list-fits, carried}
 

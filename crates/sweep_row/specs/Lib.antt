@@ -3,4 +3,5 @@ pub mod SeenLaws
 pub mod Under
 pub mod TurnLaws
 pub mod PadLaws
+pub mod FieldLaws
 pub mod ArrayLaws

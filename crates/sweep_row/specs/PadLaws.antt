@@ -1,32 +1,24 @@
 -- A row of at most 16 cards as an array of 16, so that the laws of the plain sweep tell of it. Assumes nothing.
-use mathlib.Core.Path.{_≡_, refl, sym, ap, ap₂, subst, _∙_}
-use Prim.Native.Nat.{ℕ, suc, _+_, _-_, _*_, _≤_, _<_}
+use mathlib.Core.Path.{_≡_, refl, sym, ap, subst, _∙_}
+use Prim.Native.Nat.{ℕ, suc, _-_, _≤_, _<_}
 use native.Mathlib.Omega.{arith}
 use native.Mathlib.Nat.{le-refl}
-use mathlib.Core.Bool.{true, false}
-use mathlib.Core.List.{List, [], _∷_, _++_, append-nil}
+use mathlib.Core.List.{List, [], append-nil}
 use lib.ListN.{length, take, drop, getD, set, replicate, length-append, length-replicate, length-map, drop-of-length-le}
 use lib.Seq.{take-at, drop-at, take-length}
 use Rattle.rows.specs.Rows.{overlay}
 use Rattle.rows.specs.RowLaws.{overlay-nil, overlay-front}
-use Rattle.uid.specs.Uid.{byteCount, uidBytes}
 use Rattle.card.specs.Card.{takes, answers}
-use Rattle.reader.specs.Reader.{frame, hear}
+use Rattle.reader.specs.Reader.{frame}
 use Rattle.field.specs.Calls.{cardsAfter}
 use Rattle.field.specs.Field.{allTake, heardFrom}
 use Rattle.field.specs.Merge.{join}
 use Rattle.field.specs.TakeLaws as take-laws
-use Rattle.field.specs.declared.within.One.{One}
-use Rattle.log.specs.Log.{exchangeBytes, listBytes, entryBytes}
 use Rattle.sweep_rules.specs.Limits.{mostCards}
-use Rattle.sweep_steps.specs.Steps as steps
-use Rattle.sweep_steps.specs.declared.within.Progress as plain
 use Rattle.card.specs.declared.Card.{Card}
-use Rattle.sweep_row.specs.declared.RowSwept.{RowSwept}
-use Rattle.sweep_row.specs.declared.air.Air.{Air}
 use Rattle.sweep_row.specs.declared.pass.Progress.{Progress}
-use Rattle.sweep_row.specs.Row.{noCard, heardIn, heardWith, heardCard, airWith, exchangeWith, turnWith, finished, goesOn, again}
-use Rattle.sweep_row.specs.Under.{padded, plainAt}
+use Rattle.sweep_row.specs.Row.{noCard, heardIn, heardWith, heardCard, airWith}
+use Rattle.sweep_row.specs.Under.{padded}
 
 module _ (n : ℕ) (cs : List Card) (e : length cs ≡ n) where
   pub take-padded : take n (padded n cs) ≡ cs

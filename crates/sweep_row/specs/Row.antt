@@ -3,11 +3,11 @@
 -- the call says in crate sweep.
 use Prim.Native.Nat.{ℕ, _+_, _-_, _*_, _≤_, _<_}
 use mathlib.Core.Bool.{Bool, true, false, not, cond, _&&_}
-use mathlib.Core.List.{List, [], _∷_}
+use mathlib.Core.List.{List, []}
 use mathlib.Core.Path.{_≡_}
 use lib.ListN.{length, take, drop, set, replicate}
 use lib.Dec.{ltb, eqb}
-use Rattle.rows.specs.Rows.{overlay, any, same, fill}
+use Rattle.rows.specs.Rows.{overlay, any, same}
 use Rattle.uid.specs.Uid.{uidBytes}
 use Rattle.card.specs.Card.{takes, answers}
 use Rattle.reader.specs.Reader.{blank, sends, frame, hear, uid}
@@ -27,7 +27,6 @@ use Rattle.reader.specs.declared.Phase.the-variants.{ReqaSent}
 use Rattle.reader.specs.declared.Answer.the-variants.{Declines}
 use Rattle.refusal.specs.declared.Refusal.{Refusal}
 use Rattle.refusal.specs.declared.Refusal.the-variants.{Argument}
-use Rattle.uid.specs.declared.Uid.{Uid}
 use Rattle.uid.specs.declared.UidSize.the-variants.{Single}
 use Rattle.sweep_row.specs.declared.RowSwept.{RowSwept}
 use Rattle.sweep_row.specs.declared.air.Air.{Air}

@@ -1,12 +1,12 @@
 -- Laws of the first pass over a row: its cards are seen one by one, the last first. Assumes nothing.
-use mathlib.Core.Path.{_≡_, refl, sym, ap, subst, _∙_}
+use mathlib.Core.Path.{_≡_, refl, ap, _∙_}
 use Prim.Native.Nat.{ℕ, zero, suc, _+_, _-_, _≤_, _<_}
 use native.Mathlib.Nat.{not-suc-le-zero}
 use native.Mathlib.Numerals.{add-one}
 use native.Mathlib.Omega.{arith}
 use mathlib.Core.Bool.{Bool, true, false, not, _&&_, _||_}
 use mathlib.Core.List.{List, [], _∷_, map}
-use lib.ListN.{length, replicate, take, drop, getD, set, length-take, length-set, length-replicate, drop-of-length-le}
+use lib.ListN.{length, replicate, take, drop, getD, set, length-take, length-set, drop-of-length-le}
 use lib.Seq.{drop-cons, getD-take}
 use Rattle.rows.specs.ListLaws.{both}
 use Rattle.rows.specs.Rows.{All, any, same}

@@ -1,27 +1,15 @@
 // The end of an exchange: every card has taken the reader's frame.
 ghost use mathlib.Core.Path.{_≡_};
-ghost use mathlib.Core.Bool.{true, _&&_};
-ghost use mathlib.Core.List.{[]};
 ghost use Prim.Native.Nat.{_+_, _*_, _≤_, _<_};
-ghost use lib.ListN.{length, take};
-ghost use lib.Dec.{ltb};
-ghost use Rattle.rows.specs.Rows.{overlay, clean};
-ghost use Rattle.log.specs.Log.{exchangeBytes, logBytes, listBytes};
-ghost use Rattle.log.specs.Calls.{mostBits};
-ghost use Rattle.sweep_rules.specs.Run.{sweep};
-ghost use Rattle.sweep_steps.specs.Steps.{goes, foundBy};
-ghost use Rattle.sweep_row.specs.Row.{goesOn, exchangedWith, finished, Roomy, exchangeWith, turnWith, refusedRow, firstRow, endRow};
+ghost use lib.ListN.{length};
+ghost use Rattle.rows.specs.Rows.{overlay};
+ghost use Rattle.log.specs.Log.{exchangeBytes, listBytes};
+ghost use Rattle.sweep_steps.specs.Steps.{foundBy};
+ghost use Rattle.sweep_row.specs.Row.{goesOn, exchangedWith, finished, Roomy, exchangeWith, turnWith};
 use crate::RowSwept;
 use crate::air::Air;
-use card::Card;
-use card::CardState;
-use reader::Answer;
-use reader::Phase;
 use reader::Reader;
 use reader::Turn;
-use refusal::Refusal;
-use uid::Uid;
-use uid::UidSize;
 
 // The reader's turn after an exchange, and the bytes of log that it took.
 pub struct Exchanged {
@@ -80,63 +68,4 @@ pub fn goes_on(s: RowSwept) -> bool
         return sweep_steps::within::goes(a);
     }
     false
-}
-
-// Declined before a frame is sent.
-pub fn refused(r: Reader, e: Refusal) -> RowSwept
-    ensures { λ s. ⌜ s ≡ refusedRow r e ⌝ }
-{
-    RowSwept {
-        reader: r,
-        answer: Answer::Declines(e),
-        frames: 0,
-        logged: 0,
-        found: 0,
-    }
-}
-
-// REQA is out.
-pub fn first() -> RowSwept
-    ensures { λ s. ⌜ s ≡ firstRow ⌝ }
-{
-    let t = reader::within::sends(reader::within::blank(Phase::ReqaSent, true));
-    let r = t.reader;
-    let a = t.answer;
-    RowSwept {
-        reader: r,
-        answer: a,
-        frames: 0,
-        logged: 0,
-        found: 0,
-    }
-}
-
-// The sweep over an empty row: REQA and silence.
-pub fn empty(log: &mut [u8], list: &mut [u8]) -> RowSwept
-    requires { ⌜ (length (logBytes (sweep [] .exchanges)) ≤ length (now log)) × (length (listBytes (sweep [] .found)) ≤ length (now list)) ⌝ }
-    ensures { λ s. ⌜ s ≡ endRow (sweep []) ⌝ }
-    ensures { λ s. ⌜ now (log .exit) ≡ overlay (now (log .entry)) 0 (logBytes (sweep [] .exchanges)) ⌝ }
-    ensures { λ s. ⌜ now (list .exit) ≡ overlay (now (list .entry)) 0 (listBytes (sweep [] .found)) ⌝ }
-{
-    let u = Uid {
-        size: UidSize::Single,
-        bytes: [0u8; 10],
-    };
-    let c = Card {
-        uid: u,
-        blocks: false,
-        index: 0,
-        state: CardState::Off,
-    };
-    let p = sweep_steps::within::run([c; 16], 0, log, list);
-    let t = p.turn;
-    let r = t.reader;
-    let a = t.answer;
-    RowSwept {
-        reader: r,
-        answer: a,
-        frames: p.frames,
-        logged: p.logged,
-        found: p.found,
-    }
 }

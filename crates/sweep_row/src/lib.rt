@@ -9,6 +9,7 @@ use reader::Answer;
 use reader::Reader;
 
 mod air;
+mod begin;
 mod finish;
 mod pass;
 mod seen;

@@ -53,7 +53,7 @@ fn looks(r: Reader, n: usize) -> Progress
     requires { ⌜ 0 < n ⌝ }
     ensures { λ p. ⌜ p ≡ looks r n ⌝ }
 {
-    let s = crate::finish::refused(r, Refusal::Argument);
+    let s = crate::begin::refused(r, Refusal::Argument);
     let seen = crate::seen::none();
     let a = crate::air::silence();
     Progress {
@@ -128,7 +128,7 @@ fn decide(p: Progress, s: Seen) -> Progress
     ensures { λ q. ⌜ q ≡ decided p s ⌝ }
 {
     if s.fits {
-        return again(p, crate::finish::first());
+        return again(p, crate::begin::first());
     }
     let r = p.swept;
     stopped(r)
@@ -178,19 +178,19 @@ pub fn opening(r: Reader, n: usize, log: &mut [u8], list: &mut [u8]) -> Progress
 {
     let phase = r.phase;
     if !reader::within::is_new(phase) {
-        return stopped(crate::finish::refused(r, Refusal::NotDue));
+        return stopped(crate::begin::refused(r, Refusal::NotDue));
     }
     if log.len() < sweep::LOG_ROOM {
-        return stopped(crate::finish::refused(r, Refusal::Room));
+        return stopped(crate::begin::refused(r, Refusal::Room));
     }
     if list.len() < sweep::LIST_ROOM {
-        return stopped(crate::finish::refused(r, Refusal::Room));
+        return stopped(crate::begin::refused(r, Refusal::Room));
     }
     if n > sweep::MOST_CARDS {
-        return stopped(crate::finish::refused(r, Refusal::Argument));
+        return stopped(crate::begin::refused(r, Refusal::Argument));
     }
     if n == 0 {
-        let s = crate::finish::empty(log, list);
+        let s = crate::begin::empty(log, list);
         return stopped(s);
     }
     looks(r, n)

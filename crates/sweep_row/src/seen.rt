@@ -2,7 +2,7 @@
 ghost use mathlib.Core.Path.{_≡_};
 ghost use mathlib.Core.Bool.{true, not};
 ghost use Prim.Native.Nat.{_+_, _≤_, _<_};
-ghost use lib.ListN.{length, take, drop};
+ghost use lib.ListN.{take, drop};
 ghost use Rattle.rows.specs.Rows.{any, same};
 ghost use Rattle.uid.specs.Uid.{uidBytes};
 ghost use Rattle.sweep_rules.specs.Terms.{cardFits};

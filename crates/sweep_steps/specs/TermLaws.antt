@@ -13,18 +13,14 @@ use mir.Val.{Fits}
 use mir.Syntax.{w8}
 use borrow.Author.Tests.{le-leb}
 use Rattle.rows.specs.Rows.{All, Bytes, any, same}
-use Rattle.rows.specs.ListLaws.{all-append}
+use Rattle.rows.specs.ListLaws.{all-append, bytes-at}
 use Rattle.uid.specs.Uid.{uidBytes}
 use Rattle.sweep_rules.specs.Limits.{mostCards}
 use Rattle.sweep_rules.specs.Terms.{cardFits, allFit, apart, within}
 use Rattle.sweep_rules.specs.Demand.{Typed}
 use Rattle.card.specs.declared.Card.{Card}
 
--- what a card's type says of its UID's bytes, told by index
-bytes-at : (l : List ℕ) → ((i : ℕ) → Fits w8 (getD l i 0)) → Bytes l
-bytes-at [] h = tt
-bytes-at (b ∷ l) h = (h 0 .fits, bytes-at l (λ i. h (suc i)))
-
+-- what a card's type says of its UID's bytes
 pub typed-card : (c : Card) → length (c .uid .bytes) ≡ 10 → ((i : ℕ) → Fits w8 (getD (c .uid .bytes) i 0)) → Typed c
 typed-card c l h = record { ten = l; bytes = bytes-at (c .uid .bytes) h }
 

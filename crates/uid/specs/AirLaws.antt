@@ -12,17 +12,13 @@ use Rattle.rows.specs.RowLaws.{overlay-next}
 use Rattle.parity.specs.Bits.{bitsOf}
 use Rattle.parity.specs.BitLaws.{length-bits}
 use Rattle.frame.specs.Frame.{airBits}
+use Rattle.frame.specs.ByteLaws.{length-airBits}
 use Rattle.uid.specs.Uid.{levelCount, levels, threeLevels, air, rowOf}
 use Rattle.uid.specs.declared.Uid.{Uid}
 use Rattle.uid.specs.declared.UidSize.{UidSize}
 use Rattle.uid.specs.declared.UidSize.the-variants.{Single, Double, Triple}
 
 -- ---- bytes in air order
-
-pub length-airBits : (l : List ℕ) → length (airBits l) ≡ 8 * length l
-unfolding airBits
-length-airBits [] = refl
-length-airBits (b ∷ l) = rw (length-append, length-bits) (omega (arith, length-airBits l))
 
 airBits-append : (k l : List ℕ) → airBits (k ++ l) ≡ airBits k ++ airBits l
 unfolding airBits

@@ -2,6 +2,7 @@
 
 pub mod card;
 pub mod card_blocks;
+pub mod exchange;
 pub mod field;
 pub mod frame;
 pub mod reader;

@@ -6,7 +6,8 @@ use denote.Ref.{now}
 use native.Mathlib.Omega.{arith}
 use borrow.Author.Needs.{needs}
 use Rattle.exchange.specs.Steps.{goesOn, stateOf, restOf, outcomeOf, exchangeOf}
-use Rattle.exchange.specs.RunLaws.{Under, under-none, rest-first, goes-left, fewer, under-turn, under-done, bytes-at, exchanges}
+use Rattle.exchange.specs.RunLaws.{Under, under-none, rest-first, goes-left, fewer, under-turn, under-done, exchanges}
+use Rattle.rows.specs.ListLaws.{bytes-at}
 use Rattle.exchange.proofs.exchange.Statement.{statement}
 use Rattle.exchange.proofs.exchange.Tie as tie
 

@@ -8,22 +8,13 @@ use native.Mathlib.Omega.{arith}
 use borrow.Author.Needs.{needs}
 use Rattle.reader.proofs.begin.Statement.{statement}
 use Rattle.reader.proofs.begin.Tie as tie
-use Rattle.reader.proofs.begin.Reads as reads
-use Rattle.reader.proofs.begin.Lts as lts
-use Rattle.reader.proofs.declines.Reads as declines-reads
-use Rattle.reader.proofs.within.blank.Reads as blank-reads
-use Rattle.reader.proofs.within.put_sent.Reads as put-sent-reads
-use Rattle.reader.proofs.within.sends.Reads as sends-reads
 
--- src/lib.rt:105:9
 is-new-requires : tie.Need-is-new-requires
 is-new-requires c κs = search needs
 
--- src/lib.rt:106:9
 declines-requires : tie.Need-declines-requires
 declines-requires c κs = search needs
 
--- src/lib.rt:106:9
 returns : tie.Need-returns
 unfolding beginCall
 returns c =
@@ -32,11 +23,9 @@ returns c =
       row-declined _ (a .r) _ (now (a .out)) (c .declines .ensures),
     )
 
--- src/lib.rt:109:9
 declines-requires-2 : tie.Need-declines-requires-2
 declines-requires-2 c κs = search needs
 
--- src/lib.rt:109:9
 returns-2 : tie.Need-returns-2
 unfolding beginCall
 returns-2 c =
@@ -45,23 +34,18 @@ returns-2 c =
       row-declined _ (a .r) _ (now (a .out)) (c .declines2 .ensures),
     )
 
--- src/lib.rt:111:27
 blank-requires : tie.Need-blank-requires
 blank-requires c κs = search needs
 
--- src/lib.rt:111:9
 sends-requires : tie.Need-sends-requires
 sends-requires c κs = search needs
 
--- src/lib.rt:112:5
 put-sent-requires : tie.Need-put-sent-requires
 put-sent-requires c κs = search needs
 
--- src/lib.rt:100:1
 same-length : tie.Need-same-length
 same-length c = search needs
 
--- src/lib.rt:100:1
 returns-3 : tie.Need-returns-3
 unfolding beginCall rowAfter
 returns-3 c =

@@ -7,22 +7,13 @@ use native.Mathlib.Omega.{arith}
 use borrow.Author.Needs.{needs}
 use Rattle.reader.proofs.hear.Statement.{statement}
 use Rattle.reader.proofs.hear.Tie as tie
-use Rattle.reader.proofs.hear.Reads as reads
-use Rattle.reader.proofs.hear.Lts as lts
-use Rattle.reader.proofs.declines.Reads as declines-reads
-use Rattle.reader.proofs.is_awaiting.Reads as is-awaiting-reads
-use Rattle.reader.proofs.within.hear_rules.Reads as hear-rules-reads
-use Rattle.reader.proofs.within.put_sent.Reads as put-sent-reads
 
--- src/lib.rt:138:9
 is-awaiting-requires : tie.Need-is-awaiting-requires
 is-awaiting-requires c κs = search needs
 
--- src/lib.rt:139:9
 declines-requires : tie.Need-declines-requires
 declines-requires c κs = search needs
 
--- src/lib.rt:139:9
 returns : tie.Need-returns
 unfolding hearCall
 returns c =
@@ -31,11 +22,9 @@ returns c =
       row-declined _ (a .r) _ (now (a .out)) (c .declines .ensures),
     )
 
--- src/lib.rt:142:9
 declines-requires-2 : tie.Need-declines-requires-2
 declines-requires-2 c κs = search needs
 
--- src/lib.rt:142:9
 returns-2 : tie.Need-returns-2
 unfolding hearCall
 returns-2 c =
@@ -44,19 +33,15 @@ returns-2 c =
       row-declined _ (a .r) _ (now (a .out)) (c .declines2 .ensures),
     )
 
--- src/lib.rt:144:9
 hear-rules-requires : tie.Need-hear-rules-requires
 hear-rules-requires c κs = search needs
 
--- src/lib.rt:145:5
 put-sent-requires : tie.Need-put-sent-requires
 put-sent-requires c κs = search needs
 
--- src/lib.rt:133:1
 same-length : tie.Need-same-length
 same-length c = search needs
 
--- src/lib.rt:133:1
 returns-3 : tie.Need-returns-3
 unfolding hearCall rowAfter
 returns-3 c =

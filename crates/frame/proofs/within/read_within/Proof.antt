@@ -5,7 +5,8 @@ use native.Mathlib.Omega.{arith}
 use denote.Ref.{now}
 use Rattle.frame.specs.Frame.{readFrame, faulty}
 use Rattle.frame.specs.Calls.{readAnswer}
-use Rattle.frame.specs.FrameLaws.{whole-size, read-good, length-bytesOf}
+use Rattle.frame.specs.FrameLaws.{whole-size, read-good}
+use Rattle.frame.specs.ByteLaws.{length-bytes}
 use borrow.Author.Needs.{needs}
 use Rattle.frame.proofs.within.read_within.Statement.{statement}
 use Rattle.frame.proofs.within.read_within.Tie as tie
@@ -62,7 +63,7 @@ returns-5 c =
     let a = d .before .before .before .before .before .args in
     let g = read-good (a .least) (a .most) (now (a .row)) (sym (d .before .is-whole .ensures) ∙ not-false _ (d .if2 .left))
     (sym (e .before .is-clean .ensures) ∙ not-false _ (e .if3 .left)) (sym (f .before .is-faulty .ensures) ∙ f .if4 .left) in
-    (simp (le-ltb _ _ (d .before .before .if1 .left), g, length-bytesOf), rw g (c .before .before .bytes-of .ensures))
+    (simp (le-ltb _ _ (d .before .before .if1 .left), g, length-bytes), rw g (c .before .before .bytes-of .ensures))
 
 pub read-within-spec : {M : Type 1} → statement M
 read-within-spec =

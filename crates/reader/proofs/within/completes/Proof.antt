@@ -3,20 +3,14 @@ use Rattle.reader.specs.Reader.{completes}
 use borrow.Author.Needs.{needs}
 use Rattle.reader.proofs.within.completes.Statement.{statement}
 use Rattle.reader.proofs.within.completes.Tie as tie
-use Rattle.reader.proofs.within.completes.Reads as reads
-use Rattle.reader.proofs.within.completes.Lts as lts
-use Rattle.reader.proofs.within.finds.Reads as finds-reads
 
--- src/within.rt:241:9
 finds-requires : tie.Need-finds-requires
 finds-requires c κs = search needs
 
--- src/within.rt:241:9
 returns : tie.Need-returns
 unfolding completes
 returns c = rw (c .before .if1 .taken) (c .finds .ensures)
 
--- src/within.rt:229:1
 returns-2 : tie.Need-returns-2
 unfolding completes
 returns-2 c = rw (c .if1 .left)

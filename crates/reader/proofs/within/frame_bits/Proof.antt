@@ -6,75 +6,55 @@ use Rattle.reader.specs.StepLaws.{frame-at}
 use borrow.Author.Needs.{needs}
 use Rattle.reader.proofs.within.frame_bits.Statement.{statement}
 use Rattle.reader.proofs.within.frame_bits.Tie as tie
-use Rattle.reader.proofs.within.frame_bits.Reads as reads
-use Rattle.reader.proofs.within.frame_bits.Lts as lts
-use Rattle.selection.proofs.split.anticollision_bits.Reads as anticollision-bits-reads
 
--- src/within.rt:57:23
 enum-told : tie.Need-enum-told
 enum-told c = search needs
 
--- src/within.rt:58:28
 enum-told-2 : tie.Need-enum-told-2
 enum-told-2 c = search needs
 
--- src/within.rt:59:40
 enum-told-3 : tie.Need-enum-told-3
 enum-told-3 c = search needs
 
--- src/within.rt:59:40
 anticollision-bits-requires : tie.Need-anticollision-bits-requires
 anticollision-bits-requires c κs = search needs
 
--- src/within.rt:60:33
 enum-told-4 : tie.Need-enum-told-4
 enum-told-4 c = search needs
 
--- src/within.rt:61:28
 enum-told-5 : tie.Need-enum-told-5
 enum-told-5 c = search needs
 
--- src/within.rt:62:28
 enum-told-6 : tie.Need-enum-told-6
 enum-told-6 c = search needs
 
--- src/within.rt:63:28
 enum-told-7 : tie.Need-enum-told-7
 enum-told-7 c = search needs
 
--- src/within.rt:64:27
 enum-told-8 : tie.Need-enum-told-8
 enum-told-8 c = search needs
 
--- src/within.rt:51:1
 returns : tie.Need-returns
 returns c = sym (ap length (frame-at (c .before .before .args .r) _ (c .enum-told .given .1)))
 
--- src/within.rt:51:1
 returns-2 : tie.Need-returns-2
 returns-2 c = sym (ap length (frame-at (c .before .before .args .r) _ (c .enum-told2 .given .1)) ∙ length-reqa)
 
--- src/within.rt:51:1
 returns-3 : tie.Need-returns-3
 returns-3 c = c .anticollision-bits .ensures ∙ sym (ap length (frame-at (c .before .before .before .args .r) _ (c .before .enum-told3 .given .1)) ∙ anti-length _ _ _ (search needs))
 
--- src/within.rt:51:1
 returns-4 : tie.Need-returns-4
 returns-4 c = sym (ap length (frame-at (c .before .before .args .r) _ (c .enum-told4 .given .1)) ∙ length-select _ _ (search needs))
 
--- src/within.rt:51:1
 returns-5 : tie.Need-returns-5
 returns-5 c = sym (ap length (frame-at (c .before .before .args .r) _ (c .enum-told5 .given .1)) ∙ length-hlta)
 
--- src/within.rt:51:1
 returns-6 : tie.Need-returns-6
 returns-6 c = sym (ap length (frame-at (c .before .before .args .r) _ (c .enum-told6 .given .1)))
 
--- src/within.rt:51:1
 returns-7 : tie.Need-returns-7
 returns-7 c = sym (ap length (frame-at (c .before .before .args .r) _ (c .enum-told7 .given .1)))
 
--- src/within.rt:51:1
 returns-8 : tie.Need-returns-8
 returns-8 c = sym (ap length (frame-at (c .before .before .args .r) _ (c .enum-told8 .given .1)))
 

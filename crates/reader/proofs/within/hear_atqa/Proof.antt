@@ -8,60 +8,41 @@ use Rattle.reader.specs.declared.Answer.the-variants.{Finishes}
 use borrow.Author.Needs.{needs}
 use Rattle.reader.proofs.within.hear_atqa.Statement.{statement}
 use Rattle.reader.proofs.within.hear_atqa.Tie as tie
-use Rattle.reader.proofs.within.hear_atqa.Reads as reads
-use Rattle.reader.proofs.within.hear_atqa.Lts as lts
-use Rattle.reader.proofs.within.blank.Reads as blank-reads
-use Rattle.reader.proofs.within.is_over.Reads as is-over-reads
-use Rattle.reader.proofs.within.no_uid.Reads as no-uid-reads
-use Rattle.reader.proofs.within.opens.Reads as opens-reads
-use Rattle.reader.proofs.within.stop.Reads as stop-reads
-use Rattle.selection.proofs.heard.read_atqa.Reads as read-atqa-reads
 
--- src/within.rt:174:8
 is-over-requires : tie.Need-is-over-requires
 is-over-requires c κs = search needs
 
--- src/within.rt:175:13
 blank-requires : tie.Need-blank-requires
 blank-requires c κs = search needs
 
--- src/within.rt:176:9
 returns : tie.Need-returns
 unfolding hearAtqa
 returns c = rw (sym (c .before .before .is-over .ensures) ∙ c .before .if1 .taken) (ap (λ r. turn r Finishes) (c .blank .ensures))
 
--- src/within.rt:181:9
 read-atqa-requires : tie.Need-read-atqa-requires
 read-atqa-requires c κs = search needs
 
--- src/within.rt:183:33
 enum-told : tie.Need-enum-told
 enum-told c = search needs
 
--- src/within.rt:183:48
 no-uid-requires : tie.Need-no-uid-requires
 no-uid-requires c κs = search needs
 
--- src/within.rt:183:27
 opens-requires : tie.Need-opens-requires
 opens-requires c κs = search needs
 
--- src/within.rt:184:27
 enum-known-a : tie.Need-enum-known-a
 enum-known-a c = search needs
 
--- src/within.rt:184:33
 stop-requires : tie.Need-stop-requires
 stop-requires c κs = search needs
 
--- src/within.rt:170:1
 returns-2 : tie.Need-returns-2
 returns-2 c =
     let a = c .before .before .before .before .before .before .before .before .args in
     c .opens .ensures ∙ ap (opens One (a .r .sweeps)) (c .before .no-uid .ensures)
     ∙ sym (atqa-at (a .r) (now (a .row)) _ (sym (c .before .before .before .before .before .before .is-over .ensures) ∙ c .before .before .before .before .before .if1 .left) (sym (c .before .before .before .before .read-atqa .ensures) ∙ c .before .before .enum-told .given .1))
 
--- src/within.rt:170:1
 returns-3 : tie.Need-returns-3
 returns-3 c =
     let a = c .before .before .before .before .before .before .before .before .args in

@@ -4,107 +4,76 @@ use Rattle.reader.specs.StepLaws.{hear-at}
 use borrow.Author.Needs.{needs}
 use Rattle.reader.proofs.within.hear_rules.Statement.{statement}
 use Rattle.reader.proofs.within.hear_rules.Tie as tie
-use Rattle.reader.proofs.within.hear_rules.Reads as reads
-use Rattle.reader.proofs.within.hear_rules.Lts as lts
-use Rattle.reader.proofs.within.hear_atqa.Reads as hear-atqa-reads
-use Rattle.reader.proofs.within.hear_rest.Reads as hear-rest-reads
-use Rattle.reader.proofs.within.hear_sak.Reads as hear-sak-reads
-use Rattle.reader.proofs.within.hear_silence.Reads as hear-silence-reads
-use Rattle.reader.proofs.within.not_due.Reads as not-due-reads
 
--- src/within.rt:321:23
 enum-told : tie.Need-enum-told
 enum-told c = search needs
 
--- src/within.rt:321:23
 not-due-requires : tie.Need-not-due-requires
 not-due-requires c κs = search needs
 
--- src/within.rt:322:28
 enum-told-2 : tie.Need-enum-told-2
 enum-told-2 c = search needs
 
--- src/within.rt:322:28
 hear-atqa-requires : tie.Need-hear-atqa-requires
 hear-atqa-requires c κs = search needs
 
--- src/within.rt:323:34
 enum-known-p : tie.Need-enum-known-p
 enum-known-p c = search needs
 
--- src/within.rt:323:40
 hear-rest-requires : tie.Need-hear-rest-requires
 hear-rest-requires c κs = search needs
 
--- src/within.rt:324:27
 enum-known-p-2 : tie.Need-enum-known-p-2
 enum-known-p-2 c = search needs
 
--- src/within.rt:324:33
 hear-sak-requires : tie.Need-hear-sak-requires
 hear-sak-requires c κs = search needs
 
--- src/within.rt:325:28
 enum-told-3 : tie.Need-enum-told-3
 enum-told-3 c = search needs
 
--- src/within.rt:325:28
 hear-silence-requires : tie.Need-hear-silence-requires
 hear-silence-requires c κs = search needs
 
--- src/within.rt:326:28
 enum-told-4 : tie.Need-enum-told-4
 enum-told-4 c = search needs
 
--- src/within.rt:326:28
 not-due-requires-2 : tie.Need-not-due-requires-2
 not-due-requires-2 c κs = search needs
 
--- src/within.rt:327:28
 enum-told-5 : tie.Need-enum-told-5
 enum-told-5 c = search needs
 
--- src/within.rt:327:28
 not-due-requires-3 : tie.Need-not-due-requires-3
 not-due-requires-3 c κs = search needs
 
--- src/within.rt:328:27
 enum-told-6 : tie.Need-enum-told-6
 enum-told-6 c = search needs
 
--- src/within.rt:328:27
 not-due-requires-4 : tie.Need-not-due-requires-4
 not-due-requires-4 c κs = search needs
 
--- src/within.rt:316:1
 returns : tie.Need-returns
 returns c = let a = c .before .before .before .before .args in c .not-due .ensures ∙ sym (hear-at (a .r) (now (a .row)) _ (c .before .enum-told .given .1))
 
--- src/within.rt:316:1
 returns-2 : tie.Need-returns-2
 returns-2 c = let a = c .before .before .before .before .args in c .hear-atqa .ensures ∙ sym (hear-at (a .r) (now (a .row)) _ (c .before .enum-told2 .given .1))
 
--- src/within.rt:316:1
 returns-3 : tie.Need-returns-3
 returns-3 c = let a = c .before .before .before .before .before .args in c .hear-rest .ensures ∙ sym (hear-at (a .r) (now (a .row)) _ (c .before .before .p .given .1))
 
--- src/within.rt:316:1
 returns-4 : tie.Need-returns-4
 returns-4 c = let a = c .before .before .before .before .before .args in c .hear-sak .ensures ∙ sym (hear-at (a .r) (now (a .row)) _ (c .before .before .p2 .given .1))
 
--- src/within.rt:316:1
 returns-5 : tie.Need-returns-5
 returns-5 c = let a = c .before .before .before .before .args in c .hear-silence .ensures ∙ sym (hear-at (a .r) (now (a .row)) _ (c .before .enum-told3 .given .1))
 
--- src/within.rt:316:1
 returns-6 : tie.Need-returns-6
 returns-6 c = let a = c .before .before .before .before .args in c .not-due2 .ensures ∙ sym (hear-at (a .r) (now (a .row)) _ (c .before .enum-told4 .given .1))
 
--- src/within.rt:316:1
 returns-7 : tie.Need-returns-7
 returns-7 c = let a = c .before .before .before .before .args in c .not-due3 .ensures ∙ sym (hear-at (a .r) (now (a .row)) _ (c .before .enum-told5 .given .1))
 
--- src/within.rt:316:1
 returns-8 : tie.Need-returns-8
 returns-8 c = let a = c .before .before .before .before .args in c .not-due4 .ensures ∙ sym (hear-at (a .r) (now (a .row)) _ (c .before .enum-told6 .given .1))
 

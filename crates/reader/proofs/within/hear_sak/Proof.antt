@@ -7,52 +7,37 @@ use Rattle.reader.specs.StepLaws.{sak-at, more-any}
 use borrow.Author.Needs.{needs}
 use Rattle.reader.proofs.within.hear_sak.Statement.{statement}
 use Rattle.reader.proofs.within.hear_sak.Tie as tie
-use Rattle.reader.proofs.within.hear_sak.Reads as reads
-use Rattle.reader.proofs.within.hear_sak.Lts as lts
-use Rattle.reader.proofs.within.last_level.Reads as last-level-reads
-use Rattle.reader.proofs.within.more_levels.Reads as more-levels-reads
-use Rattle.reader.proofs.within.stop.Reads as stop-reads
-use Rattle.selection.proofs.heard.read_sak.Reads as read-sak-reads
 
--- src/within.rt:284:9
 read-sak-requires : tie.Need-read-sak-requires
 read-sak-requires c κs = search needs
 
--- src/within.rt:286:22
 enum-known-a : tie.Need-enum-known-a
 enum-known-a c = search needs
 
--- src/within.rt:288:17
 more-levels-requires : tie.Need-more-levels-requires
 more-levels-requires c κs = search needs
 
--- src/within.rt:290:17
 last-level-requires : tie.Need-last-level-requires
 last-level-requires c κs = search needs
 
--- src/within.rt:293:25
 enum-known-a-2 : tie.Need-enum-known-a-2
 enum-known-a-2 c = search needs
 
--- src/within.rt:293:31
 stop-requires : tie.Need-stop-requires
 stop-requires c κs = search needs
 
--- src/within.rt:281:1
 returns : tie.Need-returns
 returns c =
     let a = c .before .before .before .before .before .before .before .args in
     c .more-levels .ensures ∙ more-any (a .l) (a .r) 0 _ ∙ ap (afterSak (a .l) (a .r) _) (sym (eq-eqb _ _ (c .before .if1 .taken)))
     ∙ sym (sak-at (a .l) (a .r) (now (a .row)) _ (sym (c .before .before .before .before .before .read-sak .ensures) ∙ c .before .before .before .a .given .1))
 
--- src/within.rt:281:1
 returns-2 : tie.Need-returns-2
 returns-2 c =
     let a = c .before .before .before .before .before .before .before .args in
     c .last-level .ensures ∙ ap (afterSak (a .l) (a .r) _) (sym (ne-eqb _ _ (c .before .if1 .left)))
     ∙ sym (sak-at (a .l) (a .r) (now (a .row)) _ (sym (c .before .before .before .before .before .read-sak .ensures) ∙ c .before .before .before .a .given .1))
 
--- src/within.rt:281:1
 returns-3 : tie.Need-returns-3
 returns-3 c = let a = c .before .before .before .before .before .before .args in c .stop .ensures ∙ sym (sak-at (a .l) (a .r) (now (a .row)) _ (sym (c .before .before .before .before .read-sak .ensures) ∙ c .before .before .a2 .given .1))
 

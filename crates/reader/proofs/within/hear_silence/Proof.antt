@@ -5,29 +5,19 @@ use Rattle.reader.specs.StepLaws.{silence-yes, silence-no}
 use borrow.Author.Needs.{needs}
 use Rattle.reader.proofs.within.hear_silence.Statement.{statement}
 use Rattle.reader.proofs.within.hear_silence.Tie as tie
-use Rattle.reader.proofs.within.hear_silence.Reads as reads
-use Rattle.reader.proofs.within.hear_silence.Lts as lts
-use Rattle.reader.proofs.within.blank.Reads as blank-reads
-use Rattle.reader.proofs.within.sends.Reads as sends-reads
-use Rattle.reader.proofs.within.stop.Reads as stop-reads
 
--- src/within.rt:301:22
 blank-requires : tie.Need-blank-requires
 blank-requires c κs = search needs
 
--- src/within.rt:301:9
 sends-requires : tie.Need-sends-requires
 sends-requires c κs = search needs
 
--- src/within.rt:301:9
 returns : tie.Need-returns
 returns c = c .sends .ensures ∙ ap sends (c .before .blank .ensures) ∙ sym (silence-yes _ (nil-yes _ (c .before .before .if1 .taken)))
 
--- src/within.rt:303:5
 stop-requires : tie.Need-stop-requires
 stop-requires c κs = search needs
 
--- src/within.rt:297:1
 returns-2 : tie.Need-returns-2
 returns-2 c = c .stop .ensures ∙ sym (silence-no _ (nil-no _ (c .before .if1 .left)))
 

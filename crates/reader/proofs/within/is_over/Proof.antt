@@ -2,14 +2,10 @@ use mathlib.Core.Path.{_≡_, refl}
 use Rattle.selection.specs.RestLaws.{nil-yes, nil-no}
 use Rattle.reader.proofs.within.is_over.Statement.{statement}
 use Rattle.reader.proofs.within.is_over.Tie as tie
-use Rattle.reader.proofs.within.is_over.Reads as reads
-use Rattle.reader.proofs.within.is_over.Lts as lts
 
--- src/within.rt:165:9
 returns : tie.Need-returns
 returns c = rw (nil-yes _ (c .if1 .taken))
 
--- src/within.rt:161:1
 returns-2 : tie.Need-returns-2
 returns-2 c = rw (nil-no _ (c .if1 .left))
 

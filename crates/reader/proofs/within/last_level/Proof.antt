@@ -4,56 +4,40 @@ use Rattle.reader.specs.Reader.{completes, afterSak}
 use borrow.Author.Needs.{needs}
 use Rattle.reader.proofs.within.last_level.Statement.{statement}
 use Rattle.reader.proofs.within.last_level.Tie as tie
-use Rattle.reader.proofs.within.last_level.Reads as reads
-use Rattle.reader.proofs.within.last_level.Lts as lts
-use Rattle.reader.proofs.within.completes.Reads as completes-reads
-use Rattle.reader.proofs.within.longer.Reads as longer-reads
 
--- src/within.rt:275:43
 enum-told : tie.Need-enum-told
 enum-told c = search needs
 
--- src/within.rt:275:36
 longer-requires : tie.Need-longer-requires
 longer-requires c κs = search needs
 
--- src/within.rt:275:23
 completes-requires : tie.Need-completes-requires
 completes-requires c κs = search needs
 
--- src/within.rt:276:43
 enum-told-2 : tie.Need-enum-told-2
 enum-told-2 c = search needs
 
--- src/within.rt:276:36
 longer-requires-2 : tie.Need-longer-requires-2
 longer-requires-2 c κs = search needs
 
--- src/within.rt:276:23
 completes-requires-2 : tie.Need-completes-requires-2
 completes-requires-2 c κs = search needs
 
--- src/within.rt:277:45
 enum-told-3 : tie.Need-enum-told-3
 enum-told-3 c = search needs
 
--- src/within.rt:277:38
 longer-requires-3 : tie.Need-longer-requires-3
 longer-requires-3 c κs = search needs
 
--- src/within.rt:277:25
 completes-requires-3 : tie.Need-completes-requires-3
 completes-requires-3 c κs = search needs
 
--- src/within.rt:270:1
 returns : tie.Need-returns
 returns c = let a = c .before .before .before .before .args in c .completes .ensures ∙ ap (λ u. completes (a .r .sweeps) u (a .b)) (c .before .longer .ensures) ∙ ap (λ l. afterSak l (a .r) (a .b) false) (sym (c .before .before .enum-told .given .1))
 
--- src/within.rt:270:1
 returns-2 : tie.Need-returns-2
 returns-2 c = let a = c .before .before .before .before .args in c .completes2 .ensures ∙ ap (λ u. completes (a .r .sweeps) u (a .b)) (c .before .longer2 .ensures) ∙ ap (λ l. afterSak l (a .r) (a .b) false) (sym (c .before .before .enum-told2 .given .1))
 
--- src/within.rt:270:1
 returns-3 : tie.Need-returns-3
 returns-3 c = let a = c .before .before .before .before .args in c .completes3 .ensures ∙ ap (λ u. completes (a .r .sweeps) u (a .b)) (c .before .longer3 .ensures) ∙ ap (λ l. afterSak l (a .r) (a .b) false) (sym (c .before .before .enum-told3 .given .1))
 

@@ -6,56 +6,40 @@ use Prim.Native.Nat.{_*_}
 use borrow.Author.Needs.{needs}
 use Rattle.reader.proofs.within.longer.Statement.{statement}
 use Rattle.reader.proofs.within.longer.Tie as tie
-use Rattle.reader.proofs.within.longer.Reads as reads
-use Rattle.reader.proofs.within.longer.Lts as lts
-use Rattle.rows.proofs.within.put.Reads as put-reads
-use Rattle.selection.proofs.numbers.place.Reads as place-reads
 
--- src/within.rt:215:18
 place-requires : tie.Need-place-requires
 place-requires c κs = search needs
 
--- src/within.rt:215:14
 mul-at : tie.Need-mul-at
 mul-at c = omega (arith, c .place .ensures, place-most (c .before .args .l))
 
--- src/within.rt:220:23
 slice-aggregate-put : tie.Need-slice-aggregate-put
 slice-aggregate-put c = search needs
 
--- src/within.rt:220:38
 array-share-prefix-old : tie.Need-array-share-prefix-old
 array-share-prefix-old c = let n : length (c .before .before .before .before .before .args .r .uid .bytes) ≡ 10 = search needs in omega (arith, c .before .before .before .before .place .ensures, place-most (c .before .before .before .before .before .args .l))
 
--- src/within.rt:220:38
 slice-aggregate-put-2 : tie.Need-slice-aggregate-put-2
 slice-aggregate-put-2 c = let n : length (c .before .before .before .before .before .before .args .r .uid .bytes) ≡ 10 = search needs in rw length-take (omega (arith, c .before .before .before .before .before .place .ensures, place-most (c .before .before .before .before .before .before .args .l)))
 
--- src/within.rt:220:5
 put-requires : tie.Need-put-requires
 put-requires c κs = let n : length (c .before .before .before .before .before .before .args .r .uid .bytes) ≡ 10 = search needs in rw length-take (omega (arith, c .before .before .before .before .before .place .ensures, place-most (c .before .before .before .before .before .before .args .l)))
 
--- src/within.rt:221:23
 slice-aggregate-put-3 : tie.Need-slice-aggregate-put-3
 slice-aggregate-put-3 c = search needs
 
--- src/within.rt:221:39
 sub-put : tie.Need-sub-put
 sub-put c = search needs
 
--- src/within.rt:221:39
 part-put-start : tie.Need-part-put-start
 part-put-start c = search needs
 
--- src/within.rt:221:39
 part-put-end : tie.Need-part-put-end
 part-put-end c = let n : length (c .before .before .before .before .before .before .before .before .before .before .args .r .five) ≡ 5 = search needs in omega arith
 
--- src/within.rt:221:5
 put-requires-2 : tie.Need-put-requires-2
 put-requires-2 c κs = let n : length (c .before .before .before .before .before .before .before .before .before .before .before .args .r .five) ≡ 5 = search needs in rw (length-take) (omega (arith, c .before .before .before .before .before .before .before .before .before .before .place .ensures, place-most (c .before .before .before .before .before .before .before .before .before .before .before .args .l)))
 
--- src/within.rt:211:1
 returns : tie.Need-returns
 returns c = let a = c .before .before .before .before .before .before .before .before .before .before .before .before .before .args in longer-made (a .z) (a .l) (a .r) (a .n) _ _ _ (search needs) (search needs) (search needs) (ap (λ k. 3 * k) (c .before .before .before .before .before .before .before .before .before .before .before .before .place .ensures)) (c .before .before .before .before .before .before .put .ensures) (c .before .put2 .ensures)
 

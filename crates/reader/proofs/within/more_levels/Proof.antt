@@ -5,53 +5,37 @@ use Rattle.reader.specs.Reader.{opens, afterSak}
 use borrow.Author.Needs.{needs}
 use Rattle.reader.proofs.within.more_levels.Statement.{statement}
 use Rattle.reader.proofs.within.more_levels.Tie as tie
-use Rattle.reader.proofs.within.more_levels.Reads as reads
-use Rattle.reader.proofs.within.more_levels.Lts as lts
-use Rattle.reader.proofs.within.longer.Reads as longer-reads
-use Rattle.reader.proofs.within.opens.Reads as opens-reads
-use Rattle.reader.proofs.within.stop.Reads as stop-reads
 
--- src/within.rt:263:29
 enum-told : tie.Need-enum-told
 enum-told c = search needs
 
--- src/within.rt:263:44
 longer-requires : tie.Need-longer-requires
 longer-requires c κs = search needs
 
--- src/within.rt:263:23
 opens-requires : tie.Need-opens-requires
 opens-requires c κs = search needs
 
--- src/within.rt:264:29
 enum-told-2 : tie.Need-enum-told-2
 enum-told-2 c = search needs
 
--- src/within.rt:264:46
 longer-requires-2 : tie.Need-longer-requires-2
 longer-requires-2 c κs = search needs
 
--- src/within.rt:264:23
 opens-requires-2 : tie.Need-opens-requires-2
 opens-requires-2 c κs = search needs
 
--- src/within.rt:265:30
 enum-told-3 : tie.Need-enum-told-3
 enum-told-3 c = search needs
 
--- src/within.rt:265:25
 stop-requires : tie.Need-stop-requires
 stop-requires c κs = search needs
 
--- src/within.rt:258:1
 returns : tie.Need-returns
 returns c = let a = c .before .before .before .before .args in c .opens .ensures ∙ ap (opens Two (a .r .sweeps)) (c .before .longer .ensures) ∙ ap (λ l. afterSak l (a .r) 0 true) (sym (c .before .before .enum-told .given .1))
 
--- src/within.rt:258:1
 returns-2 : tie.Need-returns-2
 returns-2 c = let a = c .before .before .before .before .args in c .opens2 .ensures ∙ ap (opens Three (a .r .sweeps)) (c .before .longer2 .ensures) ∙ ap (λ l. afterSak l (a .r) 0 true) (sym (c .before .before .enum-told2 .given .1))
 
--- src/within.rt:258:1
 returns-3 : tie.Need-returns-3
 returns-3 c = let a = c .before .before .before .args in c .stop .ensures ∙ ap (λ l. afterSak l (a .r) 0 true) (sym (c .before .enum-told3 .given .1))
 

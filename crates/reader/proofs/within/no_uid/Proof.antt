@@ -2,10 +2,7 @@ use mathlib.Core.Path.{refl}
 use Rattle.rows.specs.Rows.{fill}
 use Rattle.reader.proofs.within.no_uid.Statement.{statement}
 use Rattle.reader.proofs.within.no_uid.Tie as tie
-use Rattle.reader.proofs.within.no_uid.Reads as reads
-use Rattle.reader.proofs.within.no_uid.Lts as lts
 
--- src/within.rt:27:1
 returns : tie.Need-returns
 unfolding fill
 returns c = refl

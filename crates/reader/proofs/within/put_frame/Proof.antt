@@ -6,70 +6,49 @@ use Rattle.reader.specs.StepLaws.{frame-at}
 use borrow.Author.Needs.{needs}
 use Rattle.reader.proofs.within.put_frame.Statement.{statement}
 use Rattle.reader.proofs.within.put_frame.Tie as tie
-use Rattle.reader.proofs.within.put_frame.Reads as reads
-use Rattle.reader.proofs.within.put_frame.Lts as lts
-use Rattle.rows.proofs.within.put.Reads as put-reads
-use Rattle.selection.proofs.sent.hlta.Reads as hlta-reads
-use Rattle.selection.proofs.sent.reqa.Reads as reqa-reads
-use Rattle.selection.proofs.sent.select.Reads as select-reads
-use Rattle.selection.proofs.within.put_anticollision.Reads as put-anticollision-reads
 
 enum-told : tie.Need-enum-told
 enum-told c = search needs
 
--- src/within.rt:79:23
 enum-told-2 : tie.Need-enum-told-2
 enum-told-2 c = search needs
 
--- src/within.rt:79:23
 reqa-requires : tie.Need-reqa-requires
 reqa-requires c κs = search needs
 
--- src/within.rt:80:39
 slice-aggregate-put : tie.Need-slice-aggregate-put
 slice-aggregate-put c = search needs
 
--- src/within.rt:80:13
 put-requires : tie.Need-put-requires
 put-requires c κs = search needs
 
--- src/within.rt:82:34
 enum-known-p : tie.Need-enum-known-p
 enum-known-p c = search needs
 
--- src/within.rt:83:13
 put-anticollision-requires : tie.Need-put-anticollision-requires
 put-anticollision-requires c κs = search needs
 
--- src/within.rt:85:27
 enum-known-p-2 : tie.Need-enum-known-p-2
 enum-known-p-2 c = search needs
 
--- src/within.rt:86:23
 select-requires : tie.Need-select-requires
 select-requires c κs = search needs
 
--- src/within.rt:87:39
 slice-aggregate-put-2 : tie.Need-slice-aggregate-put-2
 slice-aggregate-put-2 c = search needs
 
--- src/within.rt:87:13
 put-requires-2 : tie.Need-put-requires-2
 put-requires-2 c κs = search needs
 
--- src/within.rt:90:23
 enum-told-3 : tie.Need-enum-told-3
 enum-told-3 c = search needs
 
--- src/within.rt:90:23
 hlta-requires : tie.Need-hlta-requires
 hlta-requires c κs = search needs
 
--- src/within.rt:91:39
 slice-aggregate-put-3 : tie.Need-slice-aggregate-put-3
 slice-aggregate-put-3 c = search needs
 
--- src/within.rt:91:13
 put-requires-3 : tie.Need-put-requires-3
 put-requires-3 c κs = search needs
 
@@ -82,51 +61,39 @@ enum-told-5 c = search needs
 enum-told-6 : tie.Need-enum-told-6
 enum-told-6 c = search needs
 
--- src/within.rt:69:1
 returns : tie.Need-returns
 returns c = let a = c .before .before .before .before .args in sym (ap (overlay (now (a .out)) 0) (frame-at (a .r) _ (c .enum-told .given .1)) ∙ overlay-nil (now (a .out)) 0)
 
--- src/within.rt:69:1
 same-length : tie.Need-same-length
 same-length c = search needs
 
--- src/within.rt:69:1
 returns-2 : tie.Need-returns-2
 returns-2 c = let a = c .before .before .before .before .before .before .before .before .before .before .args in c .before .before .put .ensures ∙ ap (overlay (now (a .out)) 0) (c .before .before .before .before .before .reqa .ensures ∙ sym (frame-at (a .r) _ (c .before .before .before .before .before .before .enum-told2 .given .1)))
 
--- src/within.rt:69:1
 same-length-2 : tie.Need-same-length-2
 same-length-2 c = search needs
 
--- src/within.rt:69:1
 returns-3 : tie.Need-returns-3
 returns-3 c = let a = c .before .before .before .before .before .before .before .before .before .args in c .before .before .put-anticollision .ensures ∙ ap (overlay (now (a .out)) 0) (sym (frame-at (a .r) _ (c .before .before .before .before .before .p .given .1)))
 
--- src/within.rt:69:1
 same-length-3 : tie.Need-same-length-3
 same-length-3 c = search needs
 
--- src/within.rt:69:1
 returns-4 : tie.Need-returns-4
 returns-4 c = let a = c .before .before .before .before .before .before .before .before .before .before .before .args in c .before .before .put2 .ensures ∙ ap (overlay (now (a .out)) 0) (c .before .before .before .before .before .select .ensures ∙ sym (frame-at (a .r) _ (c .before .before .before .before .before .before .before .p2 .given .1)))
 
--- src/within.rt:69:1
 same-length-4 : tie.Need-same-length-4
 same-length-4 c = search needs
 
--- src/within.rt:69:1
 returns-5 : tie.Need-returns-5
 returns-5 c = let a = c .before .before .before .before .before .before .before .before .before .before .args in c .before .before .put3 .ensures ∙ ap (overlay (now (a .out)) 0) (c .before .before .before .before .before .hlta .ensures ∙ sym (frame-at (a .r) _ (c .before .before .before .before .before .before .enum-told3 .given .1)))
 
--- src/within.rt:69:1
 returns-6 : tie.Need-returns-6
 returns-6 c = let a = c .before .before .before .before .args in sym (ap (overlay (now (a .out)) 0) (frame-at (a .r) _ (c .enum-told4 .given .1)) ∙ overlay-nil (now (a .out)) 0)
 
--- src/within.rt:69:1
 returns-7 : tie.Need-returns-7
 returns-7 c = let a = c .before .before .before .before .args in sym (ap (overlay (now (a .out)) 0) (frame-at (a .r) _ (c .enum-told5 .given .1)) ∙ overlay-nil (now (a .out)) 0)
 
--- src/within.rt:69:1
 returns-8 : tie.Need-returns-8
 returns-8 c = let a = c .before .before .before .before .args in sym (ap (overlay (now (a .out)) 0) (frame-at (a .r) _ (c .enum-told6 .given .1)) ∙ overlay-nil (now (a .out)) 0)
 

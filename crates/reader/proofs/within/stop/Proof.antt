@@ -4,15 +4,10 @@ use Rattle.reader.specs.declared.Answer.the-variants.{Declines}
 use borrow.Author.Needs.{needs}
 use Rattle.reader.proofs.within.stop.Statement.{statement}
 use Rattle.reader.proofs.within.stop.Tie as tie
-use Rattle.reader.proofs.within.stop.Reads as reads
-use Rattle.reader.proofs.within.stop.Lts as lts
-use Rattle.reader.proofs.within.blank.Reads as blank-reads
 
--- src/within.rt:138:9
 blank-requires : tie.Need-blank-requires
 blank-requires c κs = search needs
 
--- src/within.rt:135:1
 returns : tie.Need-returns
 returns c = ap (λ r. turn r (Declines (c .before .args .e))) (c .blank .ensures)
 

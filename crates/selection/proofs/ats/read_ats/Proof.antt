@@ -12,38 +12,26 @@ use Rattle.selection.specs.AtsLaws.{ats-fault, ats-good, ats-count}
 use borrow.Author.Needs.{needs}
 use Rattle.selection.proofs.ats.read_ats.Statement.{statement}
 use Rattle.selection.proofs.ats.read_ats.Tie as tie
-use Rattle.selection.proofs.ats.read_ats.Reads as reads
-use Rattle.selection.proofs.ats.read_ats.Lts as lts
-use Rattle.frame.proofs.within.read_crc_within.Reads as read-crc-within-reads
-use Rattle.selection.proofs.ats.read_bytes.Reads as read-bytes-reads
-use Rattle.selection.proofs.numbers.size_of.Reads as size-of-reads
 
--- src/ats.rt:48:9
 returns : tie.Need-returns
 unfolding readAts
 returns c = rw (nil-yes _ (c .if1 .taken))
 
--- src/ats.rt:50:9
 size-of-requires : tie.Need-size-of-requires
 size-of-requires c κs = search needs
 
--- src/ats.rt:52:57
 slice-aggregate-read-crc-within : tie.Need-slice-aggregate-read-crc-within
 slice-aggregate-read-crc-within c = search needs
 
--- src/ats.rt:52:9
 read-crc-within-requires : tie.Need-read-crc-within-requires
 read-crc-within-requires c κs = omega (arith, c .before .size-of .ensures, size-most (c .before .before .before .before .args .own))
 
--- src/ats.rt:54:31
 enum-known-got : tie.Need-enum-known-got
 enum-known-got c = search needs
 
--- src/ats.rt:55:25
 enum-known-got-2 : tie.Need-enum-known-got-2
 enum-known-got-2 c = search needs
 
--- src/ats.rt:55:42
 array-share-prefix-bytes : tie.Need-array-share-prefix-bytes
 array-share-prefix-bytes c =
     let a = c .before .before .before .before .before .before .before .before .before .args in
@@ -51,7 +39,6 @@ array-share-prefix-bytes c =
     ats-count (a .own) (now (a .row)) _ _ (rw (c .before .before .before .before .before .before .size-of .ensures) at (sym (r .ensures .0)) ∙ c .before .got2 .given .1)
     (r .ensures .1 ∙ ap₂ (λ x s. bytesAfter x (readCrc 3 s (now (a .row))) (replicate 256 0)) (c .before .got2 .given .1) (c .before .before .before .before .before .before .size-of .ensures))
 
--- src/ats.rt:55:42
 slice-aggregate-read-bytes : tie.Need-slice-aggregate-read-bytes
 slice-aggregate-read-bytes c =
     let a = c .before .before .before .before .before .before .before .before .before .before .args in
@@ -60,17 +47,14 @@ slice-aggregate-read-bytes c =
     (r .ensures .1 ∙ ap₂ (λ x s. bytesAfter x (readCrc 3 s (now (a .row))) (replicate 256 0)) (c .before .before .got2 .given .1) (c .before .before .before .before .before .before .before .size-of .ensures)) in
     rw length-take (omega (arith, m))
 
--- src/ats.rt:55:31
 read-bytes-requires : tie.Need-read-bytes-requires
 read-bytes-requires c κs = search needs
 
--- src/ats.rt:44:1
 returns-2 : tie.Need-returns-2
 returns-2 c =
     let a = c .before .before .before .before .before .before .before .before .before .args in
     sym (ats-fault (a .own) (now (a .row)) _ (nil-no _ (c .before .before .before .before .before .before .before .if1 .left)) (rw (c .before .before .before .before .before .before .size-of .ensures) at (sym (c .before .before .before .before .read-crc-within .ensures .0)) ∙ c .before .got .given .1))
 
--- src/ats.rt:44:1
 returns-3 : tie.Need-returns-3
 returns-3 c =
     let a = c .before .before .before .before .before .before .before .before .before .before .before .args in

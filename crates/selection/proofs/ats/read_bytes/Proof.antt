@@ -6,55 +6,40 @@ use Rattle.selection.specs.AtsLaws.{ats-none, ats-short, ats-is}
 use borrow.Author.Needs.{needs}
 use Rattle.selection.proofs.ats.read_bytes.Statement.{statement}
 use Rattle.selection.proofs.ats.read_bytes.Tie as tie
-use Rattle.selection.proofs.ats.read_bytes.Reads as reads
-use Rattle.selection.proofs.ats.read_bytes.Lts as lts
-use Rattle.selection.proofs.ats.announced.Reads as announced-reads
 
--- src/ats.rt:21:9
 returns : tie.Need-returns
 returns c = sym (ats-none (now (c .before .before .args .l)) (c .if1 .taken))
 
--- src/ats.rt:23:14
 shared-slice-read-tl : tie.Need-shared-slice-read-tl
 shared-slice-read-tl c = search needs
 
--- src/ats.rt:26:13
 returns-2 : tie.Need-returns-2
 returns-2 c = sym (ats-short (now (c .before .before .before .before .before .args .l)) (c .before .if2 .taken) ∙ rw (eq-eqb _ _ (c .if3 .taken)))
 
--- src/ats.rt:28:9
 returns-3 : tie.Need-returns-3
 returns-3 c = sym (ats-short (now (c .before .before .before .before .before .args .l)) (c .before .if2 .taken) ∙ rw (ne-eqb _ _ (c .if3 .left)))
 
--- src/ats.rt:30:14
 shared-slice-read-t0 : tie.Need-shared-slice-read-t0
 shared-slice-read-t0 c = search needs
 
--- src/ats.rt:31:8
 cast-if4 : tie.Need-cast-if4
 cast-if4 c = omega (arith, c .shared-slice-known3 .given 0)
 
--- src/ats.rt:32:9
 returns-4 : tie.Need-returns-4
 returns-4 c = sym (ats-is (now (c .before .before .before .before .before .before .args .l)) (c .before .before .before .before .if1 .left) (c .before .before .if2 .left) ∙ rw (ne-eqb _ _ (c .if4 .taken)))
 
--- src/ats.rt:35:9
 returns-5 : tie.Need-returns-5
 returns-5 c = sym (ats-is (now (c .before .before .before .before .before .before .before .args .l)) (c .before .before .before .before .before .if1 .left) (c .before .before .before .if2 .left) ∙ rw (eq-eqb _ _ (c .before .if4 .left), le-ltb _ _ (c .if5 .taken)))
 
--- src/ats.rt:37:8
 sub-if6 : tie.Need-sub-if6
 sub-if6 c = search needs
 
--- src/ats.rt:37:22
 announced-requires : tie.Need-announced-requires
 announced-requires c κs = search needs
 
--- src/ats.rt:38:9
 returns-6 : tie.Need-returns-6
 returns-6 c = sym (ats-is (now (c .before .before .before .before .before .before .before .before .before .args .l)) (c .before .before .before .before .before .before .before .if1 .left) (c .before .before .before .before .before .if2 .left) ∙ rw (eq-eqb _ _ (c .before .before .before .if4 .left), lt-ltb _ _ (c .before .before .if5 .left), ← c .before .announced .ensures, lt-leb _ _ (c .if6 .taken)))
 
--- src/ats.rt:17:1
 returns-7 : tie.Need-returns-7
 returns-7 c = sym (ats-is (now (c .before .before .before .before .before .before .before .before .before .args .l)) (c .before .before .before .before .before .before .before .if1 .left) (c .before .before .before .before .before .if2 .left) ∙ rw (eq-eqb _ _ (c .before .before .before .if4 .left), lt-ltb _ _ (c .before .before .if5 .left), ← c .before .announced .ensures, le-leb _ _ (c .if6 .left)))
 

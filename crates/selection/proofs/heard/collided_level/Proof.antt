@@ -7,57 +7,41 @@ use Rattle.selection.specs.RestLaws.{says-collision, says-parity, says-c
 use borrow.Author.Needs.{needs}
 use Rattle.selection.proofs.heard.collided_level.Statement.{statement}
 use Rattle.selection.proofs.heard.collided_level.Tie as tie
-use Rattle.selection.proofs.heard.collided_level.Reads as reads
-use Rattle.selection.proofs.heard.collided_level.Lts as lts
-use Rattle.selection.proofs.heard.is_faulty.Reads as is-faulty-reads
-use Rattle.selection.proofs.heard.not_rest.Reads as not-rest-reads
-use Rattle.selection.proofs.level.five_bytes.Reads as five-bytes-reads
-use Rattle.selection.proofs.level.known_bits.Reads as known-bits-reads
 
--- src/heard.rt:93:9
 not-rest-requires : tie.Need-not-rest-requires
 not-rest-requires c κs = search needs
 
--- src/heard.rt:93:9
 returns : tie.Need-returns
 returns c =
     let a = c .before .before .args in
     c .not-rest .ensures ∙ sym (says-collision (a .k) (a .w) (a .d) (search needs) (search needs) (omega arith) (omega arith))
 
--- src/heard.rt:95:8
 is-faulty-requires : tie.Need-is-faulty-requires
 is-faulty-requires c κs = search needs
 
--- src/heard.rt:96:9
 not-rest-requires-2 : tie.Need-not-rest-requires-2
 not-rest-requires-2 c κs = search needs
 
--- src/heard.rt:96:9
 returns-2 : tie.Need-returns-2
 returns-2 c =
     let a = c .before .before .before .before .args in
     c .not-rest2 .ensures
     ∙ sym (says-parity (a .k) (a .w) (a .d) (search needs) (search needs) (λ l m. omega arith) (sym (c .before .before .is-faulty .ensures) ∙ c .before .if2 .taken))
 
--- src/heard.rt:98:41
 known-bits-requires : tie.Need-known-bits-requires
 known-bits-requires c κs = search needs
 
--- src/heard.rt:98:9
 five-bytes-requires : tie.Need-five-bytes-requires
 five-bytes-requires c κs =
     let a = c .before .before .before .before .args in
     rw (c .known-bits .ensures) (known-clean (a .d) (search needs) (omega arith))
 
--- src/heard.rt:102:16
 cast-t12 : tie.Need-cast-t12
 cast-t12 c = search needs
 
--- src/heard.rt:102:16
 add-t13 : tie.Need-add-t13
 add-t13 c = search needs
 
--- src/heard.rt:88:1
 returns-3 : tie.Need-returns-3
 returns-3 c =
     let a = c .before .before .before .before .before .args in

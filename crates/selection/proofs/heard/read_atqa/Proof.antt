@@ -7,48 +7,35 @@ use Rattle.selection.specs.RestLaws.{nil-yes, nil-no}
 use borrow.Author.Needs.{needs}
 use Rattle.selection.proofs.heard.read_atqa.Statement.{statement}
 use Rattle.selection.proofs.heard.read_atqa.Tie as tie
-use Rattle.selection.proofs.heard.read_atqa.Reads as reads
-use Rattle.selection.proofs.heard.read_atqa.Lts as lts
-use Rattle.frame.proofs.within.is_faulty.Reads as is-faulty-reads
-use Rattle.rows.proofs.is_same.Reads as is-same-reads
 
--- src/heard.rt:20:9
 returns : tie.Need-returns
 unfolding readAtqa
 returns c = rw (nil-yes _ (c .if1 .taken))
 
--- src/heard.rt:23:9
 returns-2 : tie.Need-returns-2
 unfolding readAtqa
 returns-2 c = rw (nil-no _ (c .before .if1 .left), ne-eqb _ _ (c .if2 .taken))
 
--- src/heard.rt:25:8
 is-faulty-requires : tie.Need-is-faulty-requires
 is-faulty-requires c κs = search needs
 
--- src/heard.rt:26:9
 returns-3 : tie.Need-returns-3
 unfolding readAtqa
 returns-3 c = rw (nil-no _ (c .before .before .before .if1 .left), eq-eqb _ _ (c .before .before .if2 .left), sym (c .before .is-faulty .ensures) ∙ c .if3 .taken)
 
--- src/heard.rt:29:22
 slice-aggregate-is-same : tie.Need-slice-aggregate-is-same
 slice-aggregate-is-same c = rw length-take (omega arith)
 
--- src/heard.rt:29:33
 slice-aggregate-is-same-2 : tie.Need-slice-aggregate-is-same-2
 slice-aggregate-is-same-2 c = search needs
 
--- src/heard.rt:29:8
 is-same-requires : tie.Need-is-same-requires
 is-same-requires c κs = search needs
 
--- src/heard.rt:30:9
 returns-4 : tie.Need-returns-4
 unfolding readAtqa
 returns-4 c = rw (nil-no _ (c .before .before .before .before .before .before .before .if1 .left), eq-eqb _ _ (c .before .before .before .before .before .before .if2 .left), sym (c .before .before .before .before .before .is-faulty .ensures) ∙ c .before .before .before .before .if3 .left, sym (c .before .is-same .ensures) ∙ c .if4 .taken)
 
--- src/heard.rt:16:1
 returns-5 : tie.Need-returns-5
 unfolding readAtqa
 returns-5 c = rw (nil-no _ (c .before .before .before .before .before .before .before .if1 .left), eq-eqb _ _ (c .before .before .before .before .before .before .if2 .left), sym (c .before .before .before .before .before .is-faulty .ensures) ∙ c .before .before .before .before .if3 .left, sym (c .before .is-same .ensures) ∙ c .if4 .left)

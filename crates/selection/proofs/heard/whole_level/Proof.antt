@@ -11,41 +11,28 @@ use Rattle.selection.specs.LevelLaws.{first-clean}
 use borrow.Author.Needs.{needs}
 use Rattle.selection.proofs.heard.whole_level.Statement.{statement}
 use Rattle.selection.proofs.heard.whole_level.Tie as tie
-use Rattle.selection.proofs.heard.whole_level.Reads as reads
-use Rattle.selection.proofs.heard.whole_level.Lts as lts
-use Rattle.selection.proofs.heard.is_checked.Reads as is-checked-reads
-use Rattle.selection.proofs.heard.is_faulty.Reads as is-faulty-reads
-use Rattle.selection.proofs.heard.not_rest.Reads as not-rest-reads
-use Rattle.selection.proofs.level.five_bytes.Reads as five-bytes-reads
 
--- src/heard.rt:111:8
 is-faulty-requires : tie.Need-is-faulty-requires
 is-faulty-requires c κs = search needs
 
--- src/heard.rt:112:9
 not-rest-requires : tie.Need-not-rest-requires
 not-rest-requires c κs = search needs
 
--- src/heard.rt:112:9
 returns : tie.Need-returns
 returns c =
     let a = c .before .before .before .args in
     c .not-rest .ensures
     ∙ sym (says-parity (a .k) (a .w) (a .d) (search needs) (search needs) (λ l m. omega arith) (sym (c .before .before .is-faulty .ensures) ∙ c .before .if1 .taken))
 
--- src/heard.rt:114:9
 five-bytes-requires : tie.Need-five-bytes-requires
 five-bytes-requires c κs = let n : length (c .before .before .args .d) ≡ 40 = search needs in first-clean (c .before .before .args .d) (omega arith) .0
 
--- src/heard.rt:115:9
 is-checked-requires : tie.Need-is-checked-requires
 is-checked-requires c κs = search needs
 
--- src/heard.rt:116:9
 not-rest-requires-2 : tie.Need-not-rest-requires-2
 not-rest-requires-2 c κs = search needs
 
--- src/heard.rt:116:9
 returns-2 : tie.Need-returns-2
 returns-2 c =
     let a = c .before .before .before .before .before .before .args in
@@ -53,7 +40,6 @@ returns-2 c =
     ∙ sym (says-check (a .k) (a .w) (a .d) (search needs) (search needs) (λ l m. omega arith) (sym (c .before .before .before .before .before .is-faulty .ensures) ∙ c .before .before .before .before .if1 .left) (search needs)
     (rw (← c .before .before .before .five-bytes .ensures) (sym (c .before .before .is-checked .ensures) ∙ not-true _ (c .before .if2 .taken))))
 
--- src/heard.rt:107:1
 returns-3 : tie.Need-returns-3
 returns-3 c =
     let a = c .before .before .before .before .before .args in

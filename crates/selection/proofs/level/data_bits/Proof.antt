@@ -10,8 +10,6 @@ use Rattle.frame.specs.Frame.{dataOf}
 use Rattle.selection.specs.LevelLaws.{length-data, data-turn}
 use Rattle.selection.proofs.level.data_bits.Statement.{statement}
 use Rattle.selection.proofs.level.data_bits.Tie as tie
-use Rattle.selection.proofs.level.data_bits.Reads as reads
-use Rattle.selection.proofs.level.data_bits.Lts as lts
 
 abbrev Inv-loop : tie.InvT-loop
 Inv-loop w d₀ i₀ d i = (i ≤ 40) × (length d ≡ 40) × (length w ≡ 45) × (d ≡ overlay d₀ 0 (take i (dataOf 5 w))) × (length d₀ ≡ 40)
@@ -19,38 +17,30 @@ Inv-loop w d₀ i₀ d i = (i ≤ 40) × (length d ≡ 40) × (length w ≡ 45) 
 abbrev μ-loop : tie.MeasureT-loop
 μ-loop w d₀ i₀ d i = 40 - i
 
--- src/level.rt:15:5
 loop-holds : tie.Need-loop-holds Inv-loop μ-loop
 loop-holds c = (omega arith, search needs, search needs, sym (overlay-nil _ _), search needs)
 
--- src/level.rt:16:18
 add-d : tie.Need-add-d Inv-loop μ-loop
 add-d c = omega arith
 
--- src/level.rt:16:16
 array-read-d : tie.Need-array-read-d Inv-loop μ-loop
 array-read-d c = omega arith
 
--- src/level.rt:16:9
 array-write-d : tie.Need-array-write-d Inv-loop μ-loop
 array-write-d c = omega arith
 
--- src/level.rt:15:9
 add-i : tie.Need-add-i Inv-loop μ-loop
 add-i c = omega arith
 
--- src/level.rt:15:5
 loop-less : tie.Need-loop-less Inv-loop μ-loop
 loop-less c = omega arith
 
--- src/level.rt:15:5
 loop-again : tie.Need-loop-again Inv-loop μ-loop
 loop-again c =
     let l = c .before .loop in
     let w = c .before .before .args .t1 in
     (omega arith, simp length-set (omega arith), omega arith, rw (l .inv .3) (data-turn (replicate 40 0) w (l .i) refl (l .inv .2) (omega arith)), refl)
 
--- src/level.rt:11:1
 returns : tie.Need-returns Inv-loop μ-loop
 returns c =
     let l = c .before .loop in

@@ -7,8 +7,6 @@ use Rattle.selection.specs.Level.{firstCollided}
 use Rattle.selection.specs.LevelLaws.{first-next, first-here, first-done}
 use Rattle.selection.proofs.level.first_collided.Statement.{statement}
 use Rattle.selection.proofs.level.first_collided.Tie as tie
-use Rattle.selection.proofs.level.first_collided.Reads as reads
-use Rattle.selection.proofs.level.first_collided.Lts as lts
 
 abbrev Inv-loop : tie.InvT-loop
 Inv-loop h i₀ i-end i = (i ≤ length h) × (i + firstCollided (drop i h) ≡ firstCollided h)
@@ -16,37 +14,30 @@ Inv-loop h i₀ i-end i = (i ≤ length h) × (i + firstCollided (drop i h) ≡ 
 abbrev μ-loop : tie.MeasureT-loop
 μ-loop h i₀ i-end i = length h - i
 
--- src/level.rt:25:5
 loop-holds : tie.Need-loop-holds Inv-loop μ-loop
 loop-holds c = (omega arith, omega arith)
 
--- src/level.rt:26:12
 shared-slice-read-if1 : tie.Need-shared-slice-read-if1 Inv-loop μ-loop
 shared-slice-read-if1 c = omega arith
 
--- src/level.rt:27:13
 returns : tie.Need-returns Inv-loop μ-loop
 returns c =
     let l = c .before .before .before .loop in
     let h = now (c .before .before .before .before .args .h) in
     omega (arith, first-here h (l .i) (omega arith) (omega arith), l .inv .1)
 
--- src/level.rt:25:9
 add-i : tie.Need-add-i Inv-loop μ-loop
 add-i c = omega arith
 
--- src/level.rt:25:5
 loop-less : tie.Need-loop-less Inv-loop μ-loop
 loop-less c = omega arith
 
--- src/level.rt:25:5
 loop-again : tie.Need-loop-again Inv-loop μ-loop
 loop-again c =
     let l = c .before .before .before .loop in
     let h = now (c .before .before .before .before .args .h) in
     (omega arith, sym (first-next h (l .i) (omega arith) (omega arith)) ∙ l .inv .1)
 
--- src/level.rt:22:1
 returns-2 : tie.Need-returns-2 Inv-loop μ-loop
 returns-2 c =
     let l = c .before .loop in

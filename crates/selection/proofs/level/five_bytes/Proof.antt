@@ -14,9 +14,6 @@ use Rattle.frame.specs.ByteLaws.{length-bytes}
 use Rattle.selection.specs.LevelLaws.{bytes-turn}
 use Rattle.selection.proofs.level.five_bytes.Statement.{statement}
 use Rattle.selection.proofs.level.five_bytes.Tie as tie
-use Rattle.selection.proofs.level.five_bytes.Reads as reads
-use Rattle.selection.proofs.level.five_bytes.Lts as lts
-use Rattle.parity.proofs.within.byte_at.Reads as byte-at-reads
 
 abbrev Inv-loop : tie.InvT-loop
 Inv-loop e five₀ i₀ five i = (i ≤ 5) × (length five ≡ 5) × (length e ≡ 40) × (clean e ≡ true) × (five ≡ overlay five₀ 0 (take i (bytesOf 5 e))) × (length five₀ ≡ 5)
@@ -24,38 +21,30 @@ Inv-loop e five₀ i₀ five i = (i ≤ 5) × (length five ≡ 5) × (length e �
 abbrev μ-loop : tie.MeasureT-loop
 μ-loop e five₀ i₀ five i = 5 - i
 
--- src/level.rt:52:5
 loop-holds : tie.Need-loop-holds Inv-loop μ-loop
 loop-holds c = (omega arith, search needs, search needs, search needs, sym (overlay-nil _ _), search needs)
 
--- src/level.rt:53:43
 slice-aggregate-byte-at : tie.Need-slice-aggregate-byte-at Inv-loop μ-loop
 slice-aggregate-byte-at c = omega arith
 
--- src/level.rt:53:47
 mul-byte-at : tie.Need-mul-byte-at Inv-loop μ-loop
 mul-byte-at c = omega arith
 
--- src/level.rt:53:19
 byte-at-requires : tie.Need-byte-at-requires Inv-loop μ-loop
 byte-at-requires c κs =
     let l = c .before .before .loop in
     let e = c .before .before .before .args .t1 in
     (omega arith, clean-take 8 (drop (8 * l .i) e) (clean-drop (8 * l .i) e (l .inv .3)))
 
--- src/level.rt:53:9
 array-write-five : tie.Need-array-write-five Inv-loop μ-loop
 array-write-five c = omega arith
 
--- src/level.rt:52:9
 add-i : tie.Need-add-i Inv-loop μ-loop
 add-i c = omega arith
 
--- src/level.rt:52:5
 loop-less : tie.Need-loop-less Inv-loop μ-loop
 loop-less c = omega arith
 
--- src/level.rt:52:5
 loop-again : tie.Need-loop-again Inv-loop μ-loop
 loop-again c =
     let l = c .before .before .before .loop in
@@ -68,7 +57,6 @@ loop-again c =
       refl,
     )
 
--- src/level.rt:47:1
 returns : tie.Need-returns Inv-loop μ-loop
 returns c =
     let l = c .before .loop in

@@ -5,37 +5,27 @@ use Rattle.selection.specs.LevelLaws.{first-le, known-clean, known-clash
 use borrow.Author.Needs.{needs}
 use Rattle.selection.proofs.level.known_bits.Statement.{statement}
 use Rattle.selection.proofs.level.known_bits.Tie as tie
-use Rattle.selection.proofs.level.known_bits.Reads as reads
-use Rattle.selection.proofs.level.known_bits.Lts as lts
-use Rattle.rows.proofs.within.put.Reads as put-reads
 
--- src/level.rt:39:23
 slice-aggregate-put : tie.Need-slice-aggregate-put
 slice-aggregate-put c = search needs
 
--- src/level.rt:39:34
 array-share-prefix-d : tie.Need-array-share-prefix-d
 array-share-prefix-d c = omega (arith, first-le (c .before .args .t1))
 
--- src/level.rt:39:34
 slice-aggregate-put-2 : tie.Need-slice-aggregate-put-2
 slice-aggregate-put-2 c = let n : length (c .before .before .args .t1) ≡ 40 = search needs in rw length-take (omega (arith, first-le (c .before .before .args .t1)))
 
--- src/level.rt:39:5
 put-requires : tie.Need-put-requires
 put-requires c κs = let n : length (c .before .before .args .t1) ≡ 40 = search needs in rw length-take (omega (arith, first-le (c .before .before .args .t1)))
 
--- src/level.rt:41:9
 array-write-e : tie.Need-array-write-e
 array-write-e c = search needs
 
--- src/level.rt:34:1
 returns : tie.Need-returns
 returns c =
     let a = c .before .before .before .before .before .args in
     known-clash (a .t1) _ (a .p) (search needs) (search needs) (search needs) (c .before .before .put .ensures)
 
--- src/level.rt:34:1
 returns-2 : tie.Need-returns-2
 returns-2 c =
     let a = c .before .before .before .before .before .args in

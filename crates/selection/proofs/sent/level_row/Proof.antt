@@ -4,23 +4,16 @@ use Rattle.selection.specs.SentLaws.{made}
 use borrow.Author.Needs.{needs}
 use Rattle.selection.proofs.sent.level_row.Statement.{statement}
 use Rattle.selection.proofs.sent.level_row.Tie as tie
-use Rattle.selection.proofs.sent.level_row.Reads as reads
-use Rattle.selection.proofs.sent.level_row.Lts as lts
-use Rattle.frame.proofs.within.put_bytes.Reads as put-bytes-reads
 
--- src/sent.rt:81:30
 slice-aggregate-put-bytes : tie.Need-slice-aggregate-put-bytes
 slice-aggregate-put-bytes c = search needs
 
--- src/sent.rt:81:43
 slice-aggregate-put-bytes-2 : tie.Need-slice-aggregate-put-bytes-2
 slice-aggregate-put-bytes-2 c = search needs
 
--- src/sent.rt:81:5
 put-bytes-requires : tie.Need-put-bytes-requires
 put-bytes-requires c κs = search needs
 
--- src/sent.rt:77:1
 returns : tie.Need-returns
 returns c = let n : length (c .before .before .before .before .args .t1) ≡ 5 = search needs in made _ (replicate 45 0) _ _ (rw n) refl (c .before .put-bytes .ensures)
 

@@ -4,10 +4,7 @@ use Rattle.frame.specs.Frame.{short}
 use Rattle.selection.specs.Selection.{reqa}
 use Rattle.selection.proofs.sent.reqa.Statement.{statement}
 use Rattle.selection.proofs.sent.reqa.Tie as tie
-use Rattle.selection.proofs.sent.reqa.Reads as reads
-use Rattle.selection.proofs.sent.reqa.Lts as lts
 
--- src/sent.rt:12:1
 returns : tie.Need-returns
 unfolding reqa short bitsOf
 returns c = refl

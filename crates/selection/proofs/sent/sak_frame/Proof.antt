@@ -6,40 +6,28 @@ use Rattle.selection.specs.SentLaws.{made, with-crc}
 use borrow.Author.Needs.{needs}
 use Rattle.selection.proofs.sent.sak_frame.Statement.{statement}
 use Rattle.selection.proofs.sent.sak_frame.Tie as tie
-use Rattle.selection.proofs.sent.sak_frame.Reads as reads
-use Rattle.selection.proofs.sent.sak_frame.Lts as lts
-use Rattle.crc.proofs.crc_bytes.Reads as crc-bytes-reads
-use Rattle.frame.proofs.within.put_bytes.Reads as put-bytes-reads
 
--- src/sent.rt:60:30
 slice-aggregate-crc-bytes : tie.Need-slice-aggregate-crc-bytes
 slice-aggregate-crc-bytes c = search needs
 
--- src/sent.rt:60:15
 crc-bytes-requires : tie.Need-crc-bytes-requires
 crc-bytes-requires c κs = search needs
 
--- src/sent.rt:61:23
 array-read-t11 : tie.Need-array-read-t11
 array-read-t11 c = search needs
 
--- src/sent.rt:61:31
 array-read-t14 : tie.Need-array-read-t14
 array-read-t14 c = search needs
 
--- src/sent.rt:63:30
 slice-aggregate-put-bytes : tie.Need-slice-aggregate-put-bytes
 slice-aggregate-put-bytes c = search needs
 
--- src/sent.rt:63:43
 slice-aggregate-put-bytes-2 : tie.Need-slice-aggregate-put-bytes-2
 slice-aggregate-put-bytes-2 c = search needs
 
--- src/sent.rt:63:5
 put-bytes-requires : tie.Need-put-bytes-requires
 put-bytes-requires c κs = search needs
 
--- src/sent.rt:56:1
 returns : tie.Need-returns
 unfolding sakFrame
 returns c = made _ (replicate 27 0) _ _ refl (with-crc (c .before .before .before .before .before .before .args .sak ∷ []) (c .before .before .before .before .crc-bytes .result) (c .before .before .before .before .crc-bytes .ensures)) (c .before .put-bytes .ensures)

@@ -8,69 +8,49 @@ use Rattle.selection.specs.SentLaws.{made-two, with-crc-whole, five-list
 use borrow.Author.Needs.{needs}
 use Rattle.selection.proofs.sent.select.Statement.{statement}
 use Rattle.selection.proofs.sent.select.Tie as tie
-use Rattle.selection.proofs.sent.select.Reads as reads
-use Rattle.selection.proofs.sent.select.Lts as lts
-use Rattle.crc.proofs.crc_bytes.Reads as crc-bytes-reads
-use Rattle.frame.proofs.within.put_bytes.Reads as put-bytes-reads
-use Rattle.selection.proofs.numbers.sel.Reads as sel-reads
 
--- src/sent.rt:88:9
 sel-requires : tie.Need-sel-requires
 sel-requires c κs = search needs
 
--- src/sent.rt:89:26
 array-read-t10 : tie.Need-array-read-t10
 array-read-t10 c = search needs
 
--- src/sent.rt:89:35
 array-read-t13 : tie.Need-array-read-t13
 array-read-t13 c = search needs
 
--- src/sent.rt:89:44
 array-read-t16 : tie.Need-array-read-t16
 array-read-t16 c = search needs
 
--- src/sent.rt:89:53
 array-read-t19 : tie.Need-array-read-t19
 array-read-t19 c = search needs
 
--- src/sent.rt:89:62
 array-read-t22 : tie.Need-array-read-t22
 array-read-t22 c = search needs
 
--- src/sent.rt:90:30
 slice-aggregate-crc-bytes : tie.Need-slice-aggregate-crc-bytes
 slice-aggregate-crc-bytes c = search needs
 
--- src/sent.rt:90:15
 crc-bytes-requires : tie.Need-crc-bytes-requires
 crc-bytes-requires c κs = search needs
 
--- src/sent.rt:92:30
 slice-aggregate-put-bytes : tie.Need-slice-aggregate-put-bytes
 slice-aggregate-put-bytes c = search needs
 
--- src/sent.rt:92:43
 slice-aggregate-put-bytes-2 : tie.Need-slice-aggregate-put-bytes-2
 slice-aggregate-put-bytes-2 c = search needs
 
--- src/sent.rt:92:5
 put-bytes-requires : tie.Need-put-bytes-requires
 put-bytes-requires c κs = search needs
 
--- src/sent.rt:93:30
 slice-aggregate-put-bytes-3 : tie.Need-slice-aggregate-put-bytes-3
 slice-aggregate-put-bytes-3 c = search needs
 
--- src/sent.rt:93:44
 slice-aggregate-put-bytes-4 : tie.Need-slice-aggregate-put-bytes-4
 slice-aggregate-put-bytes-4 c = search needs
 
--- src/sent.rt:93:5
 put-bytes-requires-2 : tie.Need-put-bytes-requires-2
 put-bytes-requires-2 c κs = search needs
 
--- src/sent.rt:85:1
 returns : tie.Need-returns
 unfolding select
 returns c =

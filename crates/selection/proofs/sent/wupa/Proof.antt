@@ -4,10 +4,7 @@ use Rattle.frame.specs.Frame.{short}
 use Rattle.selection.specs.Selection.{wupa}
 use Rattle.selection.proofs.sent.wupa.Statement.{statement}
 use Rattle.selection.proofs.sent.wupa.Tie as tie
-use Rattle.selection.proofs.sent.wupa.Reads as reads
-use Rattle.selection.proofs.sent.wupa.Lts as lts
 
--- src/sent.rt:18:1
 returns : tie.Need-returns
 unfolding wupa short bitsOf
 returns c = refl

@@ -10,37 +10,25 @@ use Rattle.selection.specs.SentLaws.{anti-length}
 use borrow.Author.Needs.{needs}
 use Rattle.selection.proofs.split.is_anticollision.Statement.{statement}
 use Rattle.selection.proofs.split.is_anticollision.Tie as tie
-use Rattle.selection.proofs.split.is_anticollision.Reads as reads
-use Rattle.selection.proofs.split.is_anticollision.Lts as lts
-use Rattle.rows.proofs.is_same.Reads as is-same-reads
-use Rattle.selection.proofs.split.anticollision_bits.Reads as anticollision-bits-reads
-use Rattle.selection.proofs.within.put_anticollision.Reads as put-anticollision-reads
 
--- src/split.rt:33:35
 slice-aggregate-put-anticollision : tie.Need-slice-aggregate-put-anticollision
 slice-aggregate-put-anticollision c = search needs
 
--- src/split.rt:33:5
 put-anticollision-requires : tie.Need-put-anticollision-requires
 put-anticollision-requires c κs = search needs
 
--- src/split.rt:34:9
 anticollision-bits-requires : tie.Need-anticollision-bits-requires
 anticollision-bits-requires c κs = search needs
 
--- src/split.rt:35:24
 array-share-prefix-space : tie.Need-array-share-prefix-space
 array-share-prefix-space c = search needs
 
--- src/split.rt:35:24
 slice-aggregate-is-same : tie.Need-slice-aggregate-is-same
 slice-aggregate-is-same c = rw length-take (omega (arith, c .before .before .before .put-anticollision .kept .1 .1 .1 .0))
 
--- src/split.rt:35:5
 is-same-requires : tie.Need-is-same-requires
 is-same-requires c κs = search needs
 
--- src/split.rt:29:1
 returns : tie.Need-returns
 returns c =
     let a = c .before .before .before .before .before .before .before .args in

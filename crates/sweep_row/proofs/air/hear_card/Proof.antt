@@ -1,7 +1,7 @@
 use Prim.Native.Nat.{_≤_}
-use mathlib.Core.Path.{_≡_, refl, sym, ap, ap₂, subst, _∙_}
+use mathlib.Core.Path.{_≡_, sym, ap, ap₂, subst, _∙_}
 use native.Mathlib.Omega.{arith}
-use lib.ListN.{length, take, length-take}
+use lib.ListN.{length, length-take}
 use Rattle.rows.specs.Rows.{overlay}
 use Rattle.field.specs.Merge.{join}
 use Rattle.card.specs.Card.{takes, answers}
@@ -23,12 +23,16 @@ frame-bits-requires c κs = search needs
 
 array-share-prefix-frame : tie.Need-array-share-prefix-frame
 array-share-prefix-frame c =
-    let u : Front (frame (c .before .before .before .before .before .args .r)) (c .before .frame-bits .result) (c .before .before .before .put-frame .last .1 .0) = front-of _ _ _ _ (c .before .frame-bits .ensures) (c .before .before .before .put-frame .ensures) in
+    let b = c .before .frame-bits in
+    let w = c .before .before .before .put-frame in
+    let u : Front (frame (c .before .before .before .before .before .args .r)) (b .result) (w .last .1 .0) = front-of _ _ _ _ (b .ensures) (w .ensures) in
     u .fits
 
 slice-aggregate-take-one : tie.Need-slice-aggregate-take-one
 slice-aggregate-take-one c =
-    let u : Front (frame (c .before .before .before .before .before .before .args .r)) (c .before .before .frame-bits .result) (c .before .before .before .before .put-frame .last .1 .0) = front-of _ _ _ _ (c .before .before .frame-bits .ensures) (c .before .before .before .before .put-frame .ensures) in
+    let b = c .before .before .frame-bits in
+    let w = c .before .before .before .before .put-frame in
+    let u : Front (frame (c .before .before .before .before .before .before .args .r)) (b .result) (w .last .1 .0) = front-of _ _ _ _ (b .ensures) (w .ensures) in
     rw length-take (omega (arith, u .fits))
 
 slice-aggregate-take-one-2 : tie.Need-slice-aggregate-take-one-2
@@ -42,12 +46,14 @@ take-one-requires c κs =
 returns : tie.Need-returns
 unfolding heardCard heardWith
 returns c =
-    let u : Front (frame (c .before .before .before .before .before .before .before .before .before .before .args .r)) (c .before .before .before .before .before .before .frame-bits .result) (c .before .before .before .before .before .before .before .before .put-frame .last .1 .0) = front-of _ _ _ _ (c .before .before .before .before .before .before .frame-bits .ensures) (c .before .before .before .before .before .before .before .before .put-frame .ensures) in
+    let a = c .before .before .before .before .before .before .before .before .before .before .args in
+    let w = c .before .before .before .before .before .before .before .before .put-frame in
+    let u : Front (frame (a .r)) (c .before .before .before .before .before .before .frame-bits .result) (w .last .1 .0) = front-of _ _ _ _ (c .before .before .before .before .before .before .frame-bits .ensures) (w .ensures) in
     ap₂ (λ k b. record { card = k; air = b })
-    (ap (λ o. o .card) (c .before .before .take-one .ensures .0) ∙ ap (takes (c .before .before .before .before .before .before .before .before .before .before .args .c)) (u .bits))
+    (ap (λ o. o .card) (c .before .before .take-one .ensures .0) ∙ ap (takes (a .c)) (u .bits))
     (ap₂ (λ d m. record { heard = d; bits = m })
-    (c .before .before .take-one .ensures .1 ∙ ap (λ f. overlay (c .before .before .before .before .before .before .before .before .before .before .args .a .heard) 0 (join (answers (c .before .before .before .before .before .before .before .before .before .before .args .c) f) (heardIn (c .before .before .before .before .before .before .before .before .before .before .args .a)))) (u .bits))
-    (ap (λ o. o .bits) (c .before .before .take-one .ensures .0) ∙ ap (λ f. length (join (answers (c .before .before .before .before .before .before .before .before .before .before .args .c) f) (heardIn (c .before .before .before .before .before .before .before .before .before .before .args .a)))) (u .bits)))
+    (c .before .before .take-one .ensures .1 ∙ ap (λ f. overlay (a .a .heard) 0 (join (answers (a .c) f) (heardIn (a .a)))) (u .bits))
+    (ap (λ o. o .bits) (c .before .before .take-one .ensures .0) ∙ ap (λ f. length (join (answers (a .c) f) (heardIn (a .a)))) (u .bits)))
 
 pub hear-card-spec : {M : Type 1} → statement M
 hear-card-spec =

@@ -1,8 +1,8 @@
 use lib.Seq.{length-take-le}
-use mathlib.Core.Path.{_≡_, refl, sym, ap, ap₂, _∙_}
+use mathlib.Core.Path.{_≡_, sym, ap₂}
 use native.Mathlib.Omega.{arith}
-use lib.ListN.{length, take, length-take}
-use Rattle.reader.specs.Reader.{frame, hear}
+use lib.ListN.{length, length-take}
+use Rattle.reader.specs.Reader.{frame}
 use Rattle.sweep_steps.specs.ExchangeLaws.{Front, front-of}
 use Rattle.sweep_steps.specs.FrameLaws.{frame-clean}
 use Rattle.sweep_row.specs.Row.{exchangeWith, turnWith, exchangedWith}
@@ -20,10 +20,16 @@ frame-bits-requires : tie.Need-frame-bits-requires
 frame-bits-requires c κs = search needs
 
 array-share-prefix-frame : tie.Need-array-share-prefix-frame
-array-share-prefix-frame c = let u : Front (frame (c .before .before .before .before .before .before .before .args .r)) (c .before .before .frame-bits .result) (c .before .before .before .before .put-frame .last .1 .0) = front-of _ _ _ _ (c .before .before .frame-bits .ensures) (c .before .before .before .before .put-frame .ensures) in u .fits
+array-share-prefix-frame c =
+    let b = c .before .before .frame-bits in
+    let w = c .before .before .before .before .put-frame in
+    let u : Front (frame (c .before .before .before .before .before .before .before .args .r)) (b .result) (w .last .1 .0) = front-of _ _ _ _ (b .ensures) (w .ensures) in u .fits
 
 slice-aggregate-put-exchange : tie.Need-slice-aggregate-put-exchange
-slice-aggregate-put-exchange c = let u : Front (frame (c .before .before .before .before .before .before .before .before .args .r)) (c .before .before .before .frame-bits .result) (c .before .before .before .before .before .put-frame .last .1 .0) = front-of _ _ _ _ (c .before .before .before .frame-bits .ensures) (c .before .before .before .before .before .put-frame .ensures) in rw length-take (omega (arith, u .fits))
+slice-aggregate-put-exchange c =
+    let b = c .before .before .before .frame-bits in
+    let w = c .before .before .before .before .before .put-frame in
+    let u : Front (frame (c .before .before .before .before .before .before .before .before .args .r)) (b .result) (w .last .1 .0) = front-of _ _ _ _ (b .ensures) (w .ensures) in rw length-take (omega (arith, u .fits))
 
 array-share-prefix-heard : tie.Need-array-share-prefix-heard
 array-share-prefix-heard c = c .before .before .before .before .before .before .before .before .pre .0
@@ -34,9 +40,13 @@ slice-aggregate-put-exchange-2 c = sym (length-take-le _ _ (c .before .before .b
 put-exchange-requires : tie.Need-put-exchange-requires
 unfolding exchangeWith
 put-exchange-requires c κs =
-    let forty-five : length (c .before .before .before .before .before .before .before .before .before .args .a .heard) ≡ 45 = search needs in
-    let u : Front (frame (c .before .before .before .before .before .before .before .before .before .args .r)) (c .before .before .before .before .frame-bits .result) (c .before .before .before .before .before .before .put-frame .last .1 .0) = front-of _ _ _ _ (c .before .before .before .before .frame-bits .ensures) (c .before .before .before .before .before .before .put-frame .ensures) in
-    (rw (u .bits) (frame-clean (c .before .before .before .before .before .before .before .before .before .args .r)), rw length-take (omega (arith, u .fits, c .before .before .before .before .before .before .put-frame .kept .1 .0)), rw length-take (omega (arith, c .before .before .before .before .before .before .before .before .before .pre .0, forty-five)), rw (u .bits) (c .before .before .before .before .before .before .before .before .before .pre .1))
+    let a = c .before .before .before .before .before .before .before .before .before .args in
+    let q = c .before .before .before .before .before .before .before .before .before .pre in
+    let b = c .before .before .before .before .frame-bits in
+    let w = c .before .before .before .before .before .before .put-frame in
+    let forty-five : length (a .a .heard) ≡ 45 = search needs in
+    let u : Front (frame (a .r)) (b .result) (w .last .1 .0) = front-of _ _ _ _ (b .ensures) (w .ensures) in
+    (rw (u .bits) (frame-clean (a .r)), rw length-take (omega (arith, u .fits, w .kept .1 .0)), rw length-take (omega (arith, q .0, forty-five)), rw (u .bits) (q .1))
 
 array-share-prefix-heard-2 : tie.Need-array-share-prefix-heard-2
 array-share-prefix-heard-2 c = c .before .before .before .before .before .before .before .before .before .before .before .before .pre .0
@@ -52,8 +62,11 @@ same-length c = search needs
 
 returns : tie.Need-returns
 unfolding exchangedWith exchangeWith turnWith
-returns c = let u : Front (frame (c .before .before .before .before .before .before .before .before .before .before .before .before .before .before .args .r)) (c .before .before .before .before .before .before .before .before .before .frame-bits .result) (c .before .before .before .before .before .before .before .before .before .before .before .put-frame .last .1 .0) = front-of _ _ _ _ (c .before .before .before .before .before .before .before .before .before .frame-bits .ensures) (c .before .before .before .before .before .before .before .before .before .before .before .put-frame .ensures) in
-    (ap₂ (λ t b. record { turn = t; bytes = b }) (c .hear-rules .ensures) (rw (u .bits) at (c .before .before .before .before .put-exchange .ensures .0)), rw (u .bits) at (c .before .before .before .before .put-exchange .ensures .1))
+returns c =
+    let w = c .before .before .before .before .before .before .before .before .before .before .before .put-frame in
+    let x = c .before .before .before .before .put-exchange in
+    let u : Front (frame (c .before .before .before .before .before .before .before .before .before .before .before .before .before .before .args .r)) (c .before .before .before .before .before .before .before .before .before .frame-bits .result) (w .last .1 .0) = front-of _ _ _ _ (c .before .before .before .before .before .before .before .before .before .frame-bits .ensures) (w .ensures) in
+    (ap₂ (λ t b. record { turn = t; bytes = b }) (c .hear-rules .ensures) (rw (u .bits) at (x .ensures .0)), rw (u .bits) at (x .ensures .1))
 
 pub exchange-spec : {M : Type 1} → statement M
 exchange-spec =

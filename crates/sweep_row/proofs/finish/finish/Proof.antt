@@ -1,4 +1,4 @@
-use mathlib.Core.Path.{_≡_, refl, sym, ap, _∙_}
+use mathlib.Core.Path.{ap}
 use native.Mathlib.Omega.{arith}
 use lib.ListN.{length}
 use Rattle.sweep_steps.specs.Steps.{foundBy}
@@ -8,7 +8,9 @@ use Rattle.sweep_row.proofs.finish.finish.Statement.{statement}
 use Rattle.sweep_row.proofs.finish.finish.Tie as tie
 
 exchange-requires : tie.Need-exchange-requires
-exchange-requires c κs = (c .before .before .before .before .pre .bits, c .before .before .before .before .pre .log-room)
+exchange-requires c κs =
+    let q = c .before .before .before .before .pre in
+    (q .bits, q .log-room)
 
 mul-put-found : tie.Need-mul-put-found
 mul-put-found c = search needs
@@ -36,7 +38,10 @@ same-length-2 c = search needs
 
 returns : tie.Need-returns
 unfolding finished exchangedWith
-returns c = (rw (c .before .before .before .before .before .before .put-found .ensures .0, c .before .before .before .before .before .before .before .before .before .before .before .before .exchange .ensures .0), (c .before .before .before .before .before .before .before .before .before .before .before .before .exchange .ensures .1, rw (c .before .before .before .before .before .before .before .before .before .before .before .before .exchange .ensures .0) at (c .before .before .before .before .before .before .put-found .ensures .1 .0)))
+returns c =
+    let g = c .before .before .before .before .before .before .put-found in
+    let x = c .before .before .before .before .before .before .before .before .before .before .before .before .exchange in
+    (rw (g .ensures .0, x .ensures .0), (x .ensures .1, rw (x .ensures .0) at (g .ensures .1 .0)))
 
 pub finish-spec : {M : Type 1} → statement M
 finish-spec =

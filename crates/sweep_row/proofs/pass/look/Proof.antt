@@ -1,5 +1,4 @@
-use mathlib.Core.Path.{_≡_, ap, sym, _∙_}
-use mathlib.Core.Bool.{true}
+use mathlib.Core.Path.{ap, _∙_}
 use borrow.Author.Tests.{eq-eqb, ne-eqb}
 use Rattle.sweep_row.specs.Row.{looked}
 use borrow.Author.Needs.{needs}
@@ -14,14 +13,18 @@ decide-requires c κs = search needs
 
 returns : tie.Need-returns
 unfolding looked
-returns c = (rw (eq-eqb _ _ (c .before .if1 .taken), c .decide .ensures, c .before .before .before .see-card .ensures .0), λ e. c .before .before .before .see-card .ensures .1 (ap (λ s. s .fits) (c .before .before .before .see-card .ensures .0) ∙ e))
+returns c =
+    let v = c .before .before .before .see-card in
+    (rw (eq-eqb _ _ (c .before .if1 .taken), c .decide .ensures, v .ensures .0), λ e. v .ensures .1 (ap (λ s. s .fits) (v .ensures .0) ∙ e))
 
 back-requires : tie.Need-back-requires
 back-requires c κs = search needs
 
 returns-2 : tie.Need-returns-2
 unfolding looked
-returns-2 c = (rw (ne-eqb _ _ (c .before .if1 .left), c .back .ensures, c .before .before .before .see-card .ensures .0), λ e. c .before .before .before .see-card .ensures .1 (ap (λ s. s .fits) (c .before .before .before .see-card .ensures .0) ∙ e))
+returns-2 c =
+    let v = c .before .before .before .see-card in
+    (rw (ne-eqb _ _ (c .before .if1 .left), c .back .ensures, v .ensures .0), λ e. v .ensures .1 (ap (λ s. s .fits) (v .ensures .0) ∙ e))
 
 pub look-spec : {M : Type 1} → statement M
 look-spec = tie.close (tie.spec see-card-requires decide-requires returns back-requires returns-2)

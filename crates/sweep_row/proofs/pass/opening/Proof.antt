@@ -1,4 +1,6 @@
-use mathlib.Core.Path.{_≡_, refl, sym, _∙_}
+use Rattle.reader.specs.Reader.{isNew}
+use mathlib.Core.Bool.{true}
+use mathlib.Core.Path.{_≡_, sym, _∙_}
 use borrow.Author.Tests.{not-true, not-false}
 use denote.Ref.{now}
 use Rattle.sweep_row.proofs.Opening.{opens-not-due, opens-no-log, opens-no-list, opens-too-many, empty-log-fits, empty-list-fits, opens-empty, opens-looks}
@@ -16,7 +18,9 @@ stopped-requires : tie.Need-stopped-requires
 stopped-requires c κs = search needs
 
 returns : tie.Need-returns
-returns c = opens-not-due (c .before .before .before .before .before .before .args .r) (c .before .before .before .before .before .before .args .n) (now (c .before .before .before .before .before .before .args .log)) (now (c .before .before .before .before .before .before .args .list)) (c .stopped .result) _ (c .before .refused .result) (c .before .refused .ensures) (c .stopped .ensures) refl (sym (c .before .before .before .is-new .ensures) ∙ not-true _ (c .before .before .if1 .taken))
+returns c =
+    let a = c .before .before .before .before .before .before .args in
+    opens-not-due (a .r) (a .n) (now (a .log)) (now (a .list)) (c .stopped .result) (c .before .refused .result) (c .stopped .ensures) (c .before .refused .ensures) (sym (c .before .before .before .is-new .ensures) ∙ not-true _ (c .before .before .if1 .taken))
 
 refused-requires-2 : tie.Need-refused-requires-2
 refused-requires-2 c κs = search needs
@@ -25,7 +29,10 @@ stopped-requires-2 : tie.Need-stopped-requires-2
 stopped-requires-2 c κs = search needs
 
 returns-2 : tie.Need-returns-2
-returns-2 c = opens-no-log (c .before .before .before .before .before .before .before .args .r) (c .before .before .before .before .before .before .before .args .n) (now (c .before .before .before .before .before .before .before .args .log)) (now (c .before .before .before .before .before .before .before .args .list)) (c .stopped2 .result) _ (c .before .refused2 .result) (c .before .refused2 .ensures) (c .stopped2 .ensures) (sym (c .before .before .before .before .is-new .ensures) ∙ not-false _ (c .before .before .before .if1 .left)) refl (c .before .before .if2 .taken)
+returns-2 c =
+    let a = c .before .before .before .before .before .before .before .args in
+    let new : isNew (a .r .phase) ≡ true = sym (c .before .before .before .before .is-new .ensures) ∙ not-false _ (c .before .before .before .if1 .left) in
+    opens-no-log (a .r) (a .n) (now (a .log)) (now (a .list)) (c .stopped2 .result) (c .before .refused2 .result) (c .stopped2 .ensures) new (c .before .refused2 .ensures) (c .before .before .if2 .taken)
 
 refused-requires-3 : tie.Need-refused-requires-3
 refused-requires-3 c κs = search needs
@@ -34,7 +41,10 @@ stopped-requires-3 : tie.Need-stopped-requires-3
 stopped-requires-3 c κs = search needs
 
 returns-3 : tie.Need-returns-3
-returns-3 c = opens-no-list (c .before .before .before .before .before .before .before .before .args .r) (c .before .before .before .before .before .before .before .before .args .n) (now (c .before .before .before .before .before .before .before .before .args .log)) (now (c .before .before .before .before .before .before .before .before .args .list)) (c .stopped3 .result) _ (c .before .refused3 .result) (c .before .refused3 .ensures) (c .stopped3 .ensures) (sym (c .before .before .before .before .before .is-new .ensures) ∙ not-false _ (c .before .before .before .before .if1 .left)) (c .before .before .before .if2 .left) refl (c .before .before .if3 .taken)
+returns-3 c =
+    let a = c .before .before .before .before .before .before .before .before .args in
+    let new : isNew (a .r .phase) ≡ true = sym (c .before .before .before .before .before .is-new .ensures) ∙ not-false _ (c .before .before .before .before .if1 .left) in
+    opens-no-list (a .r) (a .n) (now (a .log)) (now (a .list)) (c .stopped3 .result) (c .before .refused3 .result) (c .stopped3 .ensures) new (c .before .before .before .if2 .left) (c .before .refused3 .ensures) (c .before .before .if3 .taken)
 
 refused-requires-4 : tie.Need-refused-requires-4
 refused-requires-4 c κs = search needs
@@ -43,10 +53,18 @@ stopped-requires-4 : tie.Need-stopped-requires-4
 stopped-requires-4 c κs = search needs
 
 returns-4 : tie.Need-returns-4
-returns-4 c = opens-too-many (c .before .before .before .before .before .before .before .before .before .args .r) (c .before .before .before .before .before .before .before .before .before .args .n) (now (c .before .before .before .before .before .before .before .before .before .args .log)) (now (c .before .before .before .before .before .before .before .before .before .args .list)) (c .stopped4 .result) _ (c .before .refused4 .result) (c .before .refused4 .ensures) (c .stopped4 .ensures) (sym (c .before .before .before .before .before .before .is-new .ensures) ∙ not-false _ (c .before .before .before .before .before .if1 .left)) (c .before .before .before .before .if2 .left) refl (c .before .before .before .if3 .left) (c .before .before .if4 .taken)
+returns-4 c =
+    let a = c .before .before .before .before .before .before .before .before .before .args in
+    let new : isNew (a .r .phase) ≡ true = sym (c .before .before .before .before .before .before .is-new .ensures) ∙ not-false _ (c .before .before .before .before .before .if1 .left) in
+    opens-too-many (a .r) (a .n) (now (a .log)) (now (a .list)) (c .stopped4 .result) (c .before .refused4 .result) (c .stopped4 .ensures) new (c .before .before .before .before .if2 .left) (c .before .before .before .if3 .left) (c .before .refused4 .ensures) (c .before .before .if4 .taken)
 
 empty-requires : tie.Need-empty-requires
-empty-requires c κs = (empty-log-fits (c .before .before .before .before .before .before .before .before .before .before .args .r) (c .before .before .before .before .before .before .before .before .before .before .args .n) (now (c .before .before .before .before .before .before .before .before .before .before .args .log)) (now (c .before .before .before .before .before .before .before .before .before .before .args .list)) (sym (c .before .before .before .before .before .before .before .is-new .ensures) ∙ not-false _ (c .before .before .before .before .before .before .if1 .left)) (c .before .before .before .before .before .if2 .left) (c .before .before .before .before .if3 .left), empty-list-fits (c .before .before .before .before .before .before .before .before .before .before .args .r) (c .before .before .before .before .before .before .before .before .before .before .args .n) (now (c .before .before .before .before .before .before .before .before .before .before .args .log)) (now (c .before .before .before .before .before .before .before .before .before .before .args .list)) (sym (c .before .before .before .before .before .before .before .is-new .ensures) ∙ not-false _ (c .before .before .before .before .before .before .if1 .left)) (c .before .before .before .before .before .if2 .left) (c .before .before .before .before .if3 .left))
+empty-requires c κs =
+    let a = c .before .before .before .before .before .before .before .before .before .before .args in
+    let new : isNew (a .r .phase) ≡ true = sym (c .before .before .before .before .before .before .before .is-new .ensures) ∙ not-false _ (c .before .before .before .before .before .before .if1 .left) in
+    let hlist = c .before .before .before .before .if3 .left in
+    let hlog = c .before .before .before .before .before .if2 .left in
+    (empty-log-fits (a .r) (a .n) (now (a .log)) (now (a .list)) new hlog hlist, empty-list-fits (a .r) (a .n) (now (a .log)) (now (a .list)) new hlog hlist)
 
 stopped-requires-5 : tie.Need-stopped-requires-5
 stopped-requires-5 c κs = search needs
@@ -58,13 +76,19 @@ same-length-2 : tie.Need-same-length-2
 same-length-2 c = search needs
 
 returns-5 : tie.Need-returns-5
-returns-5 c = opens-empty (c .before .before .before .before .before .before .before .before .before .before .before .before .before .before .before .before .args .r) (c .before .before .before .before .before .before .before .before .before .before .before .before .before .before .before .before .args .n) (now (c .before .before .before .before .before .before .before .before .before .before .before .before .before .before .before .before .args .log)) (now (c .before .before .before .before .before .before .before .before .before .before .before .before .before .before .before .before .args .list)) (sym (c .before .before .before .before .before .before .before .before .before .before .before .before .before .is-new .ensures) ∙ not-false _ (c .before .before .before .before .before .before .before .before .before .before .before .before .if1 .left)) (c .before .before .before .before .before .before .before .before .before .before .before .if2 .left) (c .before .before .before .before .before .before .before .before .before .before .if3 .left) (c .before .before .before .before .before .before .before .before .if5 .taken) (c .stopped5 .result) (c .before .before .before .before .before .empty .result) (c .stopped5 .ensures) (c .before .before .before .before .before .empty .ensures .0) _ _ (c .before .before .before .before .before .empty .ensures .1 .0) (c .before .before .before .before .before .empty .ensures .1 .1)
+returns-5 c =
+    let a = c .before .before .before .before .before .before .before .before .before .before .before .before .before .before .before .before .args in
+    let new : isNew (a .r .phase) ≡ true = sym (c .before .before .before .before .before .before .before .before .before .before .before .before .before .is-new .ensures) ∙ not-false _ (c .before .before .before .before .before .before .before .before .before .before .before .before .if1 .left) in
+    opens-empty (a .r) (a .n) (now (a .log)) (now (a .list)) new (c .before .before .before .before .before .before .before .before .before .before .before .if2 .left) (c .before .before .before .before .before .before .before .before .before .before .if3 .left) (c .before .before .before .before .before .before .before .before .if5 .taken) (c .stopped5 .result) (c .before .before .before .before .before .empty .result) (c .stopped5 .ensures) (c .before .before .before .before .before .empty .ensures .0) _ _ (c .before .before .before .before .before .empty .ensures .1 .0) (c .before .before .before .before .before .empty .ensures .1 .1)
 
 looks-requires : tie.Need-looks-requires
 looks-requires c κs = search needs
 
 returns-6 : tie.Need-returns-6
-returns-6 c = opens-looks (c .before .before .before .before .before .before .before .before .before .args .r) (c .before .before .before .before .before .before .before .before .before .args .n) (now (c .before .before .before .before .before .before .before .before .before .args .log)) (now (c .before .before .before .before .before .before .before .before .before .args .list)) (sym (c .before .before .before .before .before .before .is-new .ensures) ∙ not-false _ (c .before .before .before .before .before .if1 .left)) (c .before .before .before .before .if2 .left) (c .before .before .before .if3 .left) (c .before .before .if4 .left) (c .before .if5 .left) (c .looks .result) (c .looks .ensures)
+returns-6 c =
+    let a = c .before .before .before .before .before .before .before .before .before .args in
+    let new : isNew (a .r .phase) ≡ true = sym (c .before .before .before .before .before .before .is-new .ensures) ∙ not-false _ (c .before .before .before .before .before .if1 .left) in
+    opens-looks (a .r) (a .n) (now (a .log)) (now (a .list)) new (c .before .before .before .before .if2 .left) (c .before .before .before .if3 .left) (c .before .before .if4 .left) (c .before .if5 .left) (c .looks .result) (c .looks .ensures)
 
 pub opening-spec : {M : Type 1} → statement M
 opening-spec =

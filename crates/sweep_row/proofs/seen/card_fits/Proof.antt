@@ -8,7 +8,9 @@ is-within-requires : tie.Need-is-within-requires
 is-within-requires c κs = search needs
 
 returns : tie.Need-returns
-returns c = (c .is-within .ensures .0 ∙ alone-fits (c .before .args .c), λ e. alone-typed (c .before .args .c) (c .is-within .ensures .1 e))
+returns c =
+    let a = c .before .args in
+    (c .is-within .ensures .0 ∙ alone-fits (a .c), λ e. alone-typed (a .c) (c .is-within .ensures .1 e))
 
 pub card-fits-spec : {M : Type 1} → statement M
 card-fits-spec = tie.close (tie.spec is-within-requires returns)

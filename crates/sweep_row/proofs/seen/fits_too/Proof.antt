@@ -1,4 +1,4 @@
-use mathlib.Core.Path.{_≡_, sym, _∙_}
+use mathlib.Core.Path.{sym, _∙_}
 use mathlib.Core.Bool.{true, false, false≢true}
 use borrow.Author.Tests.{not-true, not-false}
 use Rattle.sweep_row.specs.Row.{seenWith}
@@ -25,7 +25,9 @@ is-alone-requires c κs = search needs
 
 returns-3 : tie.Need-returns-3
 unfolding seenWith
-returns-3 c = (rw (not-false (c .before .before .before .before .before .before .before .args .s .fits) (c .before .before .before .before .before .if1 .left), sym (c .before .before .before .before .card-fits .ensures .0) ∙ not-false _ (c .before .before .before .if2 .left)) (c .is-alone .ensures), λ e. c .before .before .before .before .card-fits .ensures .1 (not-false _ (c .before .before .before .if2 .left)))
+returns-3 c =
+    let k = c .before .before .before .before .card-fits in
+    (rw (not-false (c .before .before .before .before .before .before .before .args .s .fits) (c .before .before .before .before .before .if1 .left), sym (k .ensures .0) ∙ not-false _ (c .before .before .before .if2 .left)) (c .is-alone .ensures), λ e. k .ensures .1 (not-false _ (c .before .before .before .if2 .left)))
 
 pub fits-too-spec : {M : Type 1} → statement M
 fits-too-spec =

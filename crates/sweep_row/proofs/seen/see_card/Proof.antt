@@ -1,5 +1,3 @@
-use mathlib.Core.Path.{_≡_, ap, sym, _∙_}
-use lib.ListN.{set}
 use Rattle.sweep_row.specs.Row.{seenWith}
 use borrow.Author.Needs.{needs}
 use Rattle.sweep_row.proofs.seen.see_card.Statement.{statement}
@@ -16,7 +14,9 @@ array-set-from-uids c = search needs
 
 returns : tie.Need-returns
 unfolding seenWith
-returns c = (rw (c .before .before .fits-too .ensures .0), c .before .before .fits-too .ensures .1)
+returns c =
+    let k = c .before .before .fits-too in
+    (rw (k .ensures .0), k .ensures .1)
 
 pub see-card-spec : {M : Type 1} → statement M
 see-card-spec = tie.close (tie.spec fits-too-requires mul-uids array-set-from-uids returns)

@@ -1,8 +1,7 @@
-use mathlib.Core.Path.{refl, ap}
-use Rattle.sweep_row.specs.Row.{endRow}
+use mathlib.Core.Path.{ap}
 use borrow.Author.Needs.{needs}
-use Rattle.sweep_row.proofs.finish.empty.Statement.{statement}
-use Rattle.sweep_row.proofs.finish.empty.Tie as tie
+use Rattle.sweep_row.proofs.begin.empty.Statement.{statement}
+use Rattle.sweep_row.proofs.begin.empty.Tie as tie
 
 run-requires : tie.Need-run-requires
 run-requires c κs = search needs

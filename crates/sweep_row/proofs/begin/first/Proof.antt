@@ -1,8 +1,8 @@
 use Rattle.reader.specs.Reader.{sends}
 use Rattle.sweep_row.specs.Row.{firstRow}
 use borrow.Author.Needs.{needs}
-use Rattle.sweep_row.proofs.finish.first.Statement.{statement}
-use Rattle.sweep_row.proofs.finish.first.Tie as tie
+use Rattle.sweep_row.proofs.begin.first.Statement.{statement}
+use Rattle.sweep_row.proofs.begin.first.Tie as tie
 
 blank-requires : tie.Need-blank-requires
 blank-requires c κs = search needs

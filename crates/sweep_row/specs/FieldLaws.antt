@@ -1,0 +1,25 @@
+-- What the plain sweep's definition says of a row: over 16 cards are 6, any other row is the field, whole. Assumes nothing.
+use mathlib.Core.Path.{_≡_, refl}
+use Prim.Native.Nat.{ℕ}
+use mathlib.Core.Bool.{not, cond, _||_}
+use mathlib.Core.List.{List}
+use lib.ListN.{length}
+use lib.Dec.{ltb}
+use Rattle.reader.specs.Reader.{isNew}
+use Rattle.sweep_rules.specs.Limits.{mostCards, logRoom, listRoom}
+use Rattle.sweep_rules.specs.Run.{sweep}
+use Rattle.sweep_rules.specs.Terms.{within}
+use Rattle.sweep.specs.Sweep.{call, refused, done, sweepOf}
+use Rattle.card.specs.declared.Card.{Card}
+use Rattle.reader.specs.declared.Reader.{Reader}
+use Rattle.refusal.specs.declared.Refusal.the-variants.{Room, Argument, NotDue}
+use Rattle.sweep_row.specs.PadLaws.{take-row}
+
+pub row-is-field : (r : Reader) (cards : List Card) (log list : List ℕ)
+    → sweepOf r cards (length cards) log list
+    ≡ cond (not (isNew (r .phase))) (call (refused r cards NotDue) log list)
+    (cond (ltb (length log) logRoom || ltb (length list) listRoom) (call (refused r cards Room) log list)
+    (cond (ltb mostCards (length cards) || not (within cards)) (call (refused r cards Argument) log list)
+    (done cards (length cards) log list (sweep cards))))
+unfolding sweepOf
+row-is-field r cards log list = rw (take-row (length cards) cards refl)

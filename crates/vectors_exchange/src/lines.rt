@@ -1,0 +1,109 @@
+// The lines. Each function answers the bench after the line, and how many bytes of out are the answer: 0 where the line is not understood.
+use crate::Bench;
+use crate::Reply;
+use crate::answers;
+use crate::ends;
+use crate::ends::Talk;
+use crate::exchanges;
+use crate::exchanges::Given;
+use card_link::LinkCard;
+use reader_link::LinkAnswer;
+use uid::Made;
+
+pub fn script(bench: Bench, text: &[u8], out: &mut [u8]) -> Reply {
+    let name = bench::word(text, 0);
+    if rows::is_same(name, b"ends") {
+        return new_ends(bench, text, out);
+    }
+    if !rows::is_same(name, b"exchange") {
+        return none(bench);
+    }
+    if !bench.has_ends {
+        return none(bench);
+    }
+    let g = given(text);
+    if !exchanges::is_understood(g) {
+        return none(bench);
+    }
+    if bench::word(text, 8).len() != 0 {
+        return none(bench);
+    }
+    exchanges::exchange(bench, g, out)
+}
+
+// The line is not understood.
+fn none(bench: Bench) -> Reply {
+    Reply { bench, length: 0 }
+}
+
+// `ends UID I J`: the reader has size index I, the card J and SAK 20. A refused one leaves the ends that were there.
+fn new_ends(bench: Bench, text: &[u8], out: &mut [u8]) -> Reply {
+    if bench::word(text, 4).len() != 0 {
+        return none(bench);
+    }
+    let index = bench_lines::small_number(bench::word(text, 2));
+    if index > 255 {
+        return none(bench);
+    }
+    let w = bench_lines::card_words(bench::word(text, 1), b"20", bench::word(text, 3));
+    if !w.is_understood {
+        return none(bench);
+    }
+    let bytes = w.uid;
+    let new = card_link::whole::new_card(bench::front(&bytes, w.length), w.blocks, w.index);
+    let made = new.made;
+    let card = new.card;
+    match made {
+        Made::Good => opened(bench, card, bench_lines::within_byte(index), out),
+        Made::NotMade(e) => Reply {
+            bench,
+            length: answers::refused(e, out),
+        },
+    }
+}
+
+// The card is powered, and a new reader with this size index opens it.
+fn opened(bench: Bench, card: LinkCard, index: u8, out: &mut [u8]) -> Reply {
+    let t = ends::open(card_link::whole::power_on(card), index);
+    let a = t.answer;
+    let length = answers::opened(a, out);
+    match a {
+        LinkAnswer::Selection(_) => Reply { bench, length },
+        LinkAnswer::Opens(_) => with_ends(t, length),
+        LinkAnswer::Blocks(_, _) => Reply { bench, length },
+    }
+}
+
+// The ends after ATS: the card's host has answered nothing.
+fn with_ends(t: Talk, length: usize) -> Reply {
+    let reader = t.reader;
+    let card = t.card;
+    Reply {
+        bench: Bench {
+            has_ends: true,
+            reader,
+            card,
+            before: 0,
+            seed: 0,
+        },
+        length,
+    }
+}
+
+// The numbers of `exchange MLEN MSEED ALEN ASEED ROUNDS DOWN UP`. A number has five digits at most.
+fn given(text: &[u8]) -> Given {
+    Given {
+        message: number(text, 1),
+        message_seed: number(text, 2),
+        answer: number(text, 3),
+        answer_seed: number(text, 4),
+        rounds: number(text, 5),
+        down: number(text, 6),
+        up: number(text, 7),
+    }
+}
+
+// The k-th word as a number; 100,000 where it is none.
+fn number(text: &[u8], k: usize) -> usize {
+    bench_lines::number_to(bench::word(text, k), 99999)
+}
