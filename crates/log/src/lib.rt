@@ -10,7 +10,7 @@ use uid::Uid;
 pub mod within;
 
 // What a record is made of, as it is read.
-pub mod reading;
+mod reading;
 
 // The bytes that the record of a reader frame takes.
 pub fn sent_size(frame: &[u8]) -> usize

@@ -59,7 +59,7 @@ pub fn sweep(r: Reader, cards: [Card; 16], n: usize, log: &mut [u8], list: &mut 
     if n > MOST_CARDS {
         return refused(r, cards, Refusal::Argument);
     }
-    if !sweep_steps::terms::is_within(cards, n) {
+    if !sweep_steps::within::is_within(cards, n) {
         return refused(r, cards, Refusal::Argument);
     }
     let p = sweep_steps::within::run(cards, n, log, list);

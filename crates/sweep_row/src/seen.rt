@@ -36,7 +36,7 @@ fn card_fits(c: Card) -> bool
     ensures { λ r. ⌜ r ≡ cardFits c ⌝ }
     ensures { λ r. ⌜ (r ≡ true → Typed c) ⌝ }
 {
-    sweep_steps::terms::is_within([c; 16], 1)
+    sweep_steps::within::is_within([c; 16], 1)
 }
 
 // Is the UID none of those from one place to another?

@@ -1,4 +1,4 @@
-// Is a field one that a sweep takes? Called by our own crates only: `sweep` declines any other with 6.
+// Is a field one that a sweep takes? `sweep` declines any other with 6.
 ghost use mathlib.Core.Path.{_≡_};
 ghost use mathlib.Core.Bool.{true, not, _||_};
 ghost use Prim.Native.Nat.{_≤_};

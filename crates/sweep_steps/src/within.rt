@@ -3,17 +3,28 @@ ghost use mathlib.Core.Path.{_≡_};
 ghost use mathlib.Core.Bool.{true};
 ghost use Prim.Native.Nat.{_+_, _*_, _≤_, _<_};
 ghost use lib.ListN.{length, take};
-ghost use Rattle.rows.specs.Rows.{overlay, clean};
+ghost use Rattle.rows.specs.Rows.{All, overlay, clean};
 ghost use Rattle.log.specs.Log.{exchangeBytes, logBytes, listBytes};
 ghost use Rattle.log.specs.Calls.{mostBits};
 ghost use Rattle.sweep_rules.specs.Limits.{mostCards};
 ghost use Rattle.sweep_rules.specs.Run.{sweep};
+ghost use Rattle.sweep_rules.specs.Terms.{within};
+ghost use Rattle.sweep_rules.specs.Demand.{Typed};
 ghost use Rattle.sweep_steps.specs.Steps.{goes, foundBy, exchangeOf, exchanged, stepped, goesOn, ends, Roomy, Written};
 use card::Card;
 use reader::Answer;
 use reader::Phase;
 use reader::Reader;
 use reader::Turn;
+
+// Are the first n cards a field that a sweep takes?
+pub fn is_within(cards: [Card; 16], n: usize) -> bool
+    requires { ⌜ n ≤ 16 ⌝ }
+    ensures { λ r. ⌜ r ≡ within (take n cards) ⌝ }
+    ensures { λ r. ⌜ (r ≡ true → All Typed (take n cards)) ⌝ }
+{
+    crate::terms::is_within(cards, n)
+}
 
 // After an exchange: the reader's turn, the cards, and the bytes of log that it took.
 pub struct Exchanged {
