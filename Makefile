@@ -28,6 +28,7 @@ impostors: toolchain
 	@cd target-impostors && rt must-fail
 	@rm -rf target-impostors
 
+# rt runs crates and edits in batches, and a batch waits for its slowest: four at a time keep two cores busy.
 test: toolchain vectors-check
 	rt fmt --check
-	rt ci
+	RT_JOBS=$${RT_JOBS:-4} rt ci
