@@ -26,10 +26,10 @@ use Rattle.exchange.specs.declared.Hosted.{Hosted}
 use Rattle.exchange.specs.declared.Progress.{Progress}
 use Rattle.exchange.specs.declared.Outcome.{Outcome}
 use Rattle.exchange.specs.Exchange.{delivered, isQuiet}
-use Rattle.exchange.specs.RowExchange.{RowPassed, rowPasses, RowRun, rowOver, rowAfter, rowExchange, rowTalk, toldBy, Terms, RowExchanged}
+use Rattle.exchange.specs.RowExchange.{RowEnds, RowPassed, rowPasses, RowRun, rowOver, rowAfter, rowExchange, rowTalk, toldBy, Terms, RowExchanged}
 use Rattle.exchange.specs.RowExchangeLaws.{row-exchanged}
 use Rattle.exchange.specs.MessageLaws.{messageIn, message-fits}
-use Rattle.exchange.specs.Steps.{endsOf, hosted, hostedRow, countIn, lastIn, advanced, Fit, begun, goesOn, doneBy, lastOf, State, stateOf, roundOf, Sum, sumOf, restOf, outcomeOf, exchangeOf}
+use Rattle.exchange.specs.Steps.{endsOf, hosted, hostedRow, countIn, lastIn, advanced, Fit, begun, goesOn, doneBy, lastOf, answersIn, answersOn, State, stateOf, roundOf, Sum, sumOf, restOf, outcomeOf, exchangeOf}
 use Rattle.exchange.specs.Promise.{Exchanges}
 
 -- ---- the messages that the card's host gets
@@ -70,6 +70,7 @@ acted c a lent = cond (owing (c .link)) (replyCall (c .link) a rowRoom, a) (c, l
 pub record HostMade (c : Out LinkCard) (a before : List ℕ) (answered : Bool) (h : Hosted) (row : List ℕ) : Type 0 where
   pub card : h .card ≡ acted c a (cond answered a before) .0 .link
   pub lent : cond (h .answered) a before ≡ acted c a (cond answered a before) .1
+  pub answers : h .answered ≡ cond (owing (c .link)) true answered
   pub frame : take (h .bits) row ≡ acted c a (cond answered a before) .0 .sent
   pub fits : h .bits ≤ length row
 
@@ -84,8 +85,8 @@ host-made c a before reply row row′ answered t h et el er eh eo = rw (eo, eh, 
         (cond o (overlay row 0 (replyCall (c .link) a 2304 .sent)) row)
     go true o =
         let s : List ℕ = replyCall (c .link) a 2304 .sent in
-        record { card = rw o; lent = rw o; frame = rw o (overlay-front row s); fits = read-fits (length s) row (overlay row 0 s) s refl refl }
-    go false o = record { card = rw o; lent = rw o; frame = rw (o, er) (overlay-front reply (c .sent)); fits = read-fits (length (c .sent)) reply row (c .sent) refl er }
+        record { card = rw o; lent = rw o; answers = rw o; frame = rw o (overlay-front row s); fits = read-fits (length s) row (overlay row 0 s) s refl refl }
+    go false o = record { card = rw o; lent = rw o; answers = rw o; frame = rw (o, er) (overlay-front reply (c .sent)); fits = read-fits (length (c .sent)) reply row (c .sent) refl er }
 
 -- what the card and the reader do in a round, by their rules
 module _ (p : Progress) (m before a down up row : List ℕ) where
@@ -129,6 +130,7 @@ module _ (p : Progress) (m before a down up row : List ℕ) where
               ends = record { reader = et′ i .reader; card = k .card i; down = e .1 .0 i; up = eu i; lent = k .lent i };
               told = toldBy (et′ i .answer);
               frame = ef i;
+              answered = k .answers i;
               rounds = p .rounds + 1;
               messages = p .messages + ec i;
               last = el i;
@@ -140,35 +142,46 @@ module _ (p : Progress) (m before a down up row : List ℕ) where
 
 -- what a state comes to where nothing more is done
 abbrev ended : State → Sum
-ended s = record { ends = s .ends; told = s .told; rounds = s .rounds; messages = s .messages; last = s .last }
+ended s = record { ends = s .ends; told = s .told; answered = s .answered; rounds = s .rounds; messages = s .messages; last = s .last }
 
-sum-over : (s : State) → sumOf (s .rounds) (s .messages) (s .last) (rowOver (s .told) (s .ends)) ≡ ended s
+either-false : (b : Bool) → cond b true false ≡ b
+either-false true = refl
+either-false false = refl
+
+sum-over : (s : State) → sumOf (cond (s .answered) true false) (s .rounds) (s .messages) (s .last) (rowOver (s .told) (s .ends)) ≡ ended s
 unfolding sumOf lastOf
 sum-over s =
     let e : s .rounds + 0 ≡ s .rounds = omega arith in
     let k : s .messages + 0 ≡ s .messages = omega arith in
-    λ i. record { ends = s .ends; told = s .told; rounds = e i; messages = k i; last = s .last }
+    λ i. record { ends = s .ends; told = s .told; answered = either-false (s .answered) i; rounds = e i; messages = k i; last = s .last }
 
 rest-none : (m a : List ℕ) (s : State) → restOf m a 0 s ≡ ended s
-unfolding restOf rowExchange
+unfolding restOf rowExchange answersOn
 rest-none m a s = sum-over s
 
 rest-told : (m a : List ℕ) (g : ℕ) (s : State) → isQuiet (s .told) ≡ false → restOf m a g s ≡ ended s
-unfolding restOf rowExchange
+unfolding restOf rowExchange answersOn
 rest-told m a zero s q = sum-over s
 rest-told m a (suc g) s q = rw q (sum-over s)
 
-sum-after : (s : State) (f : List ℕ) (q : RowPassed) (r : RowRun)
-    → sumOf (s .rounds) (s .messages) (s .last) (rowAfter f q r) ≡ sumOf (s .rounds + 1) (s .messages + length (q .got)) (lastOf (s .last) (q .got)) r
+either-later : (s o r : Bool) → cond s true (cond o true r) ≡ cond (cond o true s) true r
+either-later true true r = refl
+either-later true false r = refl
+either-later false true r = refl
+either-later false false r = refl
+
+sum-after : (s : State) (f : List ℕ) (o n : Bool) (q : RowPassed) (r : RowRun)
+    → sumOf (cond (s .answered) true (cond o true n)) (s .rounds) (s .messages) (s .last) (rowAfter f q r)
+    ≡ sumOf (cond (cond o true (s .answered)) true n) (s .rounds + 1) (s .messages + length (q .got)) (lastOf (s .last) (q .got)) r
 unfolding sumOf
-sum-after s f q r =
+sum-after s f o n q r =
     let e : s .rounds + length (f ∷ r .downs) ≡ s .rounds + 1 + length (r .downs) = omega arith in
     let k : s .messages + length (q .got ++ r .got) ≡ s .messages + length (q .got) + length (r .got) = rw length-append (omega arith) in
-    λ i. record { ends = r .ends; told = r .told; rounds = e i; messages = k i; last = last-append (s .last) (q .got) (r .got) i }
+    λ i. record { ends = r .ends; told = r .told; answered = either-later (s .answered) o n i; rounds = e i; messages = k i; last = last-append (s .last) (q .got) (r .got) i }
 
 rest-turn : (m a : List ℕ) (g : ℕ) (s : State) → isQuiet (s .told) ≡ true → restOf m a (suc g) s ≡ restOf m a g (roundOf m a s)
-unfolding restOf roundOf rowExchange
-rest-turn m a g s q = rw q (sum-after s (s .frame) (rowPasses m a rowRoom (s .ends) (s .frame)) _)
+unfolding restOf roundOf rowExchange answersOn
+rest-turn m a g s q = rw q (sum-after s (s .frame) (answersIn (s .ends) (s .frame)) _ (rowPasses m a rowRoom (s .ends) (s .frame)) _)
 
 -- under way: what is left comes to what the whole comes to
 pub record Under (m before a : List ℕ) (rounds : ℕ) (down₀ up₀ : List ℕ) (all : Sum) (p : Progress) (down up row : List ℕ) : Type 0 where
@@ -249,7 +262,8 @@ module _ (x : LinkReader) (y : LinkCard) (m before a : List ℕ) (rounds : ℕ) 
   rest-first =
       let e = rw nz at et in
       let ef : take (bitsBy (turn .answer)) row ≡ first .sent = rw (bits-first, e .1) (overlay-front zeros (first .sent)) in
-      rw ep (λ i. sumOf 0 0 0 (rowExchange m a rowRoom rounds (record { reader = e .0 i .reader; card = y; down = down; up = up; lent = before }) (toldBy (e .0 i .answer)) (ef i)))
+      let z : LinkTurn → RowEnds = λ t. record { reader = t .reader; card = y; down = down; up = up; lent = before } in
+      rw ep (λ i. sumOf (answersOn m a rounds (z (e .0 i)) (toldBy (e .0 i .answer)) (ef i)) 0 0 0 (rowExchange m a rowRoom rounds (z (e .0 i)) (toldBy (e .0 i .answer)) (ef i)))
 
 -- ---- demand 2
 

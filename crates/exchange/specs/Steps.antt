@@ -1,5 +1,5 @@
 -- The exchange as it runs: a state between two rounds, a round, and what the run comes to.
-use Prim.Native.Nat.{ℕ, _+_, _≤_}
+use Prim.Native.Nat.{ℕ, zero, suc, _+_, _≤_}
 use mathlib.Core.Bool.{Bool, true, false, cond}
 use mathlib.Core.List.{List, [], _∷_}
 use lib.ListN.{length, take}
@@ -8,10 +8,10 @@ use Rattle.rows.specs.Rows.{overlay}
 use Rattle.block.specs.declared.Told.{Told}
 use Rattle.block.specs.declared.Told.the-variants.{Quiet, Message, Granted, Deselected, Refused}
 use Rattle.card_link.specs.declared.LinkCard.{LinkCard}
-use Rattle.card_link.specs.CardCalls.{rowRoom, owing, replyCall}
+use Rattle.card_link.specs.CardCalls.{rowRoom, owing, takeCall, replyCall}
 use Rattle.reader_link.specs.declared.LinkReader.{LinkReader}
 use Rattle.reader_link.specs.declared.LinkTurn.{LinkTurn}
-use Rattle.reader_link.specs.ReaderCalls.{bitsBy}
+use Rattle.reader_link.specs.ReaderCalls.{Called, bitsBy, sendCall}
 use Rattle.exchange.specs.declared.Outcome.{Outcome}
 use Rattle.exchange.specs.declared.Hosted.{Hosted}
 use Rattle.exchange.specs.declared.Progress.{Progress}
@@ -82,11 +82,23 @@ unfoldable pub lastOf : ℕ → List (List ℕ) → ℕ
 lastOf n [] = n
 lastOf n (m ∷ ms) = lastOf (length m) ms
 
--- between two rounds: the ends, what the reader's host was told, the frame that is out, and the counts so far
+-- the card's host answers in a round where an answer is owed once the card has taken the row f
+abbrev pub answersIn : RowEnds → List ℕ → Bool
+answersIn e f = owing (takeCall (e .card) f (e .lent) (e .down) rowRoom .link)
+
+-- .. in one of the rounds from here on
+unfoldable pub answersOn : List ℕ → List ℕ → ℕ → RowEnds → Told → List ℕ → Bool
+answersOn m a zero e t f = false
+answersOn m a (suc g) e t f =
+    let p : RowPassed = rowPasses m a rowRoom e f in
+    cond (isQuiet t) (cond (answersIn e f) true (answersOn m a g (p .ends) (p .told) (p .next))) false
+
+-- between two rounds: the ends, what the reader's host was told, the frame that is out, whether the card's host has answered, the counts so far
 pub record State : Type 0 where
   pub ends : RowEnds
   pub told : Told
   pub frame : List ℕ
+  pub answered : Bool
   pub rounds : ℕ
   pub messages : ℕ
   pub last : ℕ
@@ -97,6 +109,7 @@ stateOf p before a down up row =
       ends = endsOf (p .reader) (p .card) down up (p .answered) before a;
       told = p .told;
       frame = take (p .bits) row;
+      answered = p .answered;
       rounds = p .rounds;
       messages = p .messages;
       last = p .last;
@@ -106,29 +119,43 @@ stateOf p before a down up row =
 unfoldable pub roundOf : List ℕ → List ℕ → State → State
 roundOf m a s =
     let q : RowPassed = rowPasses m a rowRoom (s .ends) (s .frame) in
-    record { ends = q .ends; told = q .told; frame = q .next; rounds = s .rounds + 1; messages = s .messages + length (q .got); last = lastOf (s .last) (q .got) }
+    record {
+      ends = q .ends;
+      told = q .told;
+      frame = q .next;
+      answered = cond (answersIn (s .ends) (s .frame)) true (s .answered);
+      rounds = s .rounds + 1;
+      messages = s .messages + length (q .got);
+      last = lastOf (s .last) (q .got);
+    }
 
 -- what a run comes to
 pub record Sum : Type 0 where
   pub ends : RowEnds
   pub told : Told
+  pub answered : Bool
   pub rounds : ℕ
   pub messages : ℕ
   pub last : ℕ
 
-unfoldable pub sumOf : ℕ → ℕ → ℕ → RowRun → Sum
-sumOf rounds messages last r =
-    record { ends = r .ends; told = r .told; rounds = rounds + length (r .downs); messages = messages + length (r .got); last = lastOf last (r .got) }
+unfoldable pub sumOf : Bool → ℕ → ℕ → ℕ → RowRun → Sum
+sumOf answered rounds messages last r =
+    record { ends = r .ends; told = r .told; answered = answered; rounds = rounds + length (r .downs); messages = messages + length (r .got); last = lastOf last (r .got) }
 
 -- .. from a state on, in at most so many rounds
 unfoldable pub restOf : List ℕ → List ℕ → ℕ → State → Sum
-restOf m a g s = sumOf (s .rounds) (s .messages) (s .last) (rowExchange m a rowRoom g (s .ends) (s .told) (s .frame))
+restOf m a g s =
+    sumOf (cond (s .answered) true (answersOn m a g (s .ends) (s .told) (s .frame))) (s .rounds) (s .messages) (s .last)
+    (rowExchange m a rowRoom g (s .ends) (s .told) (s .frame))
 
 -- what `exchange` hands back, as such a sum
 unfoldable pub outcomeOf : Outcome → List ℕ → List ℕ → List ℕ → List ℕ → Sum
 outcomeOf o before a down up =
-    record { ends = endsOf (o .reader) (o .card) down up (o .answered) before a; told = o .told; rounds = o .rounds; messages = o .messages; last = o .last }
+    record { ends = endsOf (o .reader) (o .card) down up (o .answered) before a; told = o .told; answered = o .answered; rounds = o .rounds; messages = o .messages; last = o .last }
 
 -- the whole: the reader's host hands in m, the card's host answers a, and before is what it answered before
 unfoldable pub exchangeOf : LinkReader → LinkCard → List ℕ → List ℕ → List ℕ → ℕ → List ℕ → List ℕ → Sum
-exchangeOf x y m before a rounds down up = sumOf 0 0 0 (rowTalk m a rowRoom rounds (endsOf x y down up false before a))
+exchangeOf x y m before a rounds down up =
+    let s : Called = sendCall x m rowRoom in
+    sumOf (answersOn m a rounds (endsOf (s .turn .reader) y down up false before a) (toldBy (s .turn .answer)) (s .sent)) 0 0 0
+    (rowTalk m a rowRoom rounds (endsOf x y down up false before a))
