@@ -1,5 +1,7 @@
--- Document 01, "When the core declines": the table's numbers.
+-- Document 01, "When the core declines": the table's numbers, and what an answer says in the table's terms.
 use Prim.Native.Nat.{ℕ}
+use mathlib.Core.Bool.{Bool, cond}
+use mathlib.Core.List.{List, []}
 use Rattle.refusal.specs.declared.Refusal.{Refusal}
 use Rattle.refusal.specs.declared.Refusal.the-variants.{Room, Length, Parity, Crc, Check, Argument, Silence, Collision, Forbidden, TooLong, NotDue, Repeats}
 
@@ -16,3 +18,24 @@ numberOf Forbidden = 9
 numberOf TooLong = 10
 numberOf NotDue = 11
 numberOf Repeats = 12
+
+-- "Where an answer is an enum, a definition gives this paper's number and values for every one of its cases": the table's number, 0 where
+-- nothing is declined, and the values that the case holds. Each enum that a call answers has such a definition, `..Says`.
+pub record Said : Type 0 where
+  pub number : ℕ
+  pub values : List ℕ
+
+-- nothing is declined, and these are the values
+abbrev pub giving : List ℕ → Said
+giving vs = record { number = 0; values = vs }
+
+-- declined with this number
+abbrev pub declining : ℕ → Said
+declining n = record { number = n; values = [] }
+
+abbrev pub refusalSays : Refusal → Said
+refusalSays e = declining (numberOf e)
+
+-- a call's own test, with the number that it gives where it applies; else what comes behind it
+abbrev pub declineIf : Bool → ℕ → Said → Said
+declineIf test n s = cond test (declining n) s

@@ -1,0 +1,36 @@
+-- The limits as document 01 states them, and what follows from them: one table of theorems.
+use mathlib.Core.Path.{_≡_, refl}
+use Prim.Native.Nat.{ℕ, _*_, _≤_}
+use native.Mathlib.Omega.{arith}
+use Rattle.limits.specs.Limits.{mostCards, logRoom, listRoom, mostFrames, mostBytes, rowRoom, frameRoom, answerRoom, messageMax}
+
+pub record LimitTable : Type 0 where
+  -- "at most 16 cards"; "8,192 bytes of log and 176 of list"
+  pub cards : mostCards ≡ 16
+  pub log : logRoom ≡ 8192
+  pub list : listRoom ≡ 176
+  -- the comb of 16 cards needs them all
+  pub frames : mostFrames ≡ 249
+  -- "no frame-and-answer pair takes more than 19 bytes of log": the log asked for always holds a sweep
+  pub log-holds : 19 * mostFrames ≤ logRoom
+  -- "1 to 256 bytes, each followed by odd parity"; SELECT is nine bytes, a level five
+  pub bytes : mostBytes ≡ 256
+  pub row : rowRoom ≡ 2304
+  pub select : frameRoom ≡ 9 * 9
+  pub level : answerRoom ≡ 9 * 5
+  -- "0 to 4,096 bytes"
+  pub message : messageMax ≡ 4096
+
+pub limit-table : LimitTable
+limit-table = record {
+  cards = refl;
+  log = refl;
+  list = refl;
+  frames = refl;
+  log-holds = omega arith;
+  bytes = refl;
+  row = refl;
+  select = refl;
+  level = refl;
+  message = refl;
+}

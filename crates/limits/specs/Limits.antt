@@ -1,0 +1,38 @@
+-- The core's limits, each once. src/lib.rt has the same numbers for the code.
+use Prim.Native.Nat.{ℕ, _+_, _-_, _*_, _/_}
+
+-- "over 16 cards": 6
+abbrev pub mostCards : ℕ
+mostCards = 16
+
+-- "The sweep asks for 8,192 bytes of log and 176 of list"; an entry of the list has 11 bytes
+abbrev pub logRoom : ℕ
+logRoom = 8192
+
+abbrev pub listRoom : ℕ
+listRoom = 11 * mostCards
+
+-- no sweep over n cards sends more frames: "1 plus the sum over the cards of (2 + 2L + d)", L at most 3 and d at most the number of later cards
+abbrev pub framesBound : ℕ → ℕ
+framesBound n = 1 + 8 * n + n * (n - 1) / 2
+
+abbrev pub mostFrames : ℕ
+mostFrames = framesBound mostCards
+
+-- "A standard frame is 1 to 256 bytes, each followed by odd parity"
+abbrev pub mostBytes : ℕ
+mostBytes = 256
+
+abbrev pub rowRoom : ℕ
+rowRoom = 9 * mostBytes
+
+-- the longest frame of a selection is SELECT, the longest answer to one a level's five bytes
+abbrev pub frameRoom : ℕ
+frameRoom = 81
+
+abbrev pub answerRoom : ℕ
+answerRoom = 45
+
+-- "A message has 0 to 4,096 bytes"
+abbrev pub messageMax : ℕ
+messageMax = 4096

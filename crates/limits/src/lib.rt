@@ -1,0 +1,25 @@
+// The core's limits, each once, in code and in definitions (specs/Limits.antt).
+
+// Document 01, "When the core declines": a field of more cards is 6.
+pub const MOST_CARDS: usize = 16;
+
+// Document 01, "The log": what a sweep asks for, in bytes. A UID takes 11 bytes of the list.
+pub const LOG_ROOM: usize = 8192;
+
+pub const LIST_ROOM: usize = 11 * MOST_CARDS;
+
+// No sweep over so many cards sends more frames: the sum of document 01, each card with three levels and parting from every later one.
+pub const MOST_FRAMES: usize = 1 + 8 * MOST_CARDS + MOST_CARDS * (MOST_CARDS - 1) / 2;
+
+// Document 01, "Frames on the air": a standard frame has up to 256 bytes, each with its parity bit.
+pub const MOST_BYTES: usize = 256;
+
+pub const ROW_ROOM: usize = 9 * MOST_BYTES;
+
+// The longest frame of a selection, SELECT, and the longest answer of a card to one, a level's five bytes.
+pub const FRAME_ROOM: usize = 81;
+
+pub const ANSWER_ROOM: usize = 45;
+
+// Document 01, "RATS, ATS and blocks": "A message has 0 to 4,096 bytes".
+pub const MESSAGE_MAX: usize = 4096;
