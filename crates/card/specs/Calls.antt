@@ -1,13 +1,12 @@
--- The card's calls: a new card, and a frame with lent room for the answer.
+-- The card's calls: a new card, and a step of the rules handed back.
 use Prim.Native.Nat.{ℕ}
-use mathlib.Core.Bool.{Bool, false, cond, _||_}
+use mathlib.Core.Bool.{Bool, false, cond}
 use mathlib.Core.List.{List, [], _∷_}
 use lib.ListN.{length}
 use lib.Dec.{ltb}
-use Rattle.rows.specs.Rows.{overlay}
 use Rattle.uid.specs.Calls.{newUid, sized}
-use Rattle.card.specs.Card.{Step, withState, rules, answers}
-use Rattle.refusal.specs.declared.Refusal.the-variants.{Room, Argument}
+use Rattle.card.specs.Card.{Step, withState}
+use Rattle.refusal.specs.declared.Refusal.the-variants.{Argument}
 use Rattle.uid.specs.declared.NewUid.{NewUid}
 use Rattle.uid.specs.declared.UidSize.the-variants.{Single}
 use Rattle.uid.specs.declared.Made.{Made}
@@ -16,7 +15,7 @@ use Rattle.card.specs.declared.Card.{Card}
 use Rattle.card.specs.declared.CardState.the-variants.{Off}
 use Rattle.card.specs.declared.NewCard.{NewCard}
 use Rattle.card.specs.declared.CardAnswer.{CardAnswer}
-use Rattle.card.specs.declared.CardAnswer.the-variants.{Sends, Silent, NotTaken}
+use Rattle.card.specs.declared.CardAnswer.the-variants.{Sends, Silent}
 use Rattle.card.specs.declared.Taken.{Taken}
 
 abbrev pub refusedCard : NewCard
@@ -30,10 +29,7 @@ cardOf u (NotMade e) blocks index = refusedCard
 unfoldable pub newCard : List ℕ → Bool → ℕ → NewCard
 newCard l blocks index = cond (ltb 8 index) refusedCard (cardOf (newUid l) (newUid l .made) blocks index)
 
--- the longest answer is a whole level, 45 bits
-abbrev pub answerRoom : ℕ
-answerRoom = 45
-
+-- what a card answers by the row that it sends
 abbrev pub answerOf : List ℕ → CardAnswer
 answerOf [] = Silent
 answerOf (x ∷ r) = Sends (length (x ∷ r))
@@ -41,13 +37,3 @@ answerOf (x ∷ r) = Sends (length (x ∷ r))
 -- the card after a step of the rules, and its answer
 abbrev pub taken : Card → Step → Taken
 taken c s = record { card = withState c (s .0); answer = answerOf (s .1) }
-
--- a frame f, with a lent row of so many bits: 1 changes nothing
-unfoldable pub takeCall : Card → List ℕ → ℕ → Taken
-takeCall c f room =
-    cond (ltb room answerRoom) (record { card = c; answer = NotTaken Room })
-    (taken c (rules c (c .state) f))
-
--- the lent row afterwards
-unfoldable pub takeRow : Card → List ℕ → List ℕ → List ℕ
-takeRow c f out = cond (ltb (length out) answerRoom) out (overlay out 0 (answers c f))

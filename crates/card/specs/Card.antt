@@ -46,11 +46,15 @@ sak c l = cond (remain c l) 0x04 (cond (c .blocks) 0x20 0x00)
 unfoldable pub chosen : Card → Level → CardState
 chosen c l = cond (remain c l) (Ready (up l)) Active
 
+-- the frame is an ANTICOLLISION of level l, whose bytes are five, and its bits match
+abbrev pub matching : Level → List ℕ → List ℕ → Bool
+matching l five f = ltb (bitsSent f) 40 && same f (anticollision l (bitsSent f) five)
+
 -- "Ready at level L", where five are the level's bytes: "ANTICOLLISION of level L whose bits match: the rest, same state. SELECT of level L
 -- that matches all 40 bits: SAK, .. Everything else, REQA and a mismatch included: silent, Idle"
 unfoldable pub ready : Card → Level → List ℕ → List ℕ → Step
 ready c l five f =
-    cond (ltb (bitsSent f) 40 && same f (anticollision l (bitsSent f) five)) (Ready l, others (bitsSent f) five)
+    cond (matching l five f) (Ready l, others (bitsSent f) five)
     (cond (same f (select l five)) (chosen c l, sakFrame (sak c l)) (Idle, []))
 
 -- The state rules, state by state. Blocks take over in Protocol. A card that is Ready at a level which its UID lacks has no match: "else"

@@ -15,7 +15,7 @@ use Rattle.frame.specs.Frame.{standard}
 use Rattle.frame.specs.FrameLaws.{length-standard}
 use Rattle.uid.specs.Uid.{levelCount, place, levelsOf, levels, threeLevels}
 use Rattle.selection.specs.Selection.{cut, anticollision, others, select, sakFrame}
-use Rattle.card.specs.Card.{Step, bitsSent, remain, sak, chosen, ready, rules}
+use Rattle.card.specs.Card.{Step, bitsSent, matching, remain, sak, chosen, ready, rules}
 use Rattle.uid.specs.declared.Level.{Level}
 use Rattle.uid.specs.declared.Level.the-variants.{One, Two, Three}
 use Rattle.uid.specs.declared.Uid.{Uid}
@@ -59,21 +59,14 @@ module _ (c : Card) (l : Level) (f : List ℕ) (p n : ℕ) (e : p ≡ place l) (
 
 -- ---- ANTICOLLISION and SELECT of a level
 
--- the frame is an ANTICOLLISION of the level whose bits match
-unfoldable pub matching : Level → List ℕ → List ℕ → Bool
-matching l five f = ltb (bitsSent f) 40 && same f (anticollision l (bitsSent f) five)
-
 module _ (l : Level) (five f : List ℕ) (k : ℕ) (e : k ≡ bitsSent f) where
   pub match-told : k < 40 → same f (anticollision l k five) ≡ matching l five f
-  unfolding matching
   match-told h = rw (← e, lt-ltb k 40 h)
 
   pub match-none : 40 ≤ k → false ≡ matching l five f
-  unfolding matching
   match-none h = rw (← e, le-ltb k 40 h)
 
   pub match-few : (r : Bool) → r ≡ matching l five f → r ≡ true → k < 40
-  unfolding matching
   match-few r m t = rw e (ltb-true (bitsSent f) 40 (both (ltb (bitsSent f) 40) (same f (anticollision l (bitsSent f) five)) (sym m ∙ t) .0))
 
 -- the level's row behind the bits that were sent
@@ -85,5 +78,5 @@ rest-made k n five row h v e q =
 
 pub ready-step : (c : Card) (l : Level) (five f : List ℕ) {r : Bool} (m s : Bool) → r ≡ matching l five f → r ≡ m → same f (select l five) ≡ s
     → _≡_ {A = Step} (cond m (Ready l, others (bitsSent f) five) (cond s (chosen c l, sakFrame (sak c l)) (Idle, []))) (ready c l five f)
-unfolding ready matching
+unfolding ready
 ready-step c l five f m s p e q = rw (sym p ∙ e, q)

@@ -19,7 +19,7 @@ use Rattle.crc.specs.Crc.{withCrc}
 use Rattle.frame.specs.Frame.{standard, short, faulty, airBits}
 use Rattle.frame.specs.FrameLaws.{length-standard}
 use Rattle.frame.specs.ParityLaws.{wholeFaulty, standard-append, faulty-standard, bits-standard, faulty-cut}
-use Rattle.frame.specs.TellLaws.{crc-right, standard-bytes, bytes-crc}
+use Rattle.frame.specs.TellLaws.{crc-right, standard-bytes, length-crc, bytes-crc}
 use Rattle.uid.specs.Uid.{levels, place}
 use Rattle.uid.specs.UidLaws.{Sound, five-row}
 use Rattle.selection.specs.Selection.{reqa, wupa, hlta, rats, sel, nvb, cut, anticollision, select}
@@ -189,6 +189,24 @@ nvb-else c s l a v d ha hv hd n = else-is c (Ready l) f (λ h. (λ k e. n (sym (
         let p : standard (a ∷ v ∷ []) ≡ standard H = parts-equal 18 (standard (a ∷ v ∷ [])) (standard H) d (take (cut (bitsSent f)) (standard (fiveAt c l))) (length-standard (a ∷ v ∷ [])) (length-standard H) (unfold anticollision in e) .0 in
         let q : a ∷ v ∷ [] ≡ H = standard-bytes (a ∷ v ∷ []) H (ha, (hv, tt)) (sel-fits l, (omega arith, tt)) p in
         ap nvb (sym k-is) ∙ sym (ap (λ r. getD r 1 0) q)
+
+-- .. of SELECT: a frame of nine bytes with right CRC_A whose NVB is not 70 (71 among them)
+pub select-nvb-else : (c : Card) → Sound (c .uid) → (l : Level) (a v : ℕ) (five : List ℕ) → a < 256 → v < 256 → Bytes five → length five ≡ 5 → v ≢ 0x70
+    → rules c (Ready l) (standard (withCrc (a ∷ v ∷ five))) ≡ (Idle, [])
+unfolding select withCrc
+select-nvb-else c s l a v five ha hv b h n = else-is c (Ready l) f (λ k. (
+  λ m e. omega (arith, m, rw length-f at m),
+  λ e. n (ap (λ r. getD r 1 0) (standard-bytes (withCrc m) (withCrc (sel l ∷ 0x70 ∷ fiveAt c l)) (bytes-crc m (ha, (hv, b))) (bytes-crc (sel l ∷ 0x70 ∷ fiveAt c l) (sel-fits l, (omega arith, level-bytes c s l k))) e)),
+))
+  where
+    m : List ℕ
+    m = a ∷ v ∷ five
+
+    f : List ℕ
+    f = standard (withCrc m)
+
+    length-f : length f ≡ 81
+    length-f = length-standard (withCrc m) ∙ rw (length-crc m, h) (omega arith)
 
 -- ---- a mismatch: the card leaves Ready
 

@@ -1,13 +1,13 @@
-// Document 01, "The card": one card's states, by value. Blocks come on top of it (crate card_link).
+// Document 01, "The card": one card's states, by value, without blocks. The card for firmware, which takes frames in every state, is that of
+// crate card_link; a field of cards that only select takes them by `within::take_rules`.
 mod answer;
 mod rats;
 mod ready;
 pub mod within;
 
 ghost use mathlib.Core.Path.{_≡_};
-ghost use lib.ListN.{length};
 ghost use Rattle.card.specs.Card.{powered, powerOn, powerOff};
-ghost use Rattle.card.specs.Calls.{refusedCard, newCard, takeCall, takeRow};
+ghost use Rattle.card.specs.Calls.{refusedCard, newCard};
 use refusal::Refusal;
 use uid::Level;
 use uid::Made;
@@ -120,18 +120,4 @@ pub fn power_off(c: Card) -> Card
     ensures { λ r. ⌜ r ≡ powerOff c ⌝ }
 {
     answer::with_state(c, CardState::Off)
-}
-
-// The card takes a frame, any row of any length. Its answer stands at the front of the lent row, which has room for 45 bits.
-pub fn take(c: Card, row: &[u8], out: &mut [u8]) -> Taken
-    ensures { λ r. ⌜ r ≡ takeCall c (now (row .entry)) (length (now (out .entry))) ⌝ }
-    ensures { λ r. ⌜ now (out .exit) ≡ takeRow c (now (row .entry)) (now (out .entry)) ⌝ }
-{
-    if out.len() < 45 {
-        return Taken {
-            card: c,
-            answer: CardAnswer::NotTaken(Refusal::Room),
-        };
-    }
-    within::take_rules(c, row, out)
 }

@@ -1,4 +1,4 @@
-// The card's rules, state by state. Called by our own crates only: firmware calls `take`.
+// The card's rules, state by state. Called by our own crates only: firmware calls card_link's `take`.
 // Each answer goes to the front of a row that is lent with room for the longest, 45 bits.
 ghost use mathlib.Core.Path.{_≡_};
 ghost use Prim.Native.Nat.{_≤_};

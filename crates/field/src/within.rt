@@ -1,4 +1,4 @@
-// One frame taken by every card of a field. Called by our own crates only, which lend the room: firmware calls `transmit`.
+// One frame taken by every card of a field. Called by our own crates only, which lend the room: firmware sweeps a field.
 ghost use mathlib.Core.Path.{_≡_};
 ghost use mathlib.Core.Bool.{cond};
 ghost use Prim.Native.Nat.{_≤_};

@@ -9,3 +9,4 @@ pub mod UnpackLaws
 pub mod BitBackLaws
 pub mod ReadBackLaws
 pub mod OneRecordLaws
+pub mod CountLaws

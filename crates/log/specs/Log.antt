@@ -43,12 +43,16 @@ heardRecord (x ∷ h) =
     cond (clean (x ∷ h)) (header 1 (length (x ∷ h)) ++ pack (x ∷ h))
     (header 2 (length (x ∷ h)) ++ (pack (plain (x ∷ h)) ++ pack (marks (x ∷ h))))
 
--- a reader frame and what was heard after it
-abbrev pub Exchange : Type 0
-Exchange = List ℕ × List ℕ
+-- "Every reader frame has one record after it for what was heard"
+pub record Exchange : Type 0 where
+  pub sent : List ℕ
+  pub heard : List ℕ
+
+abbrev pub sentHeard : List ℕ → List ℕ → Exchange
+sentHeard f h = record { sent = f; heard = h }
 
 unfoldable pub exchangeBytes : Exchange → List ℕ
-exchangeBytes e = sentRecord (e .0) ++ heardRecord (e .1)
+exchangeBytes e = sentRecord (e .sent) ++ heardRecord (e .heard)
 
 unfoldable pub logBytes : List Exchange → List ℕ
 logBytes [] = []

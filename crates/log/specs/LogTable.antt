@@ -3,7 +3,7 @@ use mathlib.Core.Path.{_≡_, refl}
 use Prim.Native.Nat.{ℕ}
 use mathlib.Core.List.{List, [], _∷_}
 use Rattle.rows.specs.Rows.{clean, fill}
-use Rattle.log.specs.Log.{fromTop, packed, header, plain, marks, sentRecord, heardRecord, exchangeBytes, logBytes, entryBytes}
+use Rattle.log.specs.Log.{fromTop, packed, header, plain, marks, sentRecord, heardRecord, sentHeard, exchangeBytes, logBytes, entryBytes}
 
 -- REQA, 26
 abbrev reqa : List ℕ
@@ -18,7 +18,7 @@ both = 0 ∷ 0 ∷ 1 ∷ 0 ∷ 0 ∷ 0 ∷ 2 ∷ 0 ∷ 2 ∷ 0 ∷ 0 ∷ 0 ∷ 0
 
 pub record LogTable : Type 0 where
   -- "A sweep of no cards writes exactly 00 07 64 C0 00"
-  pub no-cards : logBytes ((reqa, []) ∷ []) ≡ 0x00 ∷ 0x07 ∷ 0x64 ∷ 0xC0 ∷ 0x00 ∷ []
+  pub no-cards : logBytes (sentHeard reqa [] ∷ []) ≡ 0x00 ∷ 0x07 ∷ 0x64 ∷ 0xC0 ∷ 0x00 ∷ []
   -- "An ATQA 04 00 is 40 12 20 00 40"
   pub clean-atqa : heardRecord atqa ≡ 0x40 ∷ 0x12 ∷ 0x20 ∷ 0x00 ∷ 0x40 ∷ []
   pub collided-atqa : heardRecord both ≡ 0x80 ∷ 0x12 ∷ 0x20 ∷ 0x00 ∷ 0x40 ∷ 0x02 ∷ 0x80 ∷ 0x00 ∷ []

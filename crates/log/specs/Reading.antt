@@ -98,3 +98,24 @@ recordAt l at =
     cond (leb (length l) at) End
     (cond (ltb (length l) (at + 2)) Cut
     (afterHeader l (at + 2) (getD l at 0) (getD l (at + 1) 0)))
+
+-- ---- the reader records of a log
+
+-- what follows a record, by the place behind it; nothing where the log ends or is no log
+abbrev pub behind : (ℕ → ℕ) → Record → ℕ
+behind rest (Sent start bits next) = suc (rest next)
+behind rest (Clean start bits next) = rest next
+behind rest (Collided start marks bits next) = rest next
+behind rest (Silence next) = rest next
+behind rest End = 0
+behind rest Cut = 0
+behind rest Malformed = 0
+
+-- how many there are from a place on, in at most so many records
+unfoldable pub sentFrom : ℕ → List ℕ → ℕ → ℕ
+sentFrom zero l at = 0
+sentFrom (suc most) l at = behind (sentFrom most l) (recordAt l at)
+
+-- "the number of reader records in the log": no record is without a byte
+unfoldable pub sentIn : List ℕ → ℕ
+sentIn l = sentFrom (length l) l 0

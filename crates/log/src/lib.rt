@@ -1,8 +1,8 @@
 // Document 01, "The log (house format, fields most significant bit first)": its records and the found list's entries, written and read.
 ghost use mathlib.Core.Path.{_≡_};
-ghost use lib.ListN.{length, getD};
+ghost use lib.ListN.{getD};
 ghost use Rattle.uid.specs.Uid.{uidBytes};
-ghost use Rattle.log.specs.Log.{sentRecord, heardRecord, entryBytes};
+ghost use Rattle.log.specs.Log.{entryBytes};
 ghost use Rattle.log.specs.Reading.{bitsFrom, recordAt};
 use uid::Uid;
 
@@ -11,24 +11,6 @@ pub mod within;
 
 // What a record is made of, as it is read.
 mod reading;
-
-// The bytes that the record of a reader frame takes.
-pub fn sent_size(frame: &[u8]) -> usize
-    ensures { λ r. ⌜ r ≡ length (sentRecord (now (frame .entry))) ⌝ }
-{
-    2 + (frame.len() + 7) / 8
-}
-
-// The bytes that the record of what was heard takes.
-pub fn heard_size(row: &[u8]) -> usize
-    ensures { λ r. ⌜ r ≡ length (heardRecord (now (row .entry))) ⌝ }
-{
-    let bytes = (row.len() + 7) / 8;
-    if rows::is_clean(row) {
-        return 2 + bytes;
-    }
-    2 + 2 * bytes
-}
 
 // "The found list has 11 bytes a UID: length, bytes, zero fill".
 pub fn entry(u: Uid) -> [u8; 11]

@@ -1,10 +1,13 @@
 -- The reader's calls with lent room for its next frame: 11 is tested first, then 1, and both leave all unchanged.
 use Prim.Native.Nat.{ℕ}
 use mathlib.Core.Bool.{Bool, true, false, cond, not}
-use mathlib.Core.List.{List, []}
+use mathlib.Core.List.{List, [], _∷_}
 use lib.ListN.{length}
 use lib.Dec.{ltb}
+use Rattle.limits.specs.Limits.{frameRoom}
 use Rattle.rows.specs.Rows.{overlay}
+use Rattle.uid.specs.Uid.{uidBytes}
+use Rattle.refusal.specs.Refusal.{Said, giving, refusalSays, declineIf}
 use Rattle.refusal.specs.declared.Refusal.the-variants.{Room, NotDue}
 use Rattle.reader.specs.declared.Phase.{Phase}
 use Rattle.reader.specs.declared.Phase.the-variants.{New, ReqaSent, AnticollisionSent, SelectSent, HltaSent, Selected, Finished, Stopped}
@@ -13,10 +16,6 @@ use Rattle.reader.specs.declared.Answer.{Answer}
 use Rattle.reader.specs.declared.Answer.the-variants.{Sends, Finds, Selects, Finishes, Declines}
 use Rattle.reader.specs.declared.Turn.{Turn}
 use Rattle.reader.specs.Reader.{frame, turn, hear, begin, isNew}
-
--- the longest frame of a selection is SELECT, 81 bits
-abbrev pub frameRoom : ℕ
-frameRoom = 81
 
 -- a row is awaited
 abbrev pub awaits : Phase → Bool
@@ -39,7 +38,32 @@ unfoldable pub hearCall : Reader → List ℕ → ℕ → Turn
 hearCall r h room = call (awaits (r .phase)) r (hear r h) room
 
 unfoldable pub beginCall : Bool → Reader → ℕ → Turn
-beginCall s r room = call (isNew (r .phase)) r (begin s r) room
+beginCall s r room = call (isNew (r .phase)) r (begin s) room
+
+-- ---- what an answer says, in the table's numbers
+
+-- the next frame's air bits; of a card that is found or selected its last SAK and the bytes of its UID
+abbrev pub answerSays : Answer → Reader → Said
+answerSays (Sends n) r = giving (n ∷ [])
+answerSays (Finds n) r = giving (n ∷ r .sak ∷ uidBytes (r .uid))
+answerSays Selects r = giving (r .sak ∷ uidBytes (r .uid))
+answerSays Finishes r = giving []
+answerSays (Declines e) r = refusalSays e
+
+abbrev pub turnSays : Turn → Said
+turnSays t = answerSays (t .answer) (t .reader)
+
+-- "A call tests 11, 1": a call that is due or not, with a lent row of so many bits, by the rules' turn t
+abbrev pub callSays : Bool → Turn → ℕ → Said
+callSays due t room = declineIf (not due) 11 (declineIf (ltb room frameRoom) 1 (turnSays t))
+
+abbrev pub hearSays : Reader → List ℕ → ℕ → Said
+hearSays r h room = callSays (awaits (r .phase)) (hear r h) room
+
+abbrev pub beginSays : Bool → Reader → ℕ → Said
+beginSays s r room = callSays (isNew (r .phase)) (begin s) room
+
+-- ---- the lent row
 
 -- what a turn sends
 abbrev pub sentBy : Answer → Reader → List ℕ

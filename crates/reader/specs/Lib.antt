@@ -3,3 +3,4 @@ pub mod Calls
 pub mod ReaderLaws
 pub mod StepLaws
 pub mod CollisionLaws
+pub mod FrameLaws

@@ -154,5 +154,6 @@ isNew Selected = false
 isNew Finished = false
 isNew Stopped = false
 
-unfoldable pub begin : Bool → Reader → Turn
-begin s r = cond (isNew (r .phase)) (sends (blank ReqaSent s)) (turn r (Declines NotDue))
+-- "REQA", outside a sweep (s false) or in one
+abbrev pub begin : Bool → Turn
+begin s = sends (blank ReqaSent s)

@@ -1,6 +1,6 @@
 -- The reader's rules, step by step: what each definition gives at a phase, at what was read, and in a call. Assumes nothing.
 use mathlib.Core.Path.{_≡_, refl, sym, ap, _∙_}
-use mathlib.Core.Bool.{Bool, true, false, _&&_}
+use mathlib.Core.Bool.{Bool, true, false, cond, not, _&&_}
 use mathlib.Core.List.{List, [], _∷_, _++_}
 use Prim.Native.Nat.{ℕ, zero, suc, _+_, _-_, _*_, _/_, _%_, _≤_, _<_}
 use native.Mathlib.Nat.{not-suc-le-zero}
@@ -13,8 +13,9 @@ use Rattle.rows.specs.RowLaws.{overlay-nil, overlay-next}
 use Rattle.uid.specs.FillLaws.{fill-zeros}
 use Rattle.uid.specs.Uid.{place}
 use Rattle.selection.specs.Heard.{readAtqa, readRest, readSak}
-use Rattle.reader.specs.Reader.{frame, frameIn, turn, hear, hearIn, hearAtqa, afterAtqa, hearRest, afterRest, hearSak, sakHeard, afterSak, b3, hearSilence, sends, blank, stop, longer, uid, begin, isNew}
-use Rattle.reader.specs.Calls.{call, frameRoom, rowAfter, sentBy}
+use Rattle.reader.specs.Reader.{frame, frameIn, turn, hear, hearIn, hearAtqa, afterAtqa, hearRest, afterRest, hearSak, sakHeard, afterSak, b3, hearSilence, sends, blank, stop, longer, uid}
+use Rattle.limits.specs.Limits.{frameRoom}
+use Rattle.reader.specs.Calls.{call, rowAfter, sentBy, turnSays, callSays}
 use Rattle.uid.specs.declared.Level.{Level}
 use Rattle.uid.specs.declared.Level.the-variants.{One, Two, Three}
 use Rattle.uid.specs.declared.Uid.{Uid}
@@ -23,6 +24,7 @@ use Rattle.selection.specs.declared.AtqaRead.{AtqaRead}
 use Rattle.selection.specs.declared.Rest.{Rest}
 use Rattle.selection.specs.declared.RestSays.{RestSays}
 use Rattle.selection.specs.declared.SakRead.{SakRead}
+use Rattle.refusal.specs.Refusal.{declining}
 use Rattle.refusal.specs.declared.Refusal.{Refusal}
 use Rattle.refusal.specs.declared.Refusal.the-variants.{Forbidden, Room, NotDue}
 use Rattle.reader.specs.declared.Phase.{Phase}
@@ -85,6 +87,16 @@ pub call-due : (b : Bool) (r : Reader) (t : Turn) (n : ℕ) → b ≡ true → 8
 unfolding call
 call-due b r t n e h = rw (e, le-ltb n 81 h)
 
+-- what it says
+pub call-says : (b : Bool) (r : Reader) (t : Turn) (n : ℕ) (u : Turn) → u ≡ call b r t n → turnSays u ≡ callSays b t n
+unfolding call
+call-says b r t n u e = ap turnSays e ∙ go b (ltb n frameRoom)
+  where
+    go : (b k : Bool) → turnSays (cond (not b) (turn r (Declines NotDue)) (cond k (turn r (Declines Room)) t)) ≡ cond (not b) (declining 11) (cond k (declining 1) (turnSays t))
+    go true true = refl
+    go true false = refl
+    go false k = refl
+
 -- a refusal writes nothing
 pub row-declined : (t : Turn) (r : Reader) (e : Refusal) (out : List ℕ) → t ≡ turn r (Declines e) → out ≡ rowAfter t out
 unfolding rowAfter
@@ -122,7 +134,3 @@ longer-made z l r n at b₁ b₂ hn hu hf ha e₁ e₂ =
     ap (λ b. record { size = z; bytes = b })
     (q ∙ fill-zeros 10 (take at (r .uid .bytes) ++ take (4 - n) (drop n (r .five)))
     ∙ rw (ha, drop-take n 4 (r .five)))
-
-pub begin-new : (s : Bool) (r : Reader) → isNew (r .phase) ≡ true → begin s r ≡ sends (blank ReqaSent s)
-unfolding begin
-begin-new s r e = rw e

@@ -7,7 +7,7 @@ ghost use lib.ListN.{length};
 ghost use Rattle.reader.specs.declared.Phase.the-variants.{New};
 ghost use Rattle.reader.specs.declared.Answer.the-variants.{Declines};
 ghost use Rattle.reader.specs.Reader.{blank, turn};
-ghost use Rattle.reader.specs.Calls.{awaits, hearCall, beginCall, rowAfter};
+ghost use Rattle.reader.specs.Calls.{awaits, hearCall, beginCall, rowAfter, turnSays, hearSays, beginSays};
 use refusal::Refusal;
 use uid::Level;
 use uid::Uid;
@@ -86,12 +86,13 @@ fn declines(r: Reader, e: Refusal) -> Turn
 fn begin(sweeps: bool, r: Reader, out: &mut [u8]) -> Turn
     ensures { λ t. ⌜ t ≡ beginCall sweeps r (length (now (out .entry))) ⌝ }
     ensures { λ t. ⌜ now (out .exit) ≡ rowAfter t (now (out .entry)) ⌝ }
+    ensures { λ t. ⌜ turnSays t ≡ beginSays sweeps r (length (now (out .entry))) ⌝ }
 {
     let p = r.phase;
     if !within::is_new(p) {
         return declines(r, Refusal::NotDue);
     }
-    if out.len() < 81 {
+    if out.len() < limits::FRAME_ROOM {
         return declines(r, Refusal::Room);
     }
     let t = within::sends(within::blank(Phase::ReqaSent, sweeps));
@@ -103,6 +104,7 @@ fn begin(sweeps: bool, r: Reader, out: &mut [u8]) -> Turn
 pub fn select(r: Reader, out: &mut [u8]) -> Turn
     ensures { λ t. ⌜ t ≡ beginCall false r (length (now (out .entry))) ⌝ }
     ensures { λ t. ⌜ now (out .exit) ≡ rowAfter t (now (out .entry)) ⌝ }
+    ensures { λ t. ⌜ turnSays t ≡ beginSays false r (length (now (out .entry))) ⌝ }
 {
     begin(false, r, out)
 }
@@ -111,6 +113,7 @@ pub fn select(r: Reader, out: &mut [u8]) -> Turn
 pub fn start_sweep(r: Reader, out: &mut [u8]) -> Turn
     ensures { λ t. ⌜ t ≡ beginCall true r (length (now (out .entry))) ⌝ }
     ensures { λ t. ⌜ now (out .exit) ≡ rowAfter t (now (out .entry)) ⌝ }
+    ensures { λ t. ⌜ turnSays t ≡ beginSays true r (length (now (out .entry))) ⌝ }
 {
     begin(true, r, out)
 }
@@ -119,12 +122,13 @@ pub fn start_sweep(r: Reader, out: &mut [u8]) -> Turn
 pub fn hear(r: Reader, row: &[u8], out: &mut [u8]) -> Turn
     ensures { λ t. ⌜ t ≡ hearCall r (now (row .entry)) (length (now (out .entry))) ⌝ }
     ensures { λ t. ⌜ now (out .exit) ≡ rowAfter t (now (out .entry)) ⌝ }
+    ensures { λ t. ⌜ turnSays t ≡ hearSays r (now (row .entry)) (length (now (out .entry))) ⌝ }
 {
     let p = r.phase;
     if !is_awaiting(p) {
         return declines(r, Refusal::NotDue);
     }
-    if out.len() < 81 {
+    if out.len() < limits::FRAME_ROOM {
         return declines(r, Refusal::Room);
     }
     let t = within::hear_rules(r, row);

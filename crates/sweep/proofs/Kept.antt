@@ -10,7 +10,7 @@ use Rattle.uid.specs.SortLaws.{length-sort}
 use Rattle.uid.specs.Uid.{rowOf, uidBytes, falling}
 use Rattle.log.specs.Log.{logBytes, listBytes}
 use Rattle.sweep_rules.specs.Demand.{Typed, idle, Swept}
-use Rattle.sweep_rules.specs.Limits.{logRoom, listRoom}
+use Rattle.limits.specs.Limits.{logRoom, listRoom}
 use Rattle.sweep_rules.specs.Run.{sweep}
 use Rattle.sweep_rules.specs.Terms.{within}
 use Rattle.sweep_rules.proofs.Demand3.{demand3}

@@ -8,7 +8,7 @@ use Rattle.rows.specs.Rows.{overlay}
 use Rattle.uid.specs.Uid.{uidBytes, falling, frameSum}
 use Rattle.reader.specs.Reader.{blank, isNew}
 use Rattle.log.specs.Log.{logBytes, listBytes}
-use Rattle.sweep_rules.specs.Limits.{mostCards, logRoom, listRoom}
+use Rattle.limits.specs.Limits.{mostCards, logRoom, listRoom}
 use Rattle.sweep_rules.specs.Run.{sweep}
 use Rattle.sweep_rules.specs.Terms.{within}
 use Rattle.sweep_rules.specs.Demand.{idle, halted}

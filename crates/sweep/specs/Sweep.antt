@@ -8,7 +8,7 @@ use lib.Dec.{ltb}
 use Rattle.rows.specs.Rows.{overlay}
 use Rattle.reader.specs.Reader.{isNew}
 use Rattle.log.specs.Log.{logBytes, listBytes}
-use Rattle.sweep_rules.specs.Limits.{mostCards, logRoom, listRoom}
+use Rattle.limits.specs.Limits.{mostCards, logRoom, listRoom}
 use Rattle.sweep_rules.specs.Run.{Out, sweep}
 use Rattle.sweep_rules.specs.Terms.{within}
 use Rattle.card.specs.declared.Card.{Card}

@@ -8,7 +8,7 @@ use lib.ListN.{length}
 use Rattle.rows.specs.Rows.{overlay}
 use Rattle.reader.specs.Reader.{isNew}
 use Rattle.log.specs.Log.{logBytes, listBytes}
-use Rattle.sweep_rules.specs.Limits.{mostCards, logRoom, listRoom}
+use Rattle.limits.specs.Limits.{mostCards, logRoom, listRoom}
 use Rattle.sweep_rules.specs.Run.{sweep}
 use Rattle.sweep_rules.specs.Terms.{allFit, apart, within}
 use Rattle.sweep_rules.proofs.Demand3.{demand3}

@@ -21,7 +21,7 @@ use Rattle.field.specs.Calls.{cardsAfter}
 use Rattle.field.specs.Field.{allTake, heardFrom}
 use Rattle.field.specs.TakeLaws as take-laws
 use Rattle.log.specs.Log.{Exchange, exchangeBytes, logBytes, listBytes, entryBytes}
-use Rattle.sweep_rules.specs.Limits.{mostCards}
+use Rattle.limits.specs.Limits.{mostCards}
 use Rattle.sweep_rules.specs.Run.{sweep}
 use Rattle.sweep.specs.CallLaws.{Promised}
 use Rattle.sweep_steps.specs.RunLaws as run-laws

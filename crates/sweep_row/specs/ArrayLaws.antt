@@ -10,7 +10,7 @@ use Rattle.uid.specs.Uid.{uidBytes, falling, frameSum}
 use Rattle.reader.specs.Reader.{isNew}
 use Rattle.log.specs.Log.{logBytes, listBytes}
 use Rattle.sweep_rules.specs.Demand.{idle, halted}
-use Rattle.sweep_rules.specs.Limits.{mostCards, logRoom, listRoom}
+use Rattle.limits.specs.Limits.{mostCards, logRoom, listRoom}
 use Rattle.sweep_rules.specs.Run.{Out, sweep}
 use Rattle.sweep_rules.specs.Terms.{within}
 use Rattle.sweep.specs.CallLaws.{Promised}

@@ -6,7 +6,7 @@ use mathlib.Core.List.{List}
 use lib.ListN.{length}
 use lib.Dec.{ltb}
 use Rattle.reader.specs.Reader.{isNew}
-use Rattle.sweep_rules.specs.Limits.{mostCards, logRoom, listRoom}
+use Rattle.limits.specs.Limits.{mostCards, logRoom, listRoom}
 use Rattle.sweep_rules.specs.Run.{sweep}
 use Rattle.sweep_rules.specs.Terms.{within}
 use Rattle.sweep.specs.Sweep.{call, refused, done, sweepOf}

@@ -14,7 +14,7 @@ use Rattle.field.specs.Calls.{cardsAfter}
 use Rattle.field.specs.Field.{allTake, heardFrom}
 use Rattle.field.specs.Merge.{join}
 use Rattle.field.specs.TakeLaws as take-laws
-use Rattle.sweep_rules.specs.Limits.{mostCards}
+use Rattle.limits.specs.Limits.{mostCards}
 use Rattle.card.specs.declared.Card.{Card}
 use Rattle.sweep_row.specs.declared.pass.Progress.{Progress}
 use Rattle.sweep_row.specs.Row.{noCard, heardIn, heardWith, heardCard, airWith}

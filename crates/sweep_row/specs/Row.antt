@@ -14,7 +14,7 @@ use Rattle.reader.specs.Reader.{blank, sends, frame, hear, uid}
 use Rattle.field.specs.Merge.{join}
 use Rattle.log.specs.Log.{Exchange, exchangeBytes, logBytes, listBytes}
 use Rattle.sweep_rules.specs.Demand.{Typed}
-use Rattle.sweep_rules.specs.Limits.{mostCards, mostFrames}
+use Rattle.limits.specs.Limits.{mostCards, mostFrames}
 use Rattle.sweep_rules.specs.Run.{Out}
 use Rattle.sweep_rules.specs.Terms.{cardFits}
 use Rattle.sweep_steps.specs.Steps.{goes, foundBy}

@@ -11,7 +11,7 @@ use lib.Seq.{drop-cons, getD-take}
 use Rattle.rows.specs.ListLaws.{both}
 use Rattle.rows.specs.Rows.{All, any, same}
 use Rattle.uid.specs.Uid.{uidBytes}
-use Rattle.sweep_rules.specs.Limits.{mostCards}
+use Rattle.limits.specs.Limits.{mostCards}
 use Rattle.sweep_rules.specs.Demand.{Typed}
 use Rattle.sweep_rules.specs.Terms.{cardFits, allFit, apart, within}
 use Rattle.card.specs.declared.Card.{Card}

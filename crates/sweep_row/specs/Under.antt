@@ -8,7 +8,7 @@ use Rattle.rows.specs.Rows.{All}
 use Rattle.reader.specs.Reader.{isNew, frame}
 use Rattle.field.specs.TakeLaws as take-laws
 use Rattle.sweep_rules.specs.Demand.{Typed}
-use Rattle.sweep_rules.specs.Limits.{mostCards, logRoom, listRoom}
+use Rattle.limits.specs.Limits.{mostCards, logRoom, listRoom}
 use Rattle.sweep_rules.specs.Run.{sweep}
 use Rattle.sweep_rules.specs.Terms.{within}
 use Rattle.sweep.specs.CallLaws.{Promised}

@@ -2,7 +2,7 @@
 ghost use mathlib.Core.Path.{_≡_};
 ghost use mathlib.Core.Bool.{true, false};
 ghost use Prim.Native.Nat.{_≤_, _<_};
-ghost use Rattle.sweep_rules.specs.Limits.{mostCards};
+ghost use Rattle.limits.specs.Limits.{mostCards};
 ghost use Rattle.sweep_rules.specs.Demand.{Typed};
 ghost use Rattle.sweep_row.specs.Row.{stopped, looks, again, onward, back, decided, looked, seenWith, Ready, Turns};
 ghost use Rattle.sweep_row.specs.Under.{Opened};

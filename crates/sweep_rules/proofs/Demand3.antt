@@ -1,14 +1,13 @@
 -- Demand 3. Assumes nothing.
 use mathlib.Core.Path.{_≡_, refl, sym, ap, ap₂, _∙_}
 use mathlib.Core.Logic.{_≢_}
-use Prim.Native.Nat.{ℕ, _*_, _/_, _≤_}
+use Prim.Native.Nat.{ℕ, _*_, _/_, _≤_, _<_}
 use mathlib.Core.Bool.{true, false}
 use mathlib.Core.List.{List, [], _∷_, map, map-map}
 use lib.ListN.{length, length-map, length-take}
-use borrow.Author.Tests.{le-ltb}
 use native.Mathlib.Omega.{arith}
 use Rattle.sweep_rules.proofs.Abstract
-use Rattle.rows.specs.EachLaws.{all-zip, all-map}
+use Rattle.rows.specs.EachLaws.{all-zip, all-map, all-weaken}
 use Rattle.rows.specs.Rows.{All}
 use Rattle.uid.specs.LevelLaws.{wide, InLevels}
 use Rattle.uid.specs.Order.{diff}
@@ -16,17 +15,19 @@ use Rattle.uid.specs.OrderLaws.{Off}
 use Rattle.uid.specs.SortLaws.{map-sort, length-sort, all-sort}
 use Rattle.uid.specs.Uid.{levels, rowOf, falling, frameSum, uidBytes}
 use Rattle.uid.specs.UidLaws.{name, Sound, rows-off, length-row, name-row}
-use Rattle.reader.specs.Reader.{blank, turn, isNew}
+use Rattle.reader.specs.Reader.{blank, sends, turn}
+use Rattle.log.specs.CountLaws.{sent-counted}
 use Rattle.log.specs.Log.{exchangeBytes}
-use Rattle.sweep_rules.specs.Call.{done, sweepCall}
-use Rattle.sweep_rules.specs.Demand.{Typed, idle, halted, Swept, Demand3}
-use Rattle.sweep_rules.specs.Limits.{mostCards, logRoom, listRoom, mostFrames}
+use Rattle.sweep_rules.specs.Demand.{Typed, idle, halted, Descending, Demand3}
+use Rattle.limits.specs.Limits.{mostCards, mostFrames}
 use Rattle.sweep_rules.specs.Run.{sweep}
 use Rattle.sweep_rules.specs.Terms.{within}
-use Rattle.sweep_rules.proofs.Abstract.{Falling, sort, frames, Apart}
+use Rattle.sweep_rules.proofs.Abstract.{sort, frames, Apart}
 use Rattle.sweep_rules.proofs.Falling.{sort-falling}
 use Rattle.sweep_rules.proofs.Idle.{Fits, idlers, idles, idle-uids, all-idle, few-idle}
 use Rattle.sweep_rules.proofs.IdleRows.{whole-idles}
+use Rattle.sweep_rules.proofs.Listed.{once-each, listed-exactly}
+use Rattle.sweep_rules.proofs.Logged.{run-loggable}
 use Rattle.sweep_rules.proofs.LogSize.{small-all, log-length, list-length}
 use Rattle.sweep_rules.proofs.Model.{view, model-swept}
 use Rattle.sweep_rules.proofs.Sweep.{sweep-bound, frames-small}
@@ -34,8 +35,7 @@ use Rattle.sweep_rules.proofs.Within.{Within, within-says, Differ, uids
 use Rattle.uid.specs.declared.Uid.{Uid}
 use Rattle.card.specs.declared.Card.{Card}
 use Rattle.reader.specs.declared.Answer.the-variants.{Finishes}
-use Rattle.reader.specs.declared.Phase.the-variants.{Finished}
-use Rattle.reader.specs.declared.Reader.{Reader}
+use Rattle.reader.specs.declared.Phase.the-variants.{Finished, ReqaSent}
 
 -- ---- rows that are apart
 
@@ -103,15 +103,15 @@ module _ (cs : List Card) (s : All Fits cs) (few : length cs ≤ mostCards) (d :
   unfolding found
   is-found = rw rows-are (rows-falling (idle cs))
 
-  rows-fall : Falling (map rowOf (falling (idle cs)))
+  rows-fall : Descending (map rowOf (falling (idle cs)))
   unfolding found
   rows-fall = rw is-found at (sort-falling (idles cs) whole apart-idles)
 
   sum-is : frames (sort (idles cs)) ≡ frameSum found
   sum-is = ap frames is-found ∙ frames-sum found sound-found
 
-  sum-small : frames (sort (idles cs)) ≤ 249
-  sum-small = frames-small (idles cs) whole (omega (arith, length-idles, few-idles))
+  sum-small : frames (sort (idles cs)) ≤ mostFrames
+  sum-small = frames-small mostCards (idles cs) whole (omega (arith, length-idles, few-idles))
 
   swept : view (sweep cs) ≡ (map uidBytes found, frameSum found, (map halted cs, true, turn (blank Finished false) Finishes))
   unfolding sweep
@@ -126,29 +126,32 @@ module _ (cs : List Card) (s : All Fits cs) (few : length cs ≤ mostCards) (d :
   unfolding uidBytes
   fits-found = all-map {F = Sound} (λ u. length u ≤ 10) uidBytes found (λ u t. rw length-take (omega (arith, t .ten))) sound-found
 
-  sweep-is : Swept cs (sweep cs)
+  smalls : All (λ e. (0 < length (e .sent)) × (length (exchangeBytes e) ≤ 19)) (sweep cs .exchanges)
+  unfolding view
+  smalls = small-all (sweep cs .exchanges) (ap (λ w. w .2 .1) swept)
+
+  is-list : sweep cs .found ≡ map uidBytes (falling (idle cs))
+  unfolding view found
+  is-list = ap (λ w. w .0) swept
+
+  sweep-is : Demand3 cs (sweep cs)
   unfolding view found
   sweep-is =
-      let e : All (λ e. length (exchangeBytes e) ≤ 19) (sweep cs .exchanges) = small-all (sweep cs .exchanges) (ap (λ w. w .2 .1) swept) in
+      let e : All (λ e. length (exchangeBytes e) ≤ 19) (sweep cs .exchanges) = all-weaken (sweep cs .exchanges) (λ e h. h .1) smalls in
       record {
         finished = ap (λ w. w .2 .2) swept;
-        found = ap (λ w. w .0) swept;
+        found = is-list;
+        once = rw is-list (once-each (idle cs) (rw (idle-uids cs) d));
+        exactly = λ u. rw is-list (listed-exactly u cs);
+        descending = rows-fall;
         cards = ap (λ w. w .2 .0) swept;
         frames = count;
+        counted = sent-counted (sweep cs .exchanges) (unfold sweep in run-loggable mostFrames (sends (blank ReqaSent true)) cs (unfold sweep in smalls)) ∙ count;
         bound = rw (count, ← sum-is) (rw length-idles at (sweep-bound (idles cs) whole));
         short = e;
         log-fits = omega (arith, log-length (sweep cs .exchanges) e, count, sum-is, sum-small);
-        list-fits = rw (ap (λ w. w .0) swept, list-length (map uidBytes found) fits-found, length-map (falling (idle cs)) uidBytes, length-falling (idle cs)) (omega (arith, few-idles));
+        list-fits = rw (is-list, list-length (map uidBytes found) fits-found, length-map (falling (idle cs)) uidBytes, length-falling (idle cs)) (omega (arith, few-idles));
       }
 
-call-is : (cs : List Card) → within cs ≡ true → (r : Reader) (log list : List ℕ) → isNew (r .phase) ≡ true → logRoom ≤ length log → listRoom ≤ length list
-    → sweepCall r log list cs ≡ done log list (sweep cs)
-unfolding sweepCall
-call-is cs w r log list n h k = rw (n, le-ltb (length log) logRoom h, le-ltb (length list) listRoom k, w)
-
-pub demand3 : (cs : List Card) → All Typed cs → within cs ≡ true → Demand3 cs
-demand3 cs t w = let x : Within cs = within-says cs t w in record { swept = sweep-is cs (x .fits) (x .few) (x .differ); call = call-is cs w }
-
--- the order of the list is falling
-pub found-falls : (cs : List Card) → All Typed cs → within cs ≡ true → Falling (map rowOf (falling (idle cs)))
-found-falls cs t w = let x : Within cs = within-says cs t w in rows-fall cs (x .fits) (x .few) (x .differ)
+pub demand3 : (cs : List Card) → All Typed cs → within cs ≡ true → Demand3 cs (sweep cs)
+demand3 cs t w = let x : Within cs = within-says cs t w in sweep-is cs (x .fits) (x .few) (x .differ)

@@ -8,6 +8,7 @@ use native.Mathlib.Omega.{arith}
 use Rattle.rows.specs.Rows.{All, any, same}
 use Rattle.uid.specs.Uid.{valid, uidBytes}
 use Rattle.sweep_rules.specs.Demand.{Typed, Demand3}
+use Rattle.sweep_rules.specs.Run.{sweep}
 use Rattle.sweep_rules.specs.Terms.{cardFits, allFit, apart, within}
 use Rattle.sweep_rules.proofs.Demand3.{demand3}
 use Rattle.uid.specs.declared.UidSize.{UidSize}
@@ -43,5 +44,5 @@ pub meets : within field ≡ true
 unfolding within allFit cardFits apart any same valid uidBytes
 meets = refl
 
-pub swept : Demand3 field
+pub swept : Demand3 field (sweep field)
 swept = demand3 field typed meets

@@ -16,5 +16,7 @@ pub mod Round
 pub mod LogSize
 pub mod Model
 pub mod Within
+pub mod Listed
+pub mod Logged
 pub mod Demand3
 pub mod Example

@@ -23,6 +23,7 @@ use Rattle.reader.specs.ReaderLaws.{selecting, place-lvl, lvl, knows, closing, 
 use Rattle.field.specs.Field.{allTake, heardFrom}
 use Rattle.field.specs.HeardLaws.{reads-atqa, length-atqas, length-answer, reads-clean, reads-clash}
 use Rattle.field.specs.Merge.{merge}
+use Rattle.log.specs.Log.{sentHeard}
 use Rattle.sweep_rules.specs.Demand.{halted}
 use Rattle.sweep_rules.specs.Run.{Out, before, ended, follow, run, finding}
 use Rattle.sweep_rules.proofs.Abstract.{strips, heard, sort, frames, Apart}
@@ -62,20 +63,20 @@ unfoldable pub goes : ℕ → Turn → List Card → Vw
 unfolding view
 goes f t F = view (follow (t .answer) t F (run f t F))
 
-tick : (f : ℕ) (r : Reader) (t : Turn) (F F′ : List Card) (h : List ℕ) (v : Vw) → heardFrom (frame r) F ≡ h → allTake (frame r) F ≡ F′ → hear r h ≡ t → small (frame r, h) ≡ true
+tick : (f : ℕ) (r : Reader) (t : Turn) (F F′ : List Card) (h : List ℕ) (v : Vw) → heardFrom (frame r) F ≡ h → allTake (frame r) F ≡ F′ → hear r h ≡ t → small (sentHeard (frame r) h) ≡ true
     → goes f t F′ ≡ v → goes (suc f) (sends r) F ≡ (v .0, suc (v .1), v .2)
 unfolding goes run before view allSmall sends
 tick f r t F F′ h v e₁ e₂ e₃ e₄ e₅ = rw (e₁, e₂, e₃, e₄) (ap (λ w. (w .0, suc (w .1), w .2)) e₅)
 
 -- the same where the turn announces a UID
-tick-found : (f : ℕ) (r : Reader) (t : Turn) (F F′ : List Card) (h : List ℕ) (v : Vw) → heardFrom (frame r) F ≡ h → allTake (frame r) F ≡ F′ → hear r h ≡ t → small (frame r, h) ≡ true
+tick-found : (f : ℕ) (r : Reader) (t : Turn) (F F′ : List Card) (h : List ℕ) (v : Vw) → heardFrom (frame r) F ≡ h → allTake (frame r) F ≡ F′ → hear r h ≡ t → small (sentHeard (frame r) h) ≡ true
     → goes f t F′ ≡ v → goes (suc f) (finds r) F ≡ (uidBytes (r .uid) ∷ v .0, suc (v .1), v .2)
 unfolding goes run before finding view allSmall finds
 tick-found f r t F F′ h v e₁ e₂ e₃ e₄ e₅ = rw (e₁, e₂, e₃, e₄) (ap (λ w. (uidBytes (r .uid) ∷ w .0, suc (w .1), w .2)) e₅)
 
 -- SELECT and a clean SAK
-small-sak : (l : Level) (five : List ℕ) (b : ℕ) → length five ≡ 5 → clean (sakFrame b) ≡ true → small (select l five, sakFrame b) ≡ true
-small-sak l five b h c = small-clean (select l five) (sakFrame b) c (rw (length-select l five h, length-sak b) (omega arith))
+small-sak : (l : Level) (five : List ℕ) (b : ℕ) → length five ≡ 5 → clean (sakFrame b) ≡ true → small (sentHeard (select l five) (sakFrame b)) ≡ true
+small-sak l five b h c = small-clean (select l five) (sakFrame b) (rw (length-select l five h) (omega arith)) c (rw (length-select l five h, length-sak b) (omega arith))
 
 map-nil : (cs : List Card) → map rowIn cs ≡ [] → cs ≡ []
 map-nil [] e = refl
@@ -94,7 +95,7 @@ module _ (f : ℕ) (F : List Card) (hF : All Fits F) (v : Vw) where
       let n : 1 ≤ length (sizes F) = rw length-map (rw length-map at h) in
       tick f (blank ReqaSent true) (opened 0 [] []) F (at [] (Ready One) F) (merge (map atqa (sizes F))) v
       (hear-req F hF) (turn-req F hF) (hears-atqa (merge (map atqa (sizes F))) (not-nil (merge (map atqa (sizes F))) (omega (arith, length-atqas (sizes F) n))) (reads-atqa (sizes F) n))
-      (small-any reqa (merge (map atqa (sizes F))) (rw (length-reqa, length-atqas (sizes F) n) (omega arith))) k
+      (small-any reqa (merge (map atqa (sizes F))) (rw length-reqa (omega arith)) (rw (length-reqa, length-atqas (sizes F) n) (omega arith))) k
 
   module _ (j n : ℕ) (P Q R : List ℕ) (o : Open 32 (idles F) j n P (Q ++ R)) where
     K : List ℕ
@@ -185,7 +186,7 @@ module _ (f : ℕ) (F : List Card) (hF : All Fits F) (v : Vw) where
   unfolding frame closing closed
   hlt-law P e k =
       tick-found f (closing P (lastSak P F)) asking (at P Active F) (at P Halt F) [] v (hear-hlt F hF P) (turn-hlt F hF P) (hears-silence P (lastSak P F))
-      (small-any hlta [] (rw length-hlta (omega arith))) k
+      (small-any hlta [] (rw length-hlta (omega arith)) (rw length-hlta (omega arith))) k
       ∙ ap (λ u. (u ∷ v .0, suc (v .1), v .2)) (found-closing P (lastSak P F) (whole-found P e))
 
 stop-law : (f : ℕ) (F : List Card) → All Fits F → idles F ≡ [] → goes (suc f) asking F ≡ ([], 1, (map halted F, true, turn (blank Finished false) Finishes))
@@ -193,7 +194,7 @@ unfolding goes asking sends run before ended view allSmall frame hear hearAtqa i
 stop-law f F hF e =
     let n : idlers F ≡ [] = map-nil (idlers F) e in
     let h : heardFrom reqa F ≡ [] = hear-req F hF ∙ rw n in
-    rw (h, turn-req F hF, none-idle [] (Ready One) F hF n, small-any reqa [] (rw length-reqa (omega arith)))
+    rw (h, turn-req F hF, none-idle [] (Ready One) F hF n, small-any reqa [] (rw length-reqa (omega arith)) (rw length-reqa (omega arith)))
 
 model : Machine
 unfolding wide

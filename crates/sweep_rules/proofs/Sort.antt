@@ -20,23 +20,23 @@ or-swap true true c = refl
 or-swap true false c = refl
 or-swap false b c = refl
 
-any-insert : (f : List ℕ → Bool) (r : List ℕ) (l : List (List ℕ)) → any f (insert r l) ≡ (f r || any f l)
+any-insert : {A : Type 0} (key : A → List ℕ) (f : A → Bool) (r : A) (l : List A) → any f (insertOn key r l) ≡ (f r || any f l)
 unfolding insertOn any
-any-insert f r [] = refl
-any-insert f r (s ∷ l) = go (above r s) (any-insert f r l)
+any-insert key f r [] = refl
+any-insert key f r (s ∷ l) = go (above (key r) (key s)) (any-insert key f r l)
   where
-    go : (b : Bool) → any f (insert r l) ≡ (f r || any f l) → any f (cond b (r ∷ s ∷ l) (s ∷ insert r l)) ≡ (f r || (f s || any f l))
+    go : (b : Bool) → any f (insertOn key r l) ≡ (f r || any f l) → any f (cond b (r ∷ s ∷ l) (s ∷ insertOn key r l)) ≡ (f r || (f s || any f l))
     go true ih = refl
     go false ih = ap (_||_ (f s)) ih ∙ or-swap (f s) (f r) (any f l)
 
-any-sort : (f : List ℕ → Bool) (S : List (List ℕ)) → any f (sort S) ≡ any f S
+pub any-sort : {A : Type 0} (key : A → List ℕ) (f : A → Bool) (S : List A) → any f (sortOn key S) ≡ any f S
 unfolding sortOn any
-any-sort f [] = refl
-any-sort f (r ∷ S) = any-insert f r (sort S) ∙ ap (_||_ (f r)) (any-sort f S)
+any-sort key f [] = refl
+any-sort key f (r ∷ S) = any-insert key f r (sortOn key S) ∙ ap (_||_ (f r)) (any-sort key f S)
 
 pub parts-sort : (P : List ℕ) (S : List (List ℕ)) → parts P (sort S) ≡ parts P S
 unfolding parts
-parts-sort P S = count-cong (length P) (λ q l. any-sort (λ r. partsAt q (diff P r)) S)
+parts-sort P S = count-cong (length P) (λ q l. any-sort (λ s. s) (λ r. partsAt q (diff P r)) S)
 
 -- ---- the rows that are left
 

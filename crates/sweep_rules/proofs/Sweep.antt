@@ -7,6 +7,7 @@ use native.Mathlib.Numerals.{sub-one}
 use mathlib.Core.List.{List, [], _∷_}
 use lib.ListN.{length}
 use native.Mathlib.Omega.{arith}
+use Rattle.limits.specs.Limits.{framesBound}
 use Rattle.rows.specs.Rows.{All}
 use Rattle.uid.specs.LevelLaws.{wide, InLevels}
 use Rattle.uid.specs.Order.{sortOn, parts}
@@ -63,7 +64,7 @@ unfolding frames tri
 frames-tri [] w = omega arith
 frames-tri (r ∷ l) w = omega (arith, levels-le r (w .0), parts-le r l, frames-tri l (w .1))
 
-pub sweep-bound : (S : List (List ℕ)) → All (InLevels 3) S → frames (sort S) ≤ 1 + 8 * length S + length S * (length S - 1) / 2
+pub sweep-bound : (S : List (List ℕ)) → All (InLevels 3) S → frames (sort S) ≤ framesBound (length S)
 sweep-bound S w = rw (← tri-is (length S)) (rw (length-sort (λ s. s) S) at (frames-tri (sort S) (all-sort (λ s. s) (InLevels 3) S w)))
 
 tri-mono : (n m : ℕ) → n ≤ m → tri n ≤ tri m
@@ -72,7 +73,6 @@ tri-mono zero m h = omega arith
 tri-mono (suc n) zero h = absurd (not-suc-le-zero h)
 tri-mono (suc n) (suc m) h = omega (arith, tri-mono n m (omega arith))
 
--- 16 cards take at most 249 frames
-pub frames-small : (S : List (List ℕ)) → All (InLevels 3) S → length S ≤ 16 → frames (sort S) ≤ 249
-unfolding tri
-frames-small S w h = omega (arith, rw (length-sort (λ s. s) S) at (frames-tri (sort S) (all-sort (λ s. s) (InLevels 3) S w)), tri-mono (length S) 16 h)
+-- at most n cards take at most the frames that n cards may take
+pub frames-small : (n : ℕ) (S : List (List ℕ)) → All (InLevels 3) S → length S ≤ n → frames (sort S) ≤ framesBound n
+frames-small n S w h = rw (← tri-is n) (omega (arith, rw (length-sort (λ s. s) S) at (frames-tri (sort S) (all-sort (λ s. s) (InLevels 3) S w)), tri-mono (length S) n h))

@@ -13,7 +13,7 @@ use Rattle.rows.specs.ListLaws.{both, same-eq}
 use Rattle.rows.specs.Rows.{All, any, same}
 use Rattle.uid.specs.Uid.{valid, uidBytes}
 use Rattle.sweep_rules.specs.Demand.{Typed}
-use Rattle.sweep_rules.specs.Limits.{mostCards}
+use Rattle.limits.specs.Limits.{mostCards}
 use Rattle.sweep_rules.specs.Terms.{isIdle, isHalt, cardFits, allFit, apart, within}
 use Rattle.sweep_rules.proofs.Idle.{Fits, idlers, all-idle}
 use Rattle.uid.specs.declared.Uid.{Uid}

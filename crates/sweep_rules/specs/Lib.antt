@@ -1,5 +1,3 @@
-pub mod Limits
 pub mod Run
 pub mod Terms
-pub mod Call
 pub mod Demand

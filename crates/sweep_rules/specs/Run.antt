@@ -6,8 +6,8 @@ use mathlib.Core.List.{List, [], _∷_, _++_}
 use Rattle.uid.specs.Uid.{uidBytes}
 use Rattle.reader.specs.Reader.{blank, sends, frame, hear}
 use Rattle.field.specs.Field.{allTake, heardFrom}
-use Rattle.log.specs.Log.{Exchange}
-use Rattle.sweep_rules.specs.Limits.{mostFrames}
+use Rattle.log.specs.Log.{Exchange, sentHeard}
+use Rattle.limits.specs.Limits.{mostFrames}
 use Rattle.card.specs.declared.Card.{Card}
 use Rattle.reader.specs.declared.Reader.{Reader}
 use Rattle.reader.specs.declared.Turn.{Turn}
@@ -50,7 +50,7 @@ run (suc fuel) t cs =
     let h : List ℕ = heardFrom f cs in
     let cs′ : List Card = allTake f cs in
     let t′ : Turn = hear (t .reader) h in
-    before (f, h) (follow (t′ .answer) t′ cs′ (run fuel t′ cs′))
+    before (sentHeard f h) (follow (t′ .answer) t′ cs′ (run fuel t′ cs′))
 
 -- a sweep
 unfoldable pub sweep : List Card → Out

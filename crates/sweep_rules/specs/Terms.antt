@@ -5,7 +5,7 @@ use lib.ListN.{length}
 use lib.Dec.{leb}
 use Rattle.rows.specs.Rows.{any, same}
 use Rattle.uid.specs.Uid.{valid, uidBytes}
-use Rattle.sweep_rules.specs.Limits.{mostCards}
+use Rattle.limits.specs.Limits.{mostCards}
 use Rattle.card.specs.declared.Card.{Card}
 use Rattle.card.specs.declared.CardState.{CardState}
 use Rattle.card.specs.declared.CardState.the-variants.{Off, Idle, Ready, Active, Halt, Protocol}

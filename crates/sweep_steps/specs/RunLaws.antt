@@ -17,7 +17,7 @@ use Rattle.reader.specs.Reader.{blank, sends, frame, hear}
 use Rattle.field.specs.Calls.{cardsAfter}
 use Rattle.field.specs.Field.{allTake, heardFrom}
 use Rattle.log.specs.Log.{Exchange, exchangeBytes, logBytes, listBytes, entryBytes}
-use Rattle.sweep_rules.specs.Limits.{mostCards, mostFrames}
+use Rattle.limits.specs.Limits.{mostCards, mostFrames}
 use Rattle.sweep_rules.specs.Run.{Out, before, finding, ended, follow, run, sweep}
 use Rattle.card.specs.declared.Card.{Card}
 use Rattle.reader.specs.declared.Reader.{Reader}

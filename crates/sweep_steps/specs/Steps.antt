@@ -11,7 +11,7 @@ use Rattle.reader.specs.Reader.{blank, sends, frame, hear}
 use Rattle.field.specs.Calls.{cardsAfter}
 use Rattle.field.specs.Field.{heardFrom}
 use Rattle.log.specs.Log.{Exchange, exchangeBytes, logBytes, listBytes}
-use Rattle.sweep_rules.specs.Limits.{mostCards, mostFrames}
+use Rattle.limits.specs.Limits.{mostCards, mostFrames}
 use Rattle.sweep_rules.specs.Run.{Out}
 use Rattle.card.specs.declared.Card.{Card}
 use Rattle.reader.specs.declared.Reader.{Reader}

@@ -15,7 +15,7 @@ use borrow.Author.Tests.{le-leb}
 use Rattle.rows.specs.Rows.{All, Bytes, any, same}
 use Rattle.rows.specs.ListLaws.{all-append, bytes-at}
 use Rattle.uid.specs.Uid.{uidBytes}
-use Rattle.sweep_rules.specs.Limits.{mostCards}
+use Rattle.limits.specs.Limits.{mostCards}
 use Rattle.sweep_rules.specs.Terms.{cardFits, allFit, apart, within}
 use Rattle.sweep_rules.specs.Demand.{Typed}
 use Rattle.card.specs.declared.Card.{Card}

@@ -6,7 +6,7 @@ ghost use lib.ListN.{length, take};
 ghost use Rattle.rows.specs.Rows.{All, overlay, clean};
 ghost use Rattle.log.specs.Log.{exchangeBytes, logBytes, listBytes};
 ghost use Rattle.log.specs.Calls.{mostBits};
-ghost use Rattle.sweep_rules.specs.Limits.{mostCards};
+ghost use Rattle.limits.specs.Limits.{mostCards};
 ghost use Rattle.sweep_rules.specs.Run.{sweep};
 ghost use Rattle.sweep_rules.specs.Terms.{within};
 ghost use Rattle.sweep_rules.specs.Demand.{Typed};

@@ -32,7 +32,7 @@ above-asym (x ∷ r) (y ∷ s) e = rw (eqb-flip y x) (go (eqb x y) refl e (above
     go false p q ih = rw (← eqb→eq x 1 (rw q tt), eqb-flip) p
 
 module _ {A : Type 0} (key : A → List ℕ) where
-  all-insert : (G : A → Type 0) (a : A) (l : List A) → G a → All G l → All G (insertOn key a l)
+  pub all-insert : (G : A → Type 0) (a : A) (l : List A) → G a → All G l → All G (insertOn key a l)
   unfolding insertOn
   all-insert G a [] h k = (h, tt)
   all-insert G a (b ∷ l) h k = go (above (key a) (key b)) (all-insert G a l h (k .1))

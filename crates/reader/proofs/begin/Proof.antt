@@ -1,7 +1,7 @@
 use denote.Ref.{now}
-use Rattle.reader.specs.Reader.{begin, sends}
+use Rattle.reader.specs.Reader.{sends}
 use Rattle.reader.specs.Calls.{beginCall, rowAfter}
-use Rattle.reader.specs.StepLaws.{call-not-due, call-room, call-due, begin-new, row-declined}
+use Rattle.reader.specs.StepLaws.{call-not-due, call-room, call-due, call-says, row-declined}
 use mathlib.Core.Path.{_≡_, sym, ap, _∙_}
 use borrow.Author.Tests.{not-true, not-false}
 use native.Mathlib.Omega.{arith}
@@ -18,10 +18,9 @@ declines-requires c κs = search needs
 returns : tie.Need-returns
 unfolding beginCall
 returns c =
-    let a = c .before .before .before .before .args in (
-      c .declines .ensures ∙ sym (call-not-due _ (a .r) _ _ (sym (c .before .before .is-new .ensures) ∙ not-true _ (c .before .if1 .taken))),
-      row-declined _ (a .r) _ (now (a .out)) (c .declines .ensures),
-    )
+    let a = c .before .before .before .before .args in
+    let e = c .declines .ensures ∙ sym (call-not-due _ (a .r) _ _ (sym (c .before .before .is-new .ensures) ∙ not-true _ (c .before .if1 .taken))) in
+    (e, (row-declined _ (a .r) _ (now (a .out)) (c .declines .ensures), call-says _ (a .r) _ _ _ e))
 
 declines-requires-2 : tie.Need-declines-requires-2
 declines-requires-2 c κs = search needs
@@ -29,10 +28,9 @@ declines-requires-2 c κs = search needs
 returns-2 : tie.Need-returns-2
 unfolding beginCall
 returns-2 c =
-    let a = c .before .before .before .before .before .args in (
-      c .declines2 .ensures ∙ sym (call-room _ (a .r) _ _ (sym (c .before .before .before .is-new .ensures) ∙ not-false _ (c .before .before .if1 .left)) (c .before .if2 .taken)),
-      row-declined _ (a .r) _ (now (a .out)) (c .declines2 .ensures),
-    )
+    let a = c .before .before .before .before .before .args in
+    let e = c .declines2 .ensures ∙ sym (call-room _ (a .r) _ _ (sym (c .before .before .before .is-new .ensures) ∙ not-false _ (c .before .before .if1 .left)) (c .before .if2 .taken)) in
+    (e, (row-declined _ (a .r) _ (now (a .out)) (c .declines2 .ensures), call-says _ (a .r) _ _ _ e))
 
 blank-requires : tie.Need-blank-requires
 blank-requires c κs = search needs
@@ -51,7 +49,8 @@ unfolding beginCall rowAfter
 returns-3 c =
     let a = c .before .before .before .before .before .before .before .before .before .before .args in
     let n = sym (c .before .before .before .before .before .before .before .before .is-new .ensures) ∙ not-false _ (c .before .before .before .before .before .before .before .if1 .left) in
-    (c .before .before .before .before .sends .ensures ∙ ap sends (c .before .before .before .before .before .blank .ensures) ∙ sym (begin-new (a .sweeps) (a .r) n) ∙ sym (call-due _ (a .r) _ _ n (c .before .before .before .before .before .before .if2 .left)), c .before .before .put-sent .ensures)
+    let e = c .before .before .before .before .sends .ensures ∙ ap sends (c .before .before .before .before .before .blank .ensures) ∙ sym (call-due _ (a .r) _ _ n (c .before .before .before .before .before .before .if2 .left)) in
+    (e, (c .before .before .put-sent .ensures, call-says _ (a .r) _ _ _ e))
 
 pub begin-spec : {M : Type 1} → statement M
 begin-spec =

@@ -6,7 +6,7 @@ use borrow.Author.Needs.{needs}
 use denote.Ref.{now}
 use lib.ListN.{length, take}
 use Rattle.reader.specs.Reader.{blank, sends}
-use Rattle.sweep_rules.specs.Limits.{mostFrames}
+use Rattle.limits.specs.Limits.{mostFrames}
 use Rattle.sweep_rules.specs.Run.{sweep}
 use Rattle.sweep_steps.specs.Steps.{started, goesOn}
 use Rattle.sweep_steps.specs.RunLaws.{Under, under-none, under-room, under-turn, under-ends, under-log, under-list, fewer-left}

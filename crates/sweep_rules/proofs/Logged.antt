@@ -1,0 +1,63 @@
+-- The records of a run can be read back: each frame is bits, and short. Assumes nothing.
+use mathlib.Core.Path.{_≡_, refl}
+use Prim.Native.Nat.{ℕ, zero, suc, _+_, _*_, _≤_, _<_}
+use native.Mathlib.Omega.{arith}
+use mathlib.Core.Bool.{Bool, true, false}
+use mathlib.Core.List.{List, [], _∷_}
+use lib.ListN.{length, length-append}
+use Rattle.rows.specs.EachLaws.{all-zip}
+use Rattle.rows.specs.Rows.{All, Bits, clean}
+use Rattle.reader.specs.FrameLaws.{frame-bits}
+use Rattle.reader.specs.Reader.{frame, hear}
+use Rattle.field.specs.Field.{allTake, heardFrom}
+use Rattle.log.specs.Calls.{rowSize}
+use Rattle.log.specs.CountLaws.{Loggable}
+use Rattle.log.specs.Log.{Exchange, sentRecord, heardRecord, exchangeBytes}
+use Rattle.log.specs.RecordLaws.{length-sent, length-heard-clean, length-heard-collided}
+use Rattle.sweep_rules.specs.Run.{Out, before, ended, follow, run, finding}
+use Rattle.card.specs.declared.Card.{Card}
+use Rattle.reader.specs.declared.Answer.{Answer}
+use Rattle.reader.specs.declared.Answer.the-variants.{Sends, Finds, Selects, Finishes, Declines}
+use Rattle.reader.specs.declared.Turn.{Turn}
+
+-- ---- each frame is bits
+
+run-bits : (fuel : ℕ) (t : Turn) (cs : List Card) → All (λ e. Bits (e .sent)) (run fuel t cs .exchanges)
+unfolding run before finding ended
+run-bits zero t cs = tt
+run-bits (suc fuel) t cs =
+    let f : List ℕ = frame (t .reader) in
+    let t′ : Turn = hear (t .reader) (heardFrom f cs) in
+    let cs′ : List Card = allTake f cs in
+    (frame-bits (t .reader), on (t′ .answer) t′ cs′ (run fuel t′ cs′) (run-bits fuel t′ cs′))
+  where
+    on : (a : Answer) (t : Turn) (cs : List Card) (o : Out) → All (λ e. Bits (e .sent)) (o .exchanges) → All (λ e. Bits (e .sent)) (follow a t cs o .exchanges)
+    on (Sends n) t cs o h = h
+    on (Finds n) t cs o h = h
+    on Selects t cs o h = tt
+    on Finishes t cs o h = tt
+    on (Declines e) t cs o h = tt
+
+-- ---- both rows are short
+
+heard-least : (h : List ℕ) → 2 + rowSize (length h) ≤ length (heardRecord h)
+heard-least h = go (clean h) refl
+  where
+    go : (b : Bool) → clean h ≡ b → 2 + rowSize (length h) ≤ length (heardRecord h)
+    go true e = omega (arith, length-heard-clean h e)
+    go false e = omega (arith, length-heard-collided h e)
+
+loggable : (e : Exchange) → Bits (e .sent) → (0 < length (e .sent)) × (length (exchangeBytes e) ≤ 19) → Loggable e
+unfolding exchangeBytes
+loggable e b h =
+    let n : length (sentRecord (e .sent)) + length (heardRecord (e .heard)) ≤ 19 = omega (arith, h .1, length-append (sentRecord (e .sent)) (heardRecord (e .heard))) in
+    record {
+      bits = b;
+      some = h .0;
+      sent-fits = omega (arith, n, length-sent (e .sent));
+      heard-fits = omega (arith, n, heard-least (e .heard));
+    }
+
+pub run-loggable : (fuel : ℕ) (t : Turn) (cs : List Card) → All (λ e. (0 < length (e .sent)) × (length (exchangeBytes e) ≤ 19)) (run fuel t cs .exchanges)
+    → All Loggable (run fuel t cs .exchanges)
+run-loggable fuel t cs h = all-zip (run fuel t cs .exchanges) loggable (run-bits fuel t cs) h
