@@ -3,6 +3,7 @@ ghost use mathlib.Core.Path.{_≡_};
 ghost use mathlib.Core.Bool.{cond};
 ghost use Prim.Native.Nat.{_≤_};
 ghost use lib.ListN.{length, take};
+ghost use Rattle.limits.specs.Limits.{mostCards};
 ghost use Rattle.rows.specs.Rows.{overlay};
 ghost use Rattle.card.specs.Card.{takes, answers};
 ghost use Rattle.field.specs.Merge.{meet, join};
@@ -10,6 +11,7 @@ ghost use Rattle.field.specs.Field.{heardFrom};
 ghost use Rattle.field.specs.Calls.{together, bitsIn, one};
 use card::Card;
 use card::CardAnswer;
+use limits::MOST_CARDS;
 
 // A card after a frame, and the number of bits heard up to it.
 pub struct One {
@@ -19,7 +21,7 @@ pub struct One {
 
 // The cards after a frame, and the number of bits heard.
 pub struct Together {
-    pub cards: [Card; 16],
+    pub cards: [Card; MOST_CARDS],
     pub bits: usize,
 }
 
@@ -85,8 +87,8 @@ pub fn take_one(c: Card, frame: &[u8], heard: &mut [u8], bits: usize) -> One
 }
 
 // Each of the first n cards takes the frame. The row in which all answers are heard grows from the last card to the first.
-pub fn take_all(start: [Card; 16], n: usize, frame: &[u8], heard: &mut [u8]) -> Together
-    requires { ⌜ (n ≤ 16) × (45 ≤ length (now heard)) ⌝ }
+pub fn take_all(start: [Card; MOST_CARDS], n: usize, frame: &[u8], heard: &mut [u8]) -> Together
+    requires { ⌜ (n ≤ mostCards) × (45 ≤ length (now heard)) ⌝ }
     ensures { λ r. ⌜ r ≡ together start n (now (frame .entry)) ⌝ }
     ensures { λ r. ⌜ now (heard .exit) ≡ overlay (now (heard .entry)) 0 (heardFrom (now (frame .entry)) (take n start)) ⌝ }
 {

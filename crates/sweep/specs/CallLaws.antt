@@ -1,13 +1,16 @@
 -- Laws of the call of a sweep: which of its tests applies. Where it declines, the field or what was lent is not within demand 3's terms.
 -- Assumes nothing.
-use mathlib.Core.Path.{_≡_, sym, ap, _∙_}
+use mathlib.Core.Path.{_≡_, refl, sym, ap, _∙_}
 use Prim.Native.Nat.{ℕ, _≤_, _<_}
 use native.Mathlib.Omega.{arith}
-use mathlib.Core.Bool.{true, false, false≢true}
+use mathlib.Core.Bool.{Bool, true, false, cond, not, _||_, false≢true}
 use mathlib.Core.List.{List}
 use lib.ListN.{length, take}
+use lib.Dec.{ltb}
 use borrow.Author.Tests.{lt-ltb, le-ltb}
 use Rattle.rows.specs.Rows.{overlay}
+use Rattle.refusal.specs.Refusal.{declining}
+use Rattle.reader.specs.Calls.{turnSays}
 use Rattle.reader.specs.Reader.{isNew}
 use Rattle.log.specs.Log.{logBytes, listBytes}
 use Rattle.limits.specs.Limits.{mostCards, logRoom, listRoom}
@@ -18,7 +21,7 @@ use Rattle.reader.specs.declared.Reader.{Reader}
 use Rattle.refusal.specs.declared.Refusal.{Refusal}
 use Rattle.refusal.specs.declared.Refusal.the-variants.{Room, Argument, NotDue}
 use Rattle.sweep.specs.Sweep.{call, refused, done, sweepOf}
-use Rattle.sweep.specs.Promise.{Terms, Sweeps}
+use Rattle.sweep.specs.Promise.{Terms, sweptSays, sweepSays, Sweeps}
 use Rattle.sweep_steps.specs.Steps.{ends}
 use Rattle.sweep.specs.declared.Swept.{Swept}
 use Rattle.sweep_steps.specs.declared.within.Progress.{Progress}
@@ -26,7 +29,7 @@ use Rattle.sweep_steps.specs.declared.within.Progress.{Progress}
 -- what the contract says of a call that gave s, log₁ and list₁
 abbrev pub Promised : Reader → List Card → ℕ → List ℕ → List ℕ → Swept → List ℕ → List ℕ → Type 0
 Promised r cards n log list s log₁ list₁ =
-    (call s log₁ list₁ ≡ sweepOf r cards n log list) × (Terms r cards n log list → Sweeps cards n log list s log₁ list₁)
+    (call s log₁ list₁ ≡ sweepOf r cards n log list) × Sweeps r cards n log list s log₁ list₁
 
 -- what the loop leaves is what the call gives
 abbrev pub sweptAt : Progress → Swept
@@ -38,9 +41,29 @@ unfolding done
 ends-call cards n log list o p log₁ list₁ e a b = rw (e, a, b)
 
 module _ (r : Reader) (cards : List Card) (n : ℕ) (log list : List ℕ) where
+  -- the call's numbers
+  pub call-says : (s : Swept) (log₁ list₁ : List ℕ) → call s log₁ list₁ ≡ sweepOf r cards n log list → sweptSays s ≡ sweepSays r cards n log list
+  unfolding sweepOf done
+  call-says s log₁ list₁ e =
+      ap (λ c. sweptSays (c .swept)) e
+      ∙ go (not (isNew (r .phase))) (ltb (length log) logRoom || ltb (length list) listRoom) (ltb mostCards n || not (within (take n cards)))
+    where
+      o : Out
+      o = sweep (take n cards)
+
+      go : (a b d : Bool) → sweptSays (cond a (call (refused r cards NotDue) log list) (cond b (call (refused r cards Room) log list)
+          (cond d (call (refused r cards Argument) log list) (done cards n log list o))) .swept)
+          ≡ cond a (declining 11) (cond b (declining 1) (cond d (declining 6) (turnSays (o .last))))
+      go true b d = refl
+      go false true d = refl
+      go false false true = refl
+      go false false false = refl
+
   declines : (e : Refusal) (s : Swept) → s ≡ refused r cards e → call (refused r cards e) log list ≡ sweepOf r cards n log list → (Terms r cards n log list → ⊥)
       → Promised r cards n log list s log list
-  declines e s h k never = (ap (λ x. call x log list) h ∙ k, λ t. absurd (never t))
+  declines e s h k never =
+      let c = ap (λ x. call x log list) h ∙ k in
+      (c, record { says = call-says s log list c; run = λ t. absurd (never t); demand3 = λ t. absurd (never t) })
 
   pub not-due : (s : Swept) → s ≡ refused r cards NotDue → isNew (r .phase) ≡ false → Promised r cards n log list s log list
   unfolding sweepOf

@@ -1,32 +1,26 @@
 // Document 01, "The reader and the sweep": the plain sweep, over values.
 ghost use mathlib.Core.Path.{_≡_};
 ghost use Rattle.sweep.specs.Sweep.{call, refused, sweepOf};
-ghost use Rattle.sweep.specs.Promise.{Terms, Sweeps};
+ghost use Rattle.sweep.specs.Promise.{Sweeps};
 use card::Card;
+use limits::MOST_CARDS;
 use reader::Answer;
 use reader::Reader;
 use refusal::Refusal;
-
-// "over 16 cards" is 6; "The sweep asks for 8,192 bytes of log and 176 of list".
-pub const MOST_CARDS: usize = 16;
-
-pub const LOG_ROOM: usize = 8192;
-
-pub const LIST_ROOM: usize = 176;
 
 // After a sweep: the reader and its last answer, Finishes or why the sweep was declined; the cards; how many frames the reader sent, how many
 // bytes of the log are written, and how many UIDs stand in the list.
 pub struct Swept {
     pub reader: Reader,
     pub answer: Answer,
-    pub cards: [Card; 16],
+    pub cards: [Card; MOST_CARDS],
     pub frames: usize,
     pub logged: usize,
     pub found: usize,
 }
 
 // Declined before a frame is sent.
-fn refused(r: Reader, cards: [Card; 16], e: Refusal) -> Swept
+fn refused(r: Reader, cards: [Card; MOST_CARDS], e: Refusal) -> Swept
     ensures { λ s. ⌜ s ≡ refused r cards e ⌝ }
 {
     Swept {
@@ -42,18 +36,24 @@ fn refused(r: Reader, cards: [Card; 16], e: Refusal) -> Swept
 // The reader finds every idle card of a field, the first n cards, and halts it. Each frame and what was heard after it goes into the lent log,
 // each UID into the lent list, from their fronts on. Declined, with all unchanged: 11, the reader is not new; 1, log or list is too short; 6,
 // the field is not one that a sweep takes.
-pub fn sweep(r: Reader, cards: [Card; 16], n: usize, log: &mut [u8], list: &mut [u8]) -> Swept
+pub fn sweep(
+    r: Reader,
+    cards: [Card; MOST_CARDS],
+    n: usize,
+    log: &mut [u8],
+    list: &mut [u8],
+) -> Swept
     ensures { λ s. ⌜ call s (now (log .exit)) (now (list .exit)) ≡ sweepOf r cards n (now (log .entry)) (now (list .entry)) ⌝ }
-    ensures { λ s. ⌜ (Terms r cards n (now (log .entry)) (now (list .entry)) → Sweeps cards n (now (log .entry)) (now (list .entry)) s (now (log .exit)) (now (list .exit))) ⌝ }
+    ensures { λ s. ⌜ Sweeps r cards n (now (log .entry)) (now (list .entry)) s (now (log .exit)) (now (list .exit)) ⌝ }
 {
     let phase = r.phase;
     if !reader::within::is_new(phase) {
         return refused(r, cards, Refusal::NotDue);
     }
-    if log.len() < LOG_ROOM {
+    if log.len() < limits::LOG_ROOM {
         return refused(r, cards, Refusal::Room);
     }
-    if list.len() < LIST_ROOM {
+    if list.len() < limits::LIST_ROOM {
         return refused(r, cards, Refusal::Room);
     }
     if n > MOST_CARDS {

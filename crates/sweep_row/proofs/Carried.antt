@@ -44,4 +44,4 @@ module _ (r : Reader) (cards : List Card) (log list : List ℕ) (b : Begun r car
   unfolding done
   carried s after log₁ list₁ es ec el ef =
       let e : call (sweptRow s after) log₁ list₁ ≡ done cards n log list (sweep (take n cards)) = rw (es, ec, el, ef, row, drop-row n cards refl, append-nil) in
-      (e ∙ runs r cards n log list (b .new) (b .log-room) (b .list-room) (b .few) field-row, λ t. kept cards n typed-row field-row log list (sweptRow s after) log₁ list₁ e)
+      kept cards n typed-row field-row r log list (sweptRow s after) log₁ list₁ e (runs r cards n log list (b .new) (b .log-room) (b .list-room) (b .few) field-row)

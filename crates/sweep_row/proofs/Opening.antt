@@ -67,7 +67,7 @@ module _ (r : Reader) (n : ℕ) (log list : List ℕ) where
     opens-empty z p s e es log₁ list₁ el ef = stops p s e log₁ list₁ go
       where
         go : (cards : List Card) → length cards ≡ n → Promised r cards (length cards) log list (sweptRow s cards) log₁ list₁
-        go [] h = carried r [] log list none tt empty-within s [] log₁ list₁ es (sym (demand3 [] tt empty-within .swept .cards)) el ef
+        go [] h = carried r [] log list none tt empty-within s [] log₁ list₁ es (sym (demand3 [] tt empty-within .cards)) el ef
         go (c ∷ cards) h = absurd (omega (arith, h, z))
 
     pub opens-looks : n ≤ mostCards → (n ≡ 0 → ⊥) → (p : Progress) → p ≡ looks r n → Opened r n log list p log list

@@ -20,7 +20,7 @@ use Rattle.reader.specs.declared.Answer.the-variants.{Sends, Finds, Selects, Fi
 use Rattle.field.specs.Calls.{cardsAfter}
 use Rattle.field.specs.Field.{allTake, heardFrom}
 use Rattle.field.specs.TakeLaws as take-laws
-use Rattle.log.specs.Log.{Exchange, exchangeBytes, logBytes, listBytes, entryBytes}
+use Rattle.log.specs.Log.{Exchange, exchangeBytes, logBytes, listBytes, entryBytes, sentHeard}
 use Rattle.limits.specs.Limits.{mostCards}
 use Rattle.sweep_rules.specs.Run.{sweep}
 use Rattle.sweep.specs.CallLaws.{Promised}
@@ -108,7 +108,7 @@ module _ (r : Reader) (cards₀ : List Card) (log₀ list₀ : List ℕ) (p : Pr
 
     exchange : steps.nextExchange P N ≡ exchangeWith (p .swept .reader) a
     unfolding steps.exchangeOf exchangeWith
-    exchange = ap (λ h. (f, h)) heard
+    exchange = ap (sentHeard f) heard
 
     turn : steps.nextTurn P N ≡ turnWith (p .swept .reader) a
     unfolding steps.exchanged turnWith

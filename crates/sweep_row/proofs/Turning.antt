@@ -7,6 +7,7 @@ use mathlib.Core.List.{List}
 use lib.ListN.{length, getD, set}
 use lib.Dec.{eqb}
 use borrow.Author.Tests.{eqb-true, eqb-false}
+use Rattle.limits.specs.Limits.{mostFrames}
 use Rattle.card.specs.Card.{takes}
 use Rattle.reader.specs.Reader.{frame}
 use Rattle.sweep.specs.CallLaws.{Promised}
@@ -18,7 +19,7 @@ use Rattle.sweep_row.specs.declared.pass.Progress.{Progress}
 use Rattle.sweep_row.specs.declared.pass.Turned.{Turned}
 use Rattle.sweep_row.specs.Row.{sweptRow, noCard, seenWith, heardCard, airWith, finished, firstRow, stopped, again, onward, back, decided, looked, took, turnOf, Ready, Turns}
 use Rattle.sweep_row.specs.TurnLaws.{turned, turns-look, turns-end, turns-on}
-use Rattle.sweep_row.specs.Under.{Looking, Taking, UnderIf, Under, Opened, measure}
+use Rattle.sweep_row.specs.Under.{Looking, Taking, UnderIf, Under, Opened, measure, passTurns}
 use Rattle.sweep_row.proofs.Taking.{taken-last, taken-next, taking-ready}
 use Rattle.sweep_row.proofs.Looking.{looked-last, looked-next, looking-ready}
 
@@ -93,7 +94,7 @@ module _ (r : Reader) (cards₀ : List Card) (log₀ list₀ : List ℕ) (p : Pr
               (going-on (onward p (airWith p c)) g l (set ws (p .at) (takes c (frame (p .swept .reader)))) (taken-next r cards₀ log₀ list₀ p ws log list (takes-it l) (eqb-false (p .at) 0 z)))
 
       -- fewer turns are to come
-      decides : (s : Seen) (b : Bool) → s .fits ≡ b → measure (cond b (again p firstRow) (stopped (p .swept))) < 17 * 257 + p .at
+      decides : (s : Seen) (b : Bool) → s .fits ≡ b → measure (cond b (again p firstRow) (stopped (p .swept))) < passTurns * (1 + mostFrames) + p .at
       unfolding firstRow
       decides s true e = omega (arith, ready .few)
       decides s false e = omega arith
@@ -105,11 +106,11 @@ module _ (r : Reader) (cards₀ : List Card) (log₀ list₀ : List ℕ) (p : Pr
           next : (q : Progress) → turnOf p c .next ≡ q → measure q < measure p → measure (t .next) < measure p
           next q e h = subst (λ x. measure (x .next) < measure p) (sym (k .is)) (subst (λ x. measure x < measure p) (sym e) h)
 
-          long : p .looking ≡ true → measure p ≡ 17 * 257 + p .at
-          long l = ap (λ b. cond b (17 * 257 + p .at) (17 * (256 - p .swept .frames) + p .at)) l
+          long : p .looking ≡ true → measure p ≡ passTurns * (1 + mostFrames) + p .at
+          long l = ap (λ b. cond b (passTurns * (1 + mostFrames) + p .at) (passTurns * (mostFrames - p .swept .frames) + p .at)) l
 
-          short : p .looking ≡ false → measure p ≡ 17 * (256 - p .swept .frames) + p .at
-          short l = ap (λ b. cond b (17 * 257 + p .at) (17 * (256 - p .swept .frames) + p .at)) l
+          short : p .looking ≡ false → measure p ≡ passTurns * (mostFrames - p .swept .frames) + p .at
+          short l = ap (λ b. cond b (passTurns * (1 + mostFrames) + p .at) (passTurns * (mostFrames - p .swept .frames) + p .at)) l
 
           go : (b : Bool) → p .looking ≡ b → (z : Bool) → eqb (p .at) 0 ≡ z → measure (t .next) < measure p
           go true l true z =
@@ -119,7 +120,7 @@ module _ (r : Reader) (cards₀ : List Card) (log₀ list₀ : List ℕ) (p : Pr
           go true l false z =
               next (back p (seenWith (p .seen) (p .at) (p .cards) c))
               (ap (λ b. cond b (turned c (looked p c)) (turned (takes c (frame (p .swept .reader))) (took p c)) .next) l ∙ ap (λ b. cond b (decided p (seenWith (p .seen) (p .at) (p .cards) c)) (back p (seenWith (p .seen) (p .at) (p .cards) c))) z)
-              (let e : measure (back p (seenWith (p .seen) (p .at) (p .cards) c)) ≡ 17 * 257 + (p .at - 1) = ap (λ b. cond b (17 * 257 + (p .at - 1)) (17 * (256 - p .swept .frames) + (p .at - 1))) l in
+              (let e : measure (back p (seenWith (p .seen) (p .at) (p .cards) c)) ≡ passTurns * (1 + mostFrames) + (p .at - 1) = ap (λ b. cond b (passTurns * (1 + mostFrames) + (p .at - 1)) (passTurns * (mostFrames - p .swept .frames) + (p .at - 1))) l in
               omega (arith, long l, e, eqb-false (p .at) 0 z))
           go false l true z =
               next (again p (finished (p .swept) (airWith p c)))
@@ -128,5 +129,5 @@ module _ (r : Reader) (cards₀ : List Card) (log₀ list₀ : List ℕ) (p : Pr
           go false l false z =
               next (onward p (airWith p c))
               (ap (λ b. cond b (turned c (looked p c)) (turned (takes c (frame (p .swept .reader))) (took p c)) .next) l ∙ ap (λ b. cond b (again p (finished (p .swept) (airWith p c))) (onward p (airWith p c))) z)
-              (let e : measure (onward p (airWith p c)) ≡ 17 * (256 - p .swept .frames) + (p .at - 1) = ap (λ b. cond b (17 * 257 + (p .at - 1)) (17 * (256 - p .swept .frames) + (p .at - 1))) l in
+              (let e : measure (onward p (airWith p c)) ≡ passTurns * (mostFrames - p .swept .frames) + (p .at - 1) = ap (λ b. cond b (passTurns * (1 + mostFrames) + (p .at - 1)) (passTurns * (mostFrames - p .swept .frames) + (p .at - 1))) l in
               omega (arith, short l, e, eqb-false (p .at) 0 z))

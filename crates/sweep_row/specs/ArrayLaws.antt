@@ -1,20 +1,19 @@
 -- A row that is the first n cards of an array: what the sweep's contract says of the row, it says of the array. Assumes nothing.
 use mathlib.Core.Path.{_≡_, ap, subst, _∙_}
-use Prim.Native.Nat.{ℕ, _+_, _-_, _*_, _/_, _≤_}
+use Prim.Native.Nat.{ℕ}
 use mathlib.Core.Bool.{Bool, true, false, not, cond, _||_}
-use mathlib.Core.List.{List, [], map, _++_, append-nil}
+use mathlib.Core.List.{List, [], _++_, append-nil}
 use lib.ListN.{length, take, drop, take-append-drop}
 use lib.Dec.{ltb}
-use Rattle.rows.specs.Rows.{overlay}
-use Rattle.uid.specs.Uid.{uidBytes, falling, frameSum}
-use Rattle.reader.specs.Reader.{isNew}
-use Rattle.log.specs.Log.{logBytes, listBytes}
-use Rattle.sweep_rules.specs.Demand.{idle, halted}
 use Rattle.limits.specs.Limits.{mostCards, logRoom, listRoom}
+use Rattle.refusal.specs.Refusal.{Said, declineIf}
+use Rattle.reader.specs.Calls.{turnSays}
+use Rattle.reader.specs.Reader.{isNew}
+use Rattle.sweep_rules.specs.Demand.{Demand3}
 use Rattle.sweep_rules.specs.Run.{Out, sweep}
 use Rattle.sweep_rules.specs.Terms.{within}
 use Rattle.sweep.specs.CallLaws.{Promised}
-use Rattle.sweep.specs.Promise.{Terms, Sweeps}
+use Rattle.sweep.specs.Promise.{Terms, sweptSays, Sweeps}
 use Rattle.sweep.specs.Sweep.{Call, call, refused, done, sweepOf}
 use Rattle.card.specs.declared.Card.{Card}
 use Rattle.reader.specs.declared.Reader.{Reader}
@@ -78,28 +77,25 @@ module _ (r : Reader) (cards : List Card) (n : ℕ) (log list : List ℕ) (long 
   terms : Terms r cards n log list → Terms r front n log list
   terms t = record { new = t .new; log-room = t .log-room; list-room = t .list-room; few = t .few; field = ap within again ∙ t .field }
 
-  halts : map halted (take n front) ++ drop n front ≡ map halted front
-  halts = rw (again, no-more, append-nil)
-
-  sweeps : (s : RowSwept) (after : List Card) (log₁ list₁ : List ℕ) → Sweeps front n log list (sweptRow s after) log₁ list₁
-      → Sweeps cards n log list (sweptRow s (after ++ rest)) log₁ list₁
+  sweeps : (s : RowSwept) (after : List Card) (log₁ list₁ : List ℕ) → Sweeps r front n log list (sweptRow s after) log₁ list₁
+      → Sweeps r cards n log list (sweptRow s (after ++ rest)) log₁ list₁
   sweeps s after log₁ list₁ w =
       record {
-        reader = w .reader;
-        answer = w .answer;
-        list = subst (λ k. list₁ ≡ overlay list 0 (listBytes (map uidBytes (falling (idle k))))) again (w .list);
-        found = subst (λ k. s .found ≡ length (idle k)) again (w .found);
-        cards = ap (λ k. k ++ rest) (w .cards ∙ halts);
-        log = subst (λ k. log₁ ≡ overlay log 0 (logBytes (sweep k .exchanges))) again (w .log);
-        logged = subst (λ k. s .logged ≡ length (logBytes (sweep k .exchanges))) again (w .logged);
-        records = subst (λ k. s .frames ≡ length (sweep k .exchanges)) again (w .records);
-        frames = subst (λ k. s .frames ≡ frameSum (falling (idle k))) again (w .frames);
-        bound = subst (λ k. s .frames ≤ 1 + 8 * length (idle k) + length (idle k) * (length (idle k) - 1) / 2) again (w .bound);
+        says = subst (λ k. sweptSays (sweptRow s after) ≡ saysOf k) again (w .says);
+        run = λ t. ap (with rest) (subst (λ k. call (sweptRow s after) log₁ list₁ ≡ done front n log list (sweep k)) again (w .run (terms t))) ∙ runs-on (sweep front);
+        demand3 = λ t. subst (λ k. Demand3 k (sweep k)) again (w .demand3 (terms t));
       }
+    where
+      -- the call's numbers, by the field
+      saysOf : List Card → Said
+      saysOf k =
+          declineIf (not (isNew (r .phase))) 11
+          (declineIf (ltb (length log) logRoom || ltb (length list) listRoom) 1
+          (declineIf (ltb mostCards n || not (within k)) 6 (turnSays (sweep k .last))))
 
   pub array-promised : (s : RowSwept) (after : List Card) (log₁ list₁ : List ℕ) → Promised r front (length front) log list (sweptRow s after) log₁ list₁
       → Promised r cards n log list (sweptRow s (after ++ rest)) log₁ list₁
   array-promised s after log₁ list₁ p = go (subst (λ m. Promised r front m log list (sweptRow s after) log₁ list₁) long p)
     where
       go : Promised r front n log list (sweptRow s after) log₁ list₁ → Promised r cards n log list (sweptRow s (after ++ rest)) log₁ list₁
-      go k = (ap (with rest) (k .0) ∙ same-call, λ t. sweeps s after log₁ list₁ (k .1 (terms t)))
+      go k = (ap (with rest) (k .0) ∙ same-call, sweeps s after log₁ list₁ (k .1))

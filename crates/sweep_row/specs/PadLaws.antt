@@ -27,7 +27,7 @@ module _ (n : ℕ) (cs : List Card) (e : length cs ≡ n) where
   pub drop-padded : drop n (padded n cs) ≡ replicate (mostCards - n) noCard
   drop-padded = drop-at cs (replicate (mostCards - n) noCard) n e
 
-  pub length-padded : n ≤ mostCards → length (padded n cs) ≡ 16
+  pub length-padded : n ≤ mostCards → length (padded n cs) ≡ mostCards
   length-padded few = rw (length-append, length-replicate) (omega arith)
 
   -- a row is the whole of its cards

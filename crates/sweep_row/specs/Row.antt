@@ -12,7 +12,7 @@ use Rattle.uid.specs.Uid.{uidBytes}
 use Rattle.card.specs.Card.{takes, answers}
 use Rattle.reader.specs.Reader.{blank, sends, frame, hear, uid}
 use Rattle.field.specs.Merge.{join}
-use Rattle.log.specs.Log.{Exchange, exchangeBytes, logBytes, listBytes}
+use Rattle.log.specs.Log.{Exchange, sentHeard, exchangeBytes, logBytes, listBytes}
 use Rattle.sweep_rules.specs.Demand.{Typed}
 use Rattle.limits.specs.Limits.{mostCards, mostFrames}
 use Rattle.sweep_rules.specs.Run.{Out}
@@ -67,7 +67,7 @@ heardCard a r c =
 -- ---- the cards seen
 
 abbrev pub noneSeen : Seen
-noneSeen = record { fits = true; uids = replicate 16 (uid Single []) }
+noneSeen = record { fits = true; uids = replicate mostCards (uid Single []) }
 
 -- the card at a place of a row of n cards, after those behind it
 unfoldable pub seenWith : Seen → ℕ → ℕ → Card → Seen
@@ -80,7 +80,7 @@ seenWith s at n c =
 -- ---- the end of an exchange
 
 unfoldable pub exchangeWith : Reader → Air → Exchange
-exchangeWith r a = (frame r, heardIn a)
+exchangeWith r a = sentHeard (frame r) (heardIn a)
 
 unfoldable pub turnWith : Reader → Air → Turn
 turnWith r a = hear r (heardIn a)

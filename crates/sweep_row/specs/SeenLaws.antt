@@ -37,15 +37,15 @@ module _ {A : Type 0} (t : A → Bool) (l : List A) (n : ℕ) (h : n ≤ length 
   any-done k = rw (drop-of-length-le (take n l) {i = i} (rw length-take (omega arith)))
 
 -- ---- a field of one card
-pub alone-fits : (c : Card) → within (take 1 (replicate 16 c)) ≡ cardFits c
+pub alone-fits : (c : Card) → within (take 1 (replicate mostCards c)) ≡ cardFits c
 unfolding within allFit apart any
 alone-fits c = go (cardFits c) refl
   where
-    go : (b : Bool) → cardFits c ≡ b → within (take 1 (replicate 16 c)) ≡ b
+    go : (b : Bool) → cardFits c ≡ b → within (take 1 (replicate mostCards c)) ≡ b
     go true e = rw e
     go false e = rw e
 
-pub alone-typed : (c : Card) → All Typed (take 1 (replicate 16 c)) → Typed c
+pub alone-typed : (c : Card) → All Typed (take 1 (replicate mostCards c)) → Typed c
 alone-typed c h = h .0
 
 -- ---- one card more
@@ -73,7 +73,7 @@ shuffle true true true false = refl
 
 -- the cards from a place on are such a field, and their UIDs are kept
 pub record SeenFrom (cards : List Card) (i : ℕ) (s : Seen) : Type 0 where
-  pub sixteen : length (s .uids) ≡ mostCards
+  pub full : length (s .uids) ≡ mostCards
   pub uids : drop i (take (length cards) (s .uids)) ≡ map (λ k. k .uid) (drop i cards)
   pub fits : s .fits ≡ (allFit (drop i cards) && apart (drop i cards))
   pub typed : s .fits ≡ true → All Typed (drop i cards)
@@ -83,7 +83,7 @@ unfolding allFit apart
 seen-none cards few =
     let e : drop (length cards) cards ≡ [] = drop-of-length-le cards {i = length cards} (omega arith) in
     let k : drop (length cards) (take (length cards) (noneSeen .uids)) ≡ [] = drop-of-length-le (take (length cards) (noneSeen .uids)) {i = length cards} (rw length-take (omega arith)) in
-    record { sixteen = refl; uids = k ∙ rw e; fits = rw e; typed = λ f. rw e tt }
+    record { full = refl; uids = k ∙ rw e; fits = rw e; typed = λ f. rw e tt }
 
 module _ (cards : List Card) (few : length cards ≤ mostCards) (at : ℕ) (h : at < length cards) (s : Seen) (v : SeenFrom cards (suc at) s) where
   abbrev here : Card
@@ -108,8 +108,8 @@ module _ (cards : List Card) (few : length cards ≤ mostCards) (at : ℕ) (h : 
   unfolding seenWith rest
   seen-next t =
       record {
-        sixteen = length-set (s .uids) at (here .uid) ∙ v .sixteen;
-        uids = seen-uids at (length cards) (s .uids) (here .uid) h (omega (arith, v .sixteen)) ∙ rw (v .uids, next);
+        full = length-set (s .uids) at (here .uid) ∙ v .full;
+        uids = seen-uids at (length cards) (s .uids) (here .uid) h (omega (arith, v .full)) ∙ rw (v .uids, next);
         fits = fits-here;
         typed = λ f. rw next (t f, v .typed (both (s .fits) (cardFits here) (both (s .fits && cardFits here) _ f .0) .0));
       }

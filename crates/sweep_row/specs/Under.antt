@@ -8,7 +8,7 @@ use Rattle.rows.specs.Rows.{All}
 use Rattle.reader.specs.Reader.{isNew, frame}
 use Rattle.field.specs.TakeLaws as take-laws
 use Rattle.sweep_rules.specs.Demand.{Typed}
-use Rattle.limits.specs.Limits.{mostCards, logRoom, listRoom}
+use Rattle.limits.specs.Limits.{mostCards, logRoom, listRoom, mostFrames}
 use Rattle.sweep_rules.specs.Run.{sweep}
 use Rattle.sweep_rules.specs.Terms.{within}
 use Rattle.sweep.specs.CallLaws.{Promised}
@@ -78,9 +78,13 @@ UnderIf true false r cards₀ log₀ list₀ p cards log list = Taking r cards�
 abbrev pub Under : Reader → List Card → List ℕ → List ℕ → Progress → List Card → List ℕ → List ℕ → Type 0
 Under r cards₀ log₀ list₀ p cards log list = UnderIf (p .going) (p .looking) r cards₀ log₀ list₀ p cards log list
 
+-- more turns than a pass over a row has
+abbrev pub passTurns : ℕ
+passTurns = 1 + mostCards
+
 -- the turns to come are fewer after each: in a pass the place, and the passes
 abbrev pub measure : Progress → ℕ
-measure p = cond (p .looking) (17 * 257 + p .at) (17 * (256 - p .swept .frames) + p .at)
+measure p = cond (p .looking) (passTurns * (1 + mostFrames) + p .at) (passTurns * (mostFrames - p .swept .frames) + p .at)
 
 -- a sweep over any row of n cards begins
 pub record Opened (r : Reader) (n : ℕ) (log₀ list₀ : List ℕ) (p : Progress) (log list : List ℕ) : Type 0 where

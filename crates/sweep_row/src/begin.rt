@@ -10,6 +10,7 @@ ghost use Rattle.sweep_row.specs.Row.{refusedRow, firstRow, endRow};
 use crate::RowSwept;
 use card::Card;
 use card::CardState;
+use limits::MOST_CARDS;
 use reader::Answer;
 use reader::Phase;
 use reader::Reader;
@@ -63,7 +64,7 @@ pub fn empty(log: &mut [u8], list: &mut [u8]) -> RowSwept
         index: 0,
         state: CardState::Off,
     };
-    let p = sweep_steps::within::run([c; 16], 0, log, list);
+    let p = sweep_steps::within::run([c; MOST_CARDS], 0, log, list);
     let t = p.turn;
     let r = t.reader;
     let a = t.answer;

@@ -63,7 +63,7 @@ pub fn finish(s: RowSwept, a: Air, log: &mut [u8], list: &mut [u8]) -> RowSwept
 pub fn goes_on(s: RowSwept) -> bool
     ensures { λ r. ⌜ r ≡ goesOn s ⌝ }
 {
-    if s.frames < 256 {
+    if s.frames < limits::MOST_FRAMES {
         let a = s.answer;
         return sweep_steps::within::goes(a);
     }

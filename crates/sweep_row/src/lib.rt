@@ -2,7 +2,7 @@
 ghost use mathlib.Core.Path.{_≡_};
 ghost use lib.ListN.{length};
 ghost use Rattle.sweep.specs.Sweep.{call, sweepOf};
-ghost use Rattle.sweep.specs.Promise.{Terms, Sweeps};
+ghost use Rattle.sweep.specs.Promise.{Sweeps};
 ghost use Rattle.sweep_row.specs.Row.{sweptRow};
 use card::Card;
 use reader::Answer;
@@ -30,7 +30,7 @@ pub struct RowSwept {
 // 16 cards or is not a field that a sweep takes.
 pub fn sweep_row(r: Reader, cards: &mut [Card], log: &mut [u8], list: &mut [u8]) -> RowSwept
     ensures { λ s. ⌜ call (sweptRow s (now (cards .exit))) (now (log .exit)) (now (list .exit)) ≡ sweepOf r (now (cards .entry)) (length (now (cards .entry))) (now (log .entry)) (now (list .entry)) ⌝ }
-    ensures { λ s. ⌜ (Terms r (now (cards .entry)) (length (now (cards .entry))) (now (log .entry)) (now (list .entry)) → Sweeps (now (cards .entry)) (length (now (cards .entry))) (now (log .entry)) (now (list .entry)) (sweptRow s (now (cards .exit))) (now (log .exit)) (now (list .exit))) ⌝ }
+    ensures { λ s. ⌜ Sweeps r (now (cards .entry)) (length (now (cards .entry))) (now (log .entry)) (now (list .entry)) (sweptRow s (now (cards .exit))) (now (log .exit)) (now (list .exit)) ⌝ }
 {
     let mut p = pass::opening(r, cards.len(), log, list);
     while p.going {

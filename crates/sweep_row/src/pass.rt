@@ -10,6 +10,7 @@ use crate::RowSwept;
 use crate::air::Air;
 use crate::seen::Seen;
 use card::Card;
+use limits::MOST_CARDS;
 use reader::Reader;
 use refusal::Refusal;
 
@@ -180,13 +181,13 @@ pub fn opening(r: Reader, n: usize, log: &mut [u8], list: &mut [u8]) -> Progress
     if !reader::within::is_new(phase) {
         return stopped(crate::begin::refused(r, Refusal::NotDue));
     }
-    if log.len() < sweep::LOG_ROOM {
+    if log.len() < limits::LOG_ROOM {
         return stopped(crate::begin::refused(r, Refusal::Room));
     }
-    if list.len() < sweep::LIST_ROOM {
+    if list.len() < limits::LIST_ROOM {
         return stopped(crate::begin::refused(r, Refusal::Room));
     }
-    if n > sweep::MOST_CARDS {
+    if n > MOST_CARDS {
         return stopped(crate::begin::refused(r, Refusal::Argument));
     }
     if n == 0 {

@@ -3,19 +3,21 @@ ghost use mathlib.Core.Path.{_≡_};
 ghost use mathlib.Core.Bool.{true, not};
 ghost use Prim.Native.Nat.{_+_, _≤_, _<_};
 ghost use lib.ListN.{take, drop};
+ghost use Rattle.limits.specs.Limits.{mostCards};
 ghost use Rattle.rows.specs.Rows.{any, same};
 ghost use Rattle.uid.specs.Uid.{uidBytes};
 ghost use Rattle.sweep_rules.specs.Terms.{cardFits};
 ghost use Rattle.sweep_rules.specs.Demand.{Typed};
 ghost use Rattle.sweep_row.specs.Row.{noneSeen, seenWith};
 use card::Card;
+use limits::MOST_CARDS;
 use uid::Uid;
 use uid::UidSize;
 
 // fits: the cards seen so far are such a field; uids: their UIDs, each at its card's place.
 pub struct Seen {
     pub fits: bool,
-    pub uids: [Uid; 16],
+    pub uids: [Uid; MOST_CARDS],
 }
 
 pub fn none() -> Seen
@@ -27,7 +29,7 @@ pub fn none() -> Seen
     };
     Seen {
         fits: true,
-        uids: [u; 16],
+        uids: [u; MOST_CARDS],
     }
 }
 
@@ -36,12 +38,12 @@ fn card_fits(c: Card) -> bool
     ensures { λ r. ⌜ r ≡ cardFits c ⌝ }
     ensures { λ r. ⌜ (r ≡ true → Typed c) ⌝ }
 {
-    sweep_steps::within::is_within([c; 16], 1)
+    sweep_steps::within::is_within([c; MOST_CARDS], 1)
 }
 
 // Is the UID none of those from one place to another?
-fn is_alone(u: Uid, uids: [Uid; 16], start: usize, n: usize) -> bool
-    requires { ⌜ (start ≤ n) × (n ≤ 16) ⌝ }
+fn is_alone(u: Uid, uids: [Uid; MOST_CARDS], start: usize, n: usize) -> bool
+    requires { ⌜ (start ≤ n) × (n ≤ mostCards) ⌝ }
     ensures { λ r. ⌜ r ≡ not (any (λ v. same (uidBytes u) (uidBytes v)) (drop start (take n uids))) ⌝ }
 {
     for i in start..n {
@@ -54,7 +56,7 @@ fn is_alone(u: Uid, uids: [Uid; 16], start: usize, n: usize) -> bool
 }
 
 fn fits_too(s: Seen, at: usize, n: usize, c: Card) -> bool
-    requires { ⌜ (at < n) × (n ≤ 16) ⌝ }
+    requires { ⌜ (at < n) × (n ≤ mostCards) ⌝ }
     ensures { λ r. ⌜ r ≡ seenWith s at n c .fits ⌝ }
     ensures { λ r. ⌜ (r ≡ true → Typed c) ⌝ }
 {
@@ -71,7 +73,7 @@ fn fits_too(s: Seen, at: usize, n: usize, c: Card) -> bool
 
 // The card at a place is seen, after those behind it.
 pub fn see_card(s: Seen, at: usize, n: usize, c: Card) -> Seen
-    requires { ⌜ (at < n) × (n ≤ 16) ⌝ }
+    requires { ⌜ (at < n) × (n ≤ mostCards) ⌝ }
     ensures { λ r. ⌜ r ≡ seenWith s at n c ⌝ }
     ensures { λ r. ⌜ (r .fits ≡ true → Typed c) ⌝ }
 {

@@ -1,30 +1,32 @@
 // The sweep over a lent row, for our own crates that have their cards in an array.
 ghost use mathlib.Core.Path.{_≡_};
 ghost use Prim.Native.Nat.{_≤_};
+ghost use Rattle.limits.specs.Limits.{mostCards};
 ghost use Rattle.sweep.specs.Sweep.{call, sweepOf};
-ghost use Rattle.sweep.specs.Promise.{Terms, Sweeps};
+ghost use Rattle.sweep.specs.Promise.{Sweeps};
 ghost use Rattle.sweep_row.specs.Row.{sweptRow};
 use crate::RowSwept;
 use card::Card;
+use limits::MOST_CARDS;
 use reader::Reader;
 use sweep::Swept;
 
 // The array after the sweep, and what the sweep over the lent row gave.
 pub struct ArraySwept {
-    pub cards: [Card; 16],
+    pub cards: [Card; MOST_CARDS],
     pub swept: RowSwept,
 }
 
 // The first n cards of the array are lent as the row; the others are unchanged.
 pub fn sweep_array(
     r: Reader,
-    mut cards: [Card; 16],
+    mut cards: [Card; MOST_CARDS],
     n: usize,
     log: &mut [u8],
     list: &mut [u8],
 ) -> ArraySwept
-    requires { ⌜ n ≤ 16 ⌝ }
-    ensures { λ s. ⌜ (call (sweptRow (s .swept) (s .cards)) (now (log .exit)) (now (list .exit)) ≡ sweepOf r cards n (now (log .entry)) (now (list .entry))) × (Terms r cards n (now (log .entry)) (now (list .entry)) → Sweeps cards n (now (log .entry)) (now (list .entry)) (sweptRow (s .swept) (s .cards)) (now (log .exit)) (now (list .exit))) ⌝ }
+    requires { ⌜ n ≤ mostCards ⌝ }
+    ensures { λ s. ⌜ (call (sweptRow (s .swept) (s .cards)) (now (log .exit)) (now (list .exit)) ≡ sweepOf r cards n (now (log .entry)) (now (list .entry))) × Sweeps r cards n (now (log .entry)) (now (list .entry)) (sweptRow (s .swept) (s .cards)) (now (log .exit)) (now (list .exit)) ⌝ }
 {
     let s = crate::sweep_row(r, &mut cards[..n], log, list);
     ArraySwept {
@@ -36,15 +38,15 @@ pub fn sweep_array(
 // The plain sweep's answer, by the lent row. An array holds no row of over 16 cards, which the plain sweep declines.
 pub fn sweep_by_row(
     r: Reader,
-    cards: [Card; 16],
+    cards: [Card; MOST_CARDS],
     n: usize,
     log: &mut [u8],
     list: &mut [u8],
 ) -> Swept
     ensures { λ s. ⌜ call s (now (log .exit)) (now (list .exit)) ≡ sweepOf r cards n (now (log .entry)) (now (list .entry)) ⌝ }
-    ensures { λ s. ⌜ (Terms r cards n (now (log .entry)) (now (list .entry)) → Sweeps cards n (now (log .entry)) (now (list .entry)) s (now (log .exit)) (now (list .exit))) ⌝ }
+    ensures { λ s. ⌜ Sweeps r cards n (now (log .entry)) (now (list .entry)) s (now (log .exit)) (now (list .exit)) ⌝ }
 {
-    if n > sweep::MOST_CARDS {
+    if n > MOST_CARDS {
         return sweep::sweep(r, cards, n, log, list);
     }
     let a = sweep_array(r, cards, n, log, list);

@@ -11,7 +11,7 @@ use Rattle.field.specs.Calls.{together}
 use Rattle.field.specs.Field.{heardFrom}
 use Rattle.field.specs.TakeLaws.{front-fits}
 use Rattle.field.specs.declared.within.Together.{Together}
-use Rattle.log.specs.Log.{exchangeBytes, sentRecord, heardRecord}
+use Rattle.log.specs.Log.{sentHeard, exchangeBytes, sentRecord, heardRecord}
 use Rattle.card.specs.declared.Card.{Card}
 
 -- the first n bits of the row r are s
@@ -37,13 +37,13 @@ heard-front f n r u cards k t e d h o =
     (o ∙ ap (λ x. overlay d 0 (heardFrom x (take k cards))) (u .bits))
 
 -- the two records one behind the other
-pub length-exchange : (f h : List ℕ) → length (exchangeBytes (f, h)) ≡ length (sentRecord f) + length (heardRecord h)
+pub length-exchange : (f h : List ℕ) → length (exchangeBytes (sentHeard f h)) ≡ length (sentRecord f) + length (heardRecord h)
 unfolding exchangeBytes
 length-exchange f h = length-append (sentRecord f) (heardRecord h)
 
-pub exchange-written : (log : List ℕ) (at : ℕ) (f h log₁ log₂ : List ℕ) (a : ℕ) → at + length (exchangeBytes (f, h)) ≤ length log
+pub exchange-written : (log : List ℕ) (at : ℕ) (f h log₁ log₂ : List ℕ) (a : ℕ) → at + length (exchangeBytes (sentHeard f h)) ≤ length log
     → a ≡ length (sentRecord f) → log₁ ≡ overlay log at (sentRecord f) → log₂ ≡ overlay log₁ (at + a) (heardRecord h)
-    → log₂ ≡ overlay log at (exchangeBytes (f, h))
+    → log₂ ≡ overlay log at (exchangeBytes (sentHeard f h))
 unfolding exchangeBytes
 exchange-written log at f h log₁ log₂ a room e o₁ o₂ =
     o₂ ∙ rw (o₁, e) (overlay-next log at (sentRecord f) (heardRecord h) (omega (arith, length-exchange f h)))

@@ -16,7 +16,7 @@ use Rattle.uid.specs.Uid.{uidBytes}
 use Rattle.reader.specs.Reader.{blank, sends, frame, hear}
 use Rattle.field.specs.Calls.{cardsAfter}
 use Rattle.field.specs.Field.{allTake, heardFrom}
-use Rattle.log.specs.Log.{Exchange, exchangeBytes, logBytes, listBytes, entryBytes}
+use Rattle.log.specs.Log.{Exchange, sentHeard, exchangeBytes, logBytes, listBytes, entryBytes}
 use Rattle.limits.specs.Limits.{mostCards, mostFrames}
 use Rattle.sweep_rules.specs.Run.{Out, before, finding, ended, follow, run, sweep}
 use Rattle.card.specs.declared.Card.{Card}
@@ -69,7 +69,7 @@ unfolding run after rest foundBy exchangeOf
 run-after k t cs =
     let t′ : Turn = hear (t .reader) (heardFrom (frame (t .reader)) cs) in
     let cs′ : List Card = allTake (frame (t .reader)) cs in
-    ap (before (frame (t .reader), heardFrom (frame (t .reader)) cs)) (follow-onward (t′ .answer) t′ cs′ (run k t′ cs′))
+    ap (before (sentHeard (frame (t .reader)) (heardFrom (frame (t .reader)) cs))) (follow-onward (t′ .answer) t′ cs′ (run k t′ cs′))
 
 rest-step : (k : ℕ) (t : Turn) (cs : List Card) → goes (t .answer) ≡ true → rest (suc k) t cs ≡ after k t cs
 unfolding rest
@@ -132,7 +132,7 @@ left p n = rest (mostFrames - p .frames) (p .turn) (take n (p .cards))
 
 -- the whole run is W, over the first n of cards₀ with log₀ and list₀; so far it is at p, log and list
 pub record Under (W : Out) (cards₀ : List Card) (n : ℕ) (log₀ list₀ : List ℕ) (p : Progress) (log list : List ℕ) : Type 0 where
-  pub sixteen : length (p .cards) ≡ 16
+  pub full : length (p .cards) ≡ mostCards
   pub log-size : length log ≡ length log₀
   pub list-size : length list ≡ length list₀
   pub log-row : overlay log (p .logged) (logBytes (left p n .exchanges)) ≡ overlay log₀ 0 (logBytes (W .exchanges))
@@ -146,12 +146,12 @@ pub record Under (W : Out) (cards₀ : List Card) (n : ℕ) (log₀ list₀ : Li
   pub others : drop n (p .cards) ≡ drop n cards₀
 
 -- before the first exchange
-pub under-none : (cards : List Card) (n : ℕ) (log list : List ℕ) → length cards ≡ 16 → Under (sweep (take n cards)) cards n log list (started cards) log list
+pub under-none : (cards : List Card) (n : ℕ) (log list : List ℕ) → length cards ≡ mostCards → Under (sweep (take n cards)) cards n log list (started cards) log list
 unfolding started
 under-none cards n log list h =
     let e : rest mostFrames (sends (blank ReqaSent true)) (take n cards) ≡ sweep (take n cards) = sym (rest-all (take n cards)) in
     record {
-      sixteen = h;
+      full = h;
       log-size = refl;
       list-size = refl;
       log-row = ap (λ o. overlay log 0 (logBytes (o .exchanges))) e;
@@ -227,7 +227,7 @@ module _ (W : Out) (cards₀ : List Card) (n : ℕ) (log₀ list₀ : List ℕ) 
   module _ (g : goesOn p ≡ true) where
     step : left p n ≡ before (nextExchange p n) (with-found U R)
     unfolding U R
-    step = left-step p n (omega (arith, u .sixteen)) g
+    step = left-step p n (omega (arith, u .full)) g
 
     log-next : logBytes (left p n .exchanges) ≡ X ++ logBytes (R .exchanges)
     unfolding X before with-found logBytes
@@ -257,7 +257,7 @@ module _ (W : Out) (cards₀ : List Card) (n : ℕ) (log₀ list₀ : List ℕ) 
         omega (arith, u .list-size, u .list-at, ap length list-next, length-append (listBytes U) (listBytes (R .found))) in
         let at : 11 * (p .found + length U) ≡ 11 * p .found + length (listBytes U) = omega (arith, w .entries) in
         record {
-          sixteen = length-after (p .cards) n (frame (p .turn .reader)) (omega (arith, u .sixteen)) ∙ u .sixteen;
+          full = length-after (p .cards) n (frame (p .turn .reader)) (omega (arith, u .full)) ∙ u .full;
           log-size = ap length (w .log-row) ∙ length-overlay log (p .logged) X (omega arith) ∙ u .log-size;
           list-size = ap length (w .list-row) ∙ length-overlay list (11 * p .found) (listBytes U) (omega arith) ∙ u .list-size;
           log-row = rw (w .log-row, overlay-next log (p .logged) X (logBytes (R .exchanges)) few-log, ← log-next) (u .log-row);
@@ -268,7 +268,7 @@ module _ (W : Out) (cards₀ : List Card) (n : ℕ) (log₀ list₀ : List ℕ) 
           frames = omega (arith, u .frames, ap (λ o. length (o .exchanges)) step);
           cards = sym (ap (λ o. o .cards) step) ∙ u .cards;
           last = sym (ap (λ o. o .last) step) ∙ u .last;
-          others = drop-after (p .cards) n (frame (p .turn .reader)) (omega (arith, u .sixteen)) ∙ u .others;
+          others = drop-after (p .cards) n (frame (p .turn .reader)) (omega (arith, u .full)) ∙ u .others;
         }
 
   -- the loop is over

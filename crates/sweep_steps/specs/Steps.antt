@@ -10,7 +10,7 @@ use Rattle.uid.specs.Uid.{uidBytes}
 use Rattle.reader.specs.Reader.{blank, sends, frame, hear}
 use Rattle.field.specs.Calls.{cardsAfter}
 use Rattle.field.specs.Field.{heardFrom}
-use Rattle.log.specs.Log.{Exchange, exchangeBytes, logBytes, listBytes}
+use Rattle.log.specs.Log.{Exchange, sentHeard, exchangeBytes, logBytes, listBytes}
 use Rattle.limits.specs.Limits.{mostCards, mostFrames}
 use Rattle.sweep_rules.specs.Run.{Out}
 use Rattle.card.specs.declared.Card.{Card}
@@ -43,7 +43,7 @@ foundBy t = foundIn (t .answer) (uidBytes (t .reader .uid))
 
 -- the reader's frame, and what it hears from the field cs
 unfoldable pub exchangeOf : Reader → List Card → Exchange
-exchangeOf r cs = (frame r, heardFrom (frame r) cs)
+exchangeOf r cs = sentHeard (frame r) (heardFrom (frame r) cs)
 
 -- after it, over an array of which the first n cards are the field
 unfoldable pub exchanged : Reader → List Card → ℕ → Exchanged

@@ -3,12 +3,14 @@ ghost use mathlib.Core.Path.{_≡_};
 ghost use mathlib.Core.Bool.{true, not, _||_};
 ghost use Prim.Native.Nat.{_≤_};
 ghost use lib.ListN.{take, drop};
+ghost use Rattle.limits.specs.Limits.{mostCards};
 ghost use Rattle.rows.specs.Rows.{All, any, same};
 ghost use Rattle.uid.specs.Uid.{uidBytes};
 ghost use Rattle.sweep_rules.specs.Terms.{isIdle, isHalt, cardFits, allFit, apart, within};
 ghost use Rattle.sweep_rules.specs.Demand.{Typed};
 use card::Card;
 use card::CardState;
+use limits::MOST_CARDS;
 use uid::Uid;
 
 fn is_idle_or_halt(s: CardState) -> bool
@@ -40,8 +42,8 @@ fn card_fits(c: Card) -> bool
     is_idle_or_halt(s)
 }
 
-fn all_fit(cards: [Card; 16], n: usize) -> bool
-    requires { ⌜ n ≤ 16 ⌝ }
+fn all_fit(cards: [Card; MOST_CARDS], n: usize) -> bool
+    requires { ⌜ n ≤ mostCards ⌝ }
     ensures { λ r. ⌜ r ≡ allFit (take n cards) ⌝ }
     ensures { λ r. ⌜ (r ≡ true → All Typed (take n cards)) ⌝ }
 {
@@ -55,8 +57,8 @@ fn all_fit(cards: [Card; 16], n: usize) -> bool
 }
 
 // Has none of the cards from one place to another this UID?
-fn is_alone(u: Uid, cards: [Card; 16], start: usize, n: usize) -> bool
-    requires { ⌜ (start ≤ n) × (n ≤ 16) ⌝ }
+fn is_alone(u: Uid, cards: [Card; MOST_CARDS], start: usize, n: usize) -> bool
+    requires { ⌜ (start ≤ n) × (n ≤ mostCards) ⌝ }
     ensures { λ r. ⌜ r ≡ not (any (λ k. same (uidBytes u) (uidBytes (k .uid))) (drop start (take n cards))) ⌝ }
 {
     for i in start..n {
@@ -70,8 +72,8 @@ fn is_alone(u: Uid, cards: [Card; 16], start: usize, n: usize) -> bool
 }
 
 // Is no UID there twice?
-fn is_apart(cards: [Card; 16], n: usize) -> bool
-    requires { ⌜ n ≤ 16 ⌝ }
+fn is_apart(cards: [Card; MOST_CARDS], n: usize) -> bool
+    requires { ⌜ n ≤ mostCards ⌝ }
     ensures { λ r. ⌜ r ≡ apart (take n cards) ⌝ }
 {
     for i in 0..n {
@@ -85,8 +87,8 @@ fn is_apart(cards: [Card; 16], n: usize) -> bool
 }
 
 // Are the first n cards such a field?
-pub fn is_within(cards: [Card; 16], n: usize) -> bool
-    requires { ⌜ n ≤ 16 ⌝ }
+pub fn is_within(cards: [Card; MOST_CARDS], n: usize) -> bool
+    requires { ⌜ n ≤ mostCards ⌝ }
     ensures { λ r. ⌜ r ≡ within (take n cards) ⌝ }
     ensures { λ r. ⌜ (r ≡ true → All Typed (take n cards)) ⌝ }
 {

@@ -4,7 +4,7 @@ ghost use mathlib.Core.Bool.{true};
 ghost use Prim.Native.Nat.{_+_, _*_, _≤_, _<_};
 ghost use lib.ListN.{length, take};
 ghost use Rattle.rows.specs.Rows.{All, overlay, clean};
-ghost use Rattle.log.specs.Log.{exchangeBytes, logBytes, listBytes};
+ghost use Rattle.log.specs.Log.{sentHeard, exchangeBytes, logBytes, listBytes};
 ghost use Rattle.log.specs.Calls.{mostBits};
 ghost use Rattle.limits.specs.Limits.{mostCards};
 ghost use Rattle.sweep_rules.specs.Run.{sweep};
@@ -12,14 +12,15 @@ ghost use Rattle.sweep_rules.specs.Terms.{within};
 ghost use Rattle.sweep_rules.specs.Demand.{Typed};
 ghost use Rattle.sweep_steps.specs.Steps.{goes, foundBy, exchangeOf, exchanged, stepped, goesOn, ends, Roomy, Written};
 use card::Card;
+use limits::MOST_CARDS;
 use reader::Answer;
 use reader::Phase;
 use reader::Reader;
 use reader::Turn;
 
 // Are the first n cards a field that a sweep takes?
-pub fn is_within(cards: [Card; 16], n: usize) -> bool
-    requires { ⌜ n ≤ 16 ⌝ }
+pub fn is_within(cards: [Card; MOST_CARDS], n: usize) -> bool
+    requires { ⌜ n ≤ mostCards ⌝ }
     ensures { λ r. ⌜ r ≡ within (take n cards) ⌝ }
     ensures { λ r. ⌜ (r ≡ true → All Typed (take n cards)) ⌝ }
 {
@@ -29,14 +30,14 @@ pub fn is_within(cards: [Card; 16], n: usize) -> bool
 // After an exchange: the reader's turn, the cards, and the bytes of log that it took.
 pub struct Exchanged {
     pub turn: Turn,
-    pub cards: [Card; 16],
+    pub cards: [Card; MOST_CARDS],
     pub bytes: usize,
 }
 
 // How far a sweep is: the reader's turn, the cards, the bytes of log so far, the frames sent and the UIDs found.
 pub struct Progress {
     pub turn: Turn,
-    pub cards: [Card; 16],
+    pub cards: [Card; MOST_CARDS],
     pub logged: usize,
     pub frames: usize,
     pub found: usize,
@@ -44,9 +45,9 @@ pub struct Progress {
 
 // The records of a reader frame and of what was heard after it. The answer is their number of bytes.
 pub fn put_exchange(log: &mut [u8], at: usize, frame: &[u8], heard: &[u8]) -> usize
-    requires { ⌜ (clean (now frame) ≡ true) × (length (now frame) ≤ mostBits) × (length (now heard) ≤ mostBits) × (at + length (exchangeBytes (now frame, now heard)) ≤ length (now log)) ⌝ }
-    ensures { λ r. ⌜ r ≡ length (exchangeBytes (now (frame .entry), now (heard .entry))) ⌝ }
-    ensures { λ r. ⌜ now (log .exit) ≡ overlay (now (log .entry)) at (exchangeBytes (now (frame .entry), now (heard .entry))) ⌝ }
+    requires { ⌜ (clean (now frame) ≡ true) × (length (now frame) ≤ mostBits) × (length (now heard) ≤ mostBits) × (at + length (exchangeBytes (sentHeard (now frame) (now heard))) ≤ length (now log)) ⌝ }
+    ensures { λ r. ⌜ r ≡ length (exchangeBytes (sentHeard (now (frame .entry)) (now (heard .entry)))) ⌝ }
+    ensures { λ r. ⌜ now (log .exit) ≡ overlay (now (log .entry)) at (exchangeBytes (sentHeard (now (frame .entry)) (now (heard .entry)))) ⌝ }
 {
     let first = log::within::put_sent(log, at, frame);
     let second = log::within::put_heard(log, at + first, heard);
@@ -54,7 +55,7 @@ pub fn put_exchange(log: &mut [u8], at: usize, frame: &[u8], heard: &[u8]) -> us
 }
 
 // The reader's frame, taken by the first n cards; its records in the log; and the reader's turn on what it heard.
-fn exchange(r: Reader, cards: [Card; 16], n: usize, log: &mut [u8], at: usize) -> Exchanged
+fn exchange(r: Reader, cards: [Card; MOST_CARDS], n: usize, log: &mut [u8], at: usize) -> Exchanged
     requires { ⌜ (n ≤ mostCards) × (at + length (exchangeBytes (exchangeOf r (take n cards))) ≤ length (now log)) ⌝ }
     ensures { λ x. ⌜ x ≡ exchanged r cards n ⌝ }
     ensures { λ x. ⌜ now (log .exit) ≡ overlay (now (log .entry)) at (exchangeBytes (exchangeOf r (take n cards))) ⌝ }
@@ -136,7 +137,7 @@ pub fn goes(a: Answer) -> bool
 fn goes_on(p: Progress) -> bool
     ensures { λ r. ⌜ r ≡ goesOn p ⌝ }
 {
-    if p.frames < 256 {
+    if p.frames < limits::MOST_FRAMES {
         let t = p.turn;
         let a = t.answer;
         return goes(a);
@@ -145,7 +146,7 @@ fn goes_on(p: Progress) -> bool
 }
 
 // A whole sweep over the first n cards. It is called where log and list have room for what it writes.
-pub fn run(cards: [Card; 16], n: usize, log: &mut [u8], list: &mut [u8]) -> Progress
+pub fn run(cards: [Card; MOST_CARDS], n: usize, log: &mut [u8], list: &mut [u8]) -> Progress
     requires { ⌜ (n ≤ mostCards) × (length (logBytes (sweep (take n cards) .exchanges)) ≤ length (now log)) × (length (listBytes (sweep (take n cards) .found)) ≤ length (now list)) ⌝ }
     ensures { λ p. ⌜ p ≡ ends cards n (sweep (take n cards)) ⌝ }
     ensures { λ p. ⌜ now (log .exit) ≡ overlay (now (log .entry)) 0 (logBytes (sweep (take n cards) .exchanges)) ⌝ }

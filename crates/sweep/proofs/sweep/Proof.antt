@@ -88,10 +88,9 @@ returns-6 c =
     let typed : All Typed (take (a .n) (a .cards)) = c .before .before .before .before .before .before .before .before .before .before .before .is-within .ensures .1 w in
     let field : within (take (a .n) (a .cards)) ≡ true = sym (c .before .before .before .before .before .before .before .before .before .before .before .is-within .ensures .0) ∙ w in
     let p = c .before .before .before .before .before .before .before .run in
-    let e = ends-call (a .cards) (a .n) (now (a .log)) (now (a .list)) (sweep (take (a .n) (a .cards))) (p .result) (p .last .1 .1 .0) (p .last .1 .1 .1 .0) (p .ensures .0) (p .ensures .1 .0) (p .ensures .1 .1) in (
-      e ∙ runs (a .r) (a .cards) (a .n) (now (a .log)) (now (a .list)) new (c .before .before .before .before .before .before .before .before .before .before .before .before .before .before .if2 .left) (c .before .before .before .before .before .before .before .before .before .before .before .before .before .if3 .left) (c .before .before .before .before .before .before .before .before .before .before .before .before .if4 .left) field,
-      λ t. kept (a .cards) (a .n) typed field (now (a .log)) (now (a .list)) _ (p .last .1 .1 .0) (p .last .1 .1 .1 .0) e,
-    )
+    let e = ends-call (a .cards) (a .n) (now (a .log)) (now (a .list)) (sweep (take (a .n) (a .cards))) (p .result) (p .last .1 .1 .0) (p .last .1 .1 .1 .0) (p .ensures .0) (p .ensures .1 .0) (p .ensures .1 .1) in
+    kept (a .cards) (a .n) typed field (a .r) (now (a .log)) (now (a .list)) _ (p .last .1 .1 .0) (p .last .1 .1 .1 .0) e
+    (runs (a .r) (a .cards) (a .n) (now (a .log)) (now (a .list)) new (c .before .before .before .before .before .before .before .before .before .before .before .before .before .before .if2 .left) (c .before .before .before .before .before .before .before .before .before .before .before .before .before .if3 .left) (c .before .before .before .before .before .before .before .before .before .before .before .before .if4 .left) field)
 
 pub sweep-spec : {M : Type 1} → statement M
 sweep-spec =

@@ -55,7 +55,7 @@ use Rattle.sweep_row.proofs.RowSwept.Laws as R′
 use Rattle.sweep_row.proofs.within.ArraySwept as S
 use Rattle.sweep_row.proofs.within.ArraySwept.Laws as S′
 use Rattle.sweep.specs.CallLaws.{Promised}
-use Rattle.sweep.specs.Promise.{Terms, Sweeps}
+use Rattle.sweep.specs.Promise.{Sweeps}
 use Rattle.sweep.specs.Sweep.{call, sweepOf}
 use Rattle.sweep_row.specs.ArrayLaws.{array-promised}
 use Rattle.sweep_row.specs.Row.{sweptRow}
@@ -178,7 +178,7 @@ module _ {M : Type 1} (𝓤 : URA M) (H : Heap 𝓤) (A : Atoms 𝓤) (W : Given
   Says p ws lg ls = call (sweptRow p ws) lg ls ≡ sweepOf r front (length front) log₀ list₀
 
   abbrev Keeps : RowSwept → List Card → Bytes → Bytes → Type 0
-  Keeps p ws lg ls = Terms r front (length front) log₀ list₀ → Sweeps front (length front) log₀ list₀ (sweptRow p ws) lg ls
+  Keeps p ws lg ls = Sweeps r front (length front) log₀ list₀ (sweptRow p ws) lg ls
 
   walk : (𝓣 : Tables 𝓤 H) → Triple 𝓤 (𝓣 .C #row) (Sweeping 𝓤 H A mem run) → n ≤ 16 → n < 2 ^ 64 → Room u8 (length log₀) → Room u8 (length list₀) → Is E.the-row r (mreader r ∷ []) → Is Cards cards (mcards cards ∷ [])
       → ent 𝓤 (onEntry 𝓤 H A self.signature (κ₁, (κ₂, tt)) (q₁, (q₂, tt)) x at) (WpFn 𝓤 H (𝓣 .C) (𝓣 .Λ) code.function (mreader r ∷ mcards cards ∷ vint w64 n ∷ s₁ ∷ s₂ ∷ []) Post)

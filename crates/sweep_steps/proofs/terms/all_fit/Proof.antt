@@ -6,6 +6,7 @@ use native.Mathlib.Omega.{arith}
 use borrow.Author.Needs.{needs}
 use lib.ListN.{length, take, drop}
 use lib.Seq.{take-all}
+use Rattle.limits.specs.Limits.{mostCards}
 use Rattle.rows.specs.Rows.{All}
 use Rattle.sweep_rules.specs.Terms.{allFit}
 use Rattle.sweep_rules.specs.Demand.{Typed}
@@ -14,7 +15,7 @@ use Rattle.sweep_steps.proofs.terms.all_fit.Statement.{statement}
 use Rattle.sweep_steps.proofs.terms.all_fit.Tie as tie
 
 abbrev Inv-loop : tie.InvT-loop
-Inv-loop n cards i₀ i = (i ≤ n) × (length cards ≡ 16) × (allFit (drop i (take n cards)) ≡ allFit (take n cards)) × All Typed (take i cards)
+Inv-loop n cards i₀ i = (i ≤ n) × (length cards ≡ mostCards) × (allFit (drop i (take n cards)) ≡ allFit (take n cards)) × All Typed (take i cards)
 
 abbrev μ-loop : tie.MeasureT-loop
 μ-loop n cards i₀ i = n - i

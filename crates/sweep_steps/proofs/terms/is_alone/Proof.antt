@@ -4,6 +4,7 @@ use mathlib.Core.Bool.{not}
 use native.Mathlib.Omega.{arith}
 use borrow.Author.Needs.{needs}
 use lib.ListN.{length, take, drop}
+use Rattle.limits.specs.Limits.{mostCards}
 use Rattle.rows.specs.Rows.{any, same}
 use Rattle.uid.specs.Uid.{uidBytes}
 use Rattle.sweep_steps.specs.TermLaws.{any-next, any-here, any-done}
@@ -12,7 +13,7 @@ use Rattle.sweep_steps.proofs.terms.is_alone.Tie as tie
 
 abbrev Inv-loop : tie.InvT-loop
 Inv-loop u start n cards i₀ i =
-    (start ≤ i) × (i ≤ n) × (length cards ≡ 16)
+    (start ≤ i) × (i ≤ n) × (length cards ≡ mostCards)
     × (any (λ k. same (uidBytes u) (uidBytes (k .uid))) (drop i (take n cards)) ≡ any (λ k. same (uidBytes u) (uidBytes (k .uid))) (drop start (take n cards)))
 
 abbrev μ-loop : tie.MeasureT-loop

@@ -4,13 +4,14 @@ use native.Mathlib.Omega.{arith}
 use borrow.Author.Needs.{needs}
 use borrow.Author.Tests.{not-true, not-false}
 use lib.ListN.{length, take, drop}
+use Rattle.limits.specs.Limits.{mostCards}
 use Rattle.sweep_rules.specs.Terms.{apart}
 use Rattle.sweep_steps.specs.TermLaws.{apart-next, apart-not, apart-done}
 use Rattle.sweep_steps.proofs.terms.is_apart.Statement.{statement}
 use Rattle.sweep_steps.proofs.terms.is_apart.Tie as tie
 
 abbrev Inv-loop : tie.InvT-loop
-Inv-loop n cards i₀ i = (i ≤ n) × (length cards ≡ 16) × (apart (drop i (take n cards)) ≡ apart (take n cards))
+Inv-loop n cards i₀ i = (i ≤ n) × (length cards ≡ mostCards) × (apart (drop i (take n cards)) ≡ apart (take n cards))
 
 abbrev μ-loop : tie.MeasureT-loop
 μ-loop n cards i₀ i = n - i

@@ -8,7 +8,8 @@ use Rattle.field.specs.Calls.{together, cardsAfter}
 use Rattle.field.specs.Field.{heardFrom}
 use Rattle.log.specs.Log.{exchangeBytes}
 use Rattle.sweep_steps.specs.ExchangeLaws.{Front, front-of, heard-front}
-use Rattle.sweep_steps.specs.FrameLaws.{frame-clean}
+use Rattle.rows.specs.CleanLaws.{bits-clean}
+use Rattle.reader.specs.FrameLaws.{frame-bits}
 use Rattle.sweep_steps.specs.Steps.{exchangeOf, exchanged}
 use borrow.Author.Needs.{needs}
 use Rattle.sweep_steps.proofs.within.exchange.Statement.{statement}
@@ -93,7 +94,7 @@ put-exchange-requires c κs =
     let t = c .before .before .before .before .take-all in
     let v : Front (heardFrom (frame (a .r)) (take (a .n) (a .cards))) (t .result .bits) (t .last .1 .1 .1 .0) =
     heard-front (frame (a .r)) (b .result) (p .last .1 .0) u (a .cards) (a .n) (t .result) (t .ensures .0) _ (t .last .1 .1 .1 .0) (t .ensures .1) in
-    (rw (u .bits) (frame-clean (a .r)), rw length-take (omega (arith, u .fits, p .kept .1 .0)), rw length-take (omega (arith, v .fits, t .kept .1 .1 .1 .0)), rw (u .bits, v .bits) (c .before .before .before .before .before .before .before .before .before .before .before .before .pre .1))
+    (rw (u .bits) (bits-clean _ (frame-bits (a .r))), rw length-take (omega (arith, u .fits, p .kept .1 .0)), rw length-take (omega (arith, v .fits, t .kept .1 .1 .1 .0)), rw (u .bits, v .bits) (c .before .before .before .before .before .before .before .before .before .before .before .before .pre .1))
 
 array-share-prefix-heard-2 : tie.Need-array-share-prefix-heard-2
 array-share-prefix-heard-2 c =
