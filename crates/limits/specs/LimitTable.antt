@@ -5,13 +5,13 @@ use native.Mathlib.Omega.{arith}
 use Rattle.limits.specs.Limits.{mostCards, logRoom, listRoom, mostFrames, mostBytes, rowRoom, frameRoom, answerRoom, messageMax}
 
 pub record LimitTable : Type 0 where
-  -- "at most 16 cards"; "8,192 bytes of log and 176 of list"
+  -- "over 16 cards" is 6; "8,192 bytes of log and 176 of list"
   pub cards : mostCards ≡ 16
   pub log : logRoom ≡ 8192
   pub list : listRoom ≡ 176
   -- the comb of 16 cards needs them all
   pub frames : mostFrames ≡ 249
-  -- "no frame-and-answer pair takes more than 19 bytes of log": the log asked for always holds a sweep
+  -- a frame and what was heard take at most 19 bytes of log (demand 3): the log asked for always holds a sweep
   pub log-holds : 19 * mostFrames ≤ logRoom
   -- "1 to 256 bytes, each followed by odd parity"; SELECT is nine bytes, a level five
   pub bytes : mostBytes ≡ 256

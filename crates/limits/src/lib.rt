@@ -1,4 +1,7 @@
-// The core's limits, each once, in code and in definitions (specs/Limits.antt).
+// The core's limits, each once, in code and in definitions (specs/Limits.antt). `all` holds the two together.
+ghost use mathlib.Core.Path.{_≡_};
+ghost use mathlib.Core.List.{[], _∷_};
+ghost use Rattle.limits.specs.Limits.{mostCards, logRoom, listRoom, mostFrames, mostBytes, rowRoom, frameRoom, answerRoom, messageMax};
 
 // Document 01, "When the core declines": a field of more cards is 6.
 pub const MOST_CARDS: usize = 16;
@@ -23,3 +26,20 @@ pub const ANSWER_ROOM: usize = 45;
 
 // Document 01, "RATS, ATS and blocks": "A message has 0 to 4,096 bytes".
 pub const MESSAGE_MAX: usize = 4096;
+
+// Each of them, in the order above.
+pub fn all() -> [usize; 9]
+    ensures { λ r. ⌜ r ≡ mostCards ∷ logRoom ∷ listRoom ∷ mostFrames ∷ mostBytes ∷ rowRoom ∷ frameRoom ∷ answerRoom ∷ messageMax ∷ [] ⌝ }
+{
+    [
+        MOST_CARDS,
+        LOG_ROOM,
+        LIST_ROOM,
+        MOST_FRAMES,
+        MOST_BYTES,
+        ROW_ROOM,
+        FRAME_ROOM,
+        ANSWER_ROOM,
+        MESSAGE_MAX,
+    ]
+}
