@@ -1,18 +1,46 @@
-# Two commands: `make run` shows the main job, `make test` is the gate.
+# `make run` shows the main job, `make test` is the gate.
+# `make sweep FIELD=..`, `make card`, `make reader` prove a program, then run it on a file of samples/.
 # `make vectors` writes the programs' scripts and expected output anew, from the independent model.
-.PHONY: run test toolchain vectors vectors-check impostors
+.PHONY: run sweep card reader test toolchain vectors vectors-check model-check pages impostors
 
-MODEL = cargo run --quiet --release --offline --locked --manifest-path model/Cargo.toml --
+CARGO = --quiet --release --offline --locked --manifest-path model/Cargo.toml
+MODEL = cargo run $(CARGO) --
+FIELD = samples/lockers.txt
 
 toolchain:
 	@command -v rt >/dev/null 2>&1 || { echo "the Rattle toolchain is missing: no command 'rt' on the PATH"; exit 1; }
 
+# rt try runs the program four ways, proves nothing, and holds each run to the stored output. So what is shown is what the program wrote.
 run: toolchain
-	@echo "proving the program and what it stands on; the first time this takes some minutes"
-	@rt check bench_sweep >target-run.log 2>&1 || { tail -n 20 target-run.log; exit 1; }
-	@rm -f target-run.log
-	@cat samples/lockers.txt
-	@target/bin/bench_sweep <samples/lockers.txt
+	@said=$$(rt try bench_sweep 2>&1) || { printf '%s\n' "$$said"; exit 1; }
+	@cat crates/bench_sweep/stdin crates/bench_sweep/stdout
+	@echo
+	@echo "The program was run, on the interpreter and compiled three ways; each run wrote just this. That proves nothing yet."
+	@echo "'make sweep' proves the program and what it stands on, then sweeps $(FIELD). 'make test' proves everything."
+
+# Proves the program $(1) and what it stands on, a line for each crate with its number of all; then runs it on the file $(2).
+define proved-run
+	@[ -f "$(2)" ] || { echo "there is no file $(2)"; exit 1; }
+	@all=1; for c in $$(sed -n 's/^$(1)://p' crates.txt); do [ ! -d "crates/$$c" ] || all=$$((all + 1)); done; \
+	echo "proving $(1) and what it stands on, $$all crates; the first time this takes some minutes"; \
+	{ rt check $(1) 2>&1; echo "ended $$?"; } | { n=0; while IFS= read -r line; do case $$line in \
+	    "rt: "*" proved ("*) n=$$((n + 1)); echo "$$n of $$all: $${line#rt: }" ;; \
+	    "rt: "*) printf '%s\n' "$$line" ;; \
+	    "ended 0") exit 0 ;; \
+	    "ended "*) echo "target/log/ has what the prover said"; exit 1 ;; \
+	esac; done; }
+	@cat $(2)
+	@target/bin/$(1) <$(2)
+endef
+
+sweep: toolchain
+	$(call proved-run,bench_sweep,$(FIELD))
+
+card: toolchain
+	$(call proved-run,bench_card,samples/card.txt)
+
+reader: toolchain
+	$(call proved-run,bench_reader,samples/reader.txt)
 
 vectors:
 	$(MODEL) write crates
@@ -20,6 +48,17 @@ vectors:
 vectors-check:
 	@if command -v cargo >/dev/null 2>&1; then $(MODEL) check crates; \
 	else echo "no cargo: the stored vectors are not compared with the model"; fi
+
+# The model's own tests, and whether the stored scripts reach every place that it counts.
+model-check:
+	@if command -v cargo >/dev/null 2>&1; then cargo test $(CARGO) && { said=$$($(MODEL) coverage) || { printf '%s\n' "$$said"; exit 1; }; \
+	printf '%s\n' "$$said" | tail -n 2; }; \
+	else echo "no cargo: the model's own tests are not run"; fi
+
+# docs/RULES.md names only what the code declares; contracts cite definitions only.
+pages:
+	@tools/rules-check
+	@tools/contract-check
 
 # Every must-fail edit, those of crates/*/impostors too, in a copy of the repository. This takes an hour or two.
 impostors: toolchain
@@ -29,6 +68,6 @@ impostors: toolchain
 	@rm -rf target-impostors
 
 # rt runs crates and edits in batches, and a batch waits for its slowest: four at a time keep two cores busy.
-test: toolchain vectors-check
+test: toolchain pages vectors-check model-check
 	rt fmt --check
 	RT_JOBS=$${RT_JOBS:-4} rt ci
