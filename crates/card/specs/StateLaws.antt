@@ -20,7 +20,7 @@ pub idle-again : (c : Card) (f : List ℕ) → takes c f .state ≡ Idle → tak
 unfolding takes
 idle-again c f e = ap (withState c) e
 
--- "Halt: only WUPA": REQA is passed over
+-- "Halt: WUPA: ATQA, Ready at level 1. Else silent, Halt": REQA is passed over
 pub halt-reqa : (c : Card) → rules c Halt reqa ≡ (Halt, [])
 unfolding rules same reqa wupa short bitsOf
 halt-reqa c = refl

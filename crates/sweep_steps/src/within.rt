@@ -121,7 +121,7 @@ fn step(p: Progress, n: usize, log: &mut [u8], list: &mut [u8]) -> Progress
     }
 }
 
-// Does the reader have a frame out, and may it send one more?
+// Is a frame of the reader out?
 pub fn goes(a: Answer) -> bool
     ensures { λ r. ⌜ r ≡ goes a ⌝ }
 {
@@ -134,6 +134,7 @@ pub fn goes(a: Answer) -> bool
     }
 }
 
+// Is a frame out, and may the reader send one more?
 fn goes_on(p: Progress) -> bool
     ensures { λ r. ⌜ r ≡ goesOn p ⌝ }
 {
