@@ -61,7 +61,7 @@ unfolding airByte bitsOf
 drop-air b r = refl
 
 -- the bits of a row's number are the row
-bits-whole : (n : ℕ) (d : List ℕ) → Bits d → length d ≡ n → bitsOf n (unbits d) ≡ d
+pub bits-whole : (n : ℕ) (d : List ℕ) → Bits d → length d ≡ n → bitsOf n (unbits d) ≡ d
 unfolding fill
 bits-whole n d b e = let z : n - length d ≡ 0 = omega arith in rw (bits-unbits n d b (omega arith), z, append-nil)
 

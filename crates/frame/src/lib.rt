@@ -37,7 +37,7 @@ pub fn air_byte(b: u8) -> [u8; 9]
     ensures { λ r. ⌜ r ≡ airByte b ⌝ }
 {
     let d = parity::bits_of(b);
-    let p = parity::parity_of(&d);
+    let p = parity::odd_parity(b);
     [d[0], d[1], d[2], d[3], d[4], d[5], d[6], d[7], p]
 }
 

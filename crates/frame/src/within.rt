@@ -27,11 +27,11 @@ fn is_wrong(row: &[u8], at: usize) -> bool
     requires { ⌜ at + 9 ≤ length (now row) ⌝ }
     ensures { λ r. ⌜ r ≡ (clean (take 8 (drop at (now (row .entry)))) && not (eqb (getD (now (row .entry)) (at + 8) 0) (odd (take 8 (drop at (now (row .entry))))))) ⌝ }
 {
-    let d = &row[at..at + 8];
-    if !rows::is_clean(d) {
+    if !rows::is_clean(&row[at..at + 8]) {
         return false;
     }
-    row[at + 8] != parity::parity_of(d)
+    let b = parity::within::byte_at(row, at);
+    row[at + 8] != parity::odd_parity(b)
 }
 
 // Has one of the n bytes at index at no collided data bit and wrong parity? A collided parity bit is wrong.
