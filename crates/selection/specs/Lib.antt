@@ -2,6 +2,7 @@ pub mod Selection
 pub mod Heard
 pub mod Says
 pub mod Level
+pub mod FrameTable
 pub mod LevelLaws
 pub mod PadLaws
 pub mod RestLaws
