@@ -21,7 +21,7 @@ pub fn two_bytes(a: u8, b: u8) -> [u8; 36]
     row
 }
 
-// RATS with CID 0. FSDI is the high half of a byte, so there are 16 of them.
+// RATS with CID 0 (document 01, "RATS, ATS and blocks"). FSDI is the high half of a byte, so there are 16 of them.
 pub fn rats(fsdi: u8) -> [u8; 36]
     requires { ⌜ fsdi < 16 ⌝ }
     ensures { λ r. ⌜ r ≡ rats fsdi ⌝ }
@@ -29,7 +29,7 @@ pub fn rats(fsdi: u8) -> [u8; 36]
     two_bytes(0xE0, 16 * fsdi)
 }
 
-// Our card's ATS. FSCI is the low half of T0, and the high half announces nothing.
+// Our card's ATS. FSCI is the low half of T0, so there are 16 of them; the high half announces nothing.
 pub fn ats(fsci: u8) -> [u8; 36]
     requires { ⌜ fsci < 16 ⌝ }
     ensures { λ r. ⌜ r ≡ ats fsci ⌝ }
