@@ -7,7 +7,7 @@ use Prim.Native.Nat.{ℕ, _+_, _-_, _*_, _/_, _%_, _≤_, _<_}
 use native.Mathlib.Omega.{arith}
 use lib.ListN.{length, take, drop, replicate}
 use lib.Dec.{eqb, ltb}
-use borrow.Author.Tests.{eq-eqb, ne-eqb, lt-ltb, le-ltb, ltb-false, lt-leb}
+use borrow.Author.Tests.{eq-eqb, ne-eqb, lt-ltb, le-ltb, lt-leb}
 use Rattle.rows.specs.Rows.{isNil, clean, next, same}
 use Rattle.crc.specs.Crc.{withCrc}
 use Rattle.frame.specs.Frame.{dataOf, bytesOf, faulty, Verdict, Good, Fault}
@@ -19,6 +19,7 @@ use Rattle.selection.specs.Heard.{readAtqa, readSak, readRest, announced
 use Rattle.selection.specs.Level.{levelSays}
 use Rattle.selection.specs.Says.{atqaSays, restSays, sakSays, atsSays}
 use Rattle.selection.specs.RestLaws.{nil-no}
+use Rattle.selection.specs.SizeLaws.{index-most}
 use Rattle.refusal.specs.declared.Refusal.the-variants.{Forbidden}
 use Rattle.selection.specs.declared.AtsRead.the-variants.{Index, NotAts}
 
@@ -137,10 +138,6 @@ ats-index (tl ∷ []) i e = one (eqb tl 1) e
     one false e = absurd (let z : _≡_ {A = ℕ} 0 1 = cc in omega arith)
 ats-index (tl ∷ t0 ∷ t) i e = two (atsFits tl t0 t) e
   where
-    most : (b : Bool) (x : ℕ) → ltb 8 x ≡ b → cond b 8 x ≤ 8
-    most true x e = omega arith
-    most false x e = omega (arith, ltb-false 8 x e)
-
     two : (b : Bool) → cond b (Index (atMost8 (t0 % 16))) (NotAts Forbidden) ≡ Index i → i ≤ 8
-    two true e = let z : atMost8 (t0 % 16) ≡ i = cc in rw (← z) (most (ltb 8 (t0 % 16)) (t0 % 16) refl)
+    two true e = let z : atMost8 (t0 % 16) ≡ i = cc in rw (← z) (index-most (t0 % 16))
     two false e = absurd (let z : _≡_ {A = ℕ} 0 1 = cc in omega arith)
