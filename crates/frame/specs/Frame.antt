@@ -25,9 +25,6 @@ unfoldable pub standard : List ℕ → List ℕ
 standard [] = []
 standard (b ∷ l) = airByte b ++ standard l
 
-abbrev pub mostBytes : ℕ
-mostBytes = 256
-
 -- bytes in air order, parity left out
 unfoldable pub airBits : List ℕ → List ℕ
 airBits [] = []

@@ -17,7 +17,7 @@ use Rattle.parity.specs.LoopLaws.{odd-bit}
 use Rattle.crc.specs.Crc.{withCrc, crcGood}
 use Rattle.crc.specs.CrcLaws.{length-with, with-bytes, take-with, good-with}
 use Rattle.refusal.specs.declared.Refusal.the-variants.{Length, Parity, Crc, Collision}
-use Rattle.frame.specs.declared.ReceivedShort.the-variants.{Byte, NotShort}
+use Rattle.refusal.specs.Refusal.{giving, declineIf}
 use Rattle.frame.specs.Frame.{short, airByte, standard, dataOf, bytesOf, faulty, wholeBytes, readFrame, withoutCrc, crcChecked, readCrc, Verdict, Good, Fault}
 use Rattle.frame.specs.Calls.{readShort}
 use Rattle.frame.specs.ByteLaws.{length-bytes}
@@ -61,7 +61,7 @@ unfolding airByte bitsOf
 drop-air b r = refl
 
 -- the bits of a row's number are the row
-bits-whole : (n : ℕ) (d : List ℕ) → Bits d → length d ≡ n → bitsOf n (unbits d) ≡ d
+pub bits-whole : (n : ℕ) (d : List ℕ) → Bits d → length d ≡ n → bitsOf n (unbits d) ≡ d
 unfolding fill
 bits-whole n d b e = let z : n - length d ≡ 0 = omega arith in rw (bits-unbits n d b (omega arith), z, append-nil)
 
@@ -161,7 +161,7 @@ read-crc-standard most l b s t =
     rw (read-standard 3 most (withCrc l) (with-bytes l b) (rw length-with (omega arith)) (rw length-with t)) (without-with l)
 
 -- .. and the byte of a short frame
-pub read-short-short : (b : ℕ) → b < 128 → readShort (short b) ≡ Byte b
+pub read-short-short : (b : ℕ) → b < 128 → readShort (short b) ≡ giving (b ∷ [])
 unfolding readShort short
 read-short-short b h = rw (length-bits 7 b, bits-clean (bitsOf 7 b) (bits-bits 7 b), unbits-bits 7 b h)
 
@@ -213,17 +213,17 @@ read-crc-exact least most h l e = go (readFrame least most h) refl e
     go (Good m) r e = read-exact least most h m r ∙ ap standard (without-exact m l e)
     go (Fault f) r e = absurd (let z : _≡_ {A = ℕ} 0 1 = cc in omega arith)
 
-pub read-short-exact : (h : List ℕ) (b : ℕ) → readShort h ≡ Byte b → h ≡ short b
+pub read-short-exact : (h : List ℕ) (b : ℕ) → readShort h ≡ giving (b ∷ []) → h ≡ short b
 unfolding readShort short
 read-short-exact h b e = go (eqb (length h) 7) refl (clean h) refl e
   where
     go : (s : Bool) → eqb (length h) 7 ≡ s → (c : Bool) → clean h ≡ c
-        → cond (not s) (NotShort Length) (cond (not c) (NotShort Collision) (Byte (unbits h))) ≡ Byte b → h ≡ bitsOf 7 b
+        → declineIf (not s) 2 (declineIf (not c) 8 (giving (unbits h ∷ []))) ≡ giving (b ∷ []) → h ≡ bitsOf 7 b
     go true s true c e =
-        let q : unbits h ≡ b = cc in
+        let q : unbits h ≡ b = ap (λ x. getD (x .values) 0 0) e in
         rw (← q) (sym (bits-whole 7 h (clean-bits h c) (eqb-true (length h) 7 s)))
-    go true s false c e = absurd (let z : _≡_ {A = ℕ} 0 1 = cc in omega arith)
-    go false s c d e = absurd (let z : _≡_ {A = ℕ} 0 1 = cc in omega arith)
+    go true s false c e = absurd (omega (arith, ap (λ x. x .number) e))
+    go false s c d e = absurd (omega (arith, ap (λ x. x .number) e))
 
 -- ---- bytes that are read are bytes
 

@@ -6,4 +6,5 @@ pub mod ByteLaws
 pub mod ParityLaws
 pub mod TellLaws
 pub mod CallLaws
+pub mod SaysLaws
 pub mod FrameVectors

@@ -3,13 +3,15 @@
 // A row has one byte for each air bit: 0, 1, and any other value is a collided bit. A frame is written at the front of the lent row, and
 // the bytes of a received frame at the front of the lent bytes. What lies behind stays. A refusal writes nothing.
 // Refusals, by document 01's table: 1 room, 2 length, 8 a collided bit, 3 parity, 4 CRC_A; a received frame is tested in the order
-// 2, 8, 3, 4, and room, which does not depend on what was heard, before all of them.
+// 2, 8, 3, 4, and room, which does not depend on what was heard, before all of them. Writing is refused with 1 alone: the table gives 2 for
+// what is received.
 use refusal::Refusal;
 ghost use mathlib.Core.Path.{_≡_};
 ghost use lib.ListN.{length};
 ghost use Rattle.crc.specs.Crc.{withCrc};
 ghost use Rattle.frame.specs.Frame.{short, airByte, standard, wholeBytes, readFrame, readCrc};
-ghost use Rattle.frame.specs.Calls.{writeAnswer, writeShort, rowAfter, readAnswer, bytesAfter, readShort};
+ghost use Rattle.frame.specs.Calls.{writtenSays, writeSays, writeShortSays, rowAfter, receivedSays, readSays, bytesAfter, shortSays, readShort};
+ghost use Rattle.limits.specs.Limits.{mostBytes};
 
 // Functions with conditions on what they are called with. Only the crates of this repository call them.
 pub mod within;
@@ -37,43 +39,31 @@ pub fn air_byte(b: u8) -> [u8; 9]
     ensures { λ r. ⌜ r ≡ airByte b ⌝ }
 {
     let d = parity::bits_of(b);
-    let p = parity::parity_of(&d);
+    let p = parity::odd_parity(b);
     [d[0], d[1], d[2], d[3], d[4], d[5], d[6], d[7], p]
 }
 
-// Writes 1 to 256 bytes as a standard frame.
+// Writes bytes, each with its parity. 1 to 256 of them are a standard frame.
 pub fn write(bytes: &[u8], out: &mut [u8]) -> Written
-    ensures { λ r. ⌜ r ≡ writeAnswer 0 (length (now (out .entry))) (length (now (bytes .entry))) ⌝ }
+    ensures { λ r. ⌜ writtenSays r ≡ writeSays 0 (length (now (out .entry))) (length (now (bytes .entry))) ⌝ }
     ensures { λ r. ⌜ now (out .exit) ≡ rowAfter r (standard (now (bytes .entry))) (now (out .entry)) ⌝ }
 {
     let n = bytes.len();
     if out.len() / 9 < n {
         return Written::NotWritten(Refusal::Room);
     }
-    if n < 1 {
-        return Written::NotWritten(Refusal::Length);
-    }
-    if n > 256 {
-        return Written::NotWritten(Refusal::Length);
-    }
     within::put_bytes(out, 0, bytes);
     Written::Bits(9 * n)
 }
 
-// Writes 1 to 254 bytes and then their CRC_A as a standard frame.
+// Writes bytes and then their CRC_A, each byte with its parity. 1 to 254 of them make a standard frame.
 pub fn write_crc(bytes: &[u8], out: &mut [u8]) -> Written
-    ensures { λ r. ⌜ r ≡ writeAnswer 2 (length (now (out .entry))) (length (now (bytes .entry))) ⌝ }
+    ensures { λ r. ⌜ writtenSays r ≡ writeSays 2 (length (now (out .entry))) (length (now (bytes .entry))) ⌝ }
     ensures { λ r. ⌜ now (out .exit) ≡ rowAfter r (standard (withCrc (now (bytes .entry)))) (now (out .entry)) ⌝ }
 {
     let m = bytes.len();
     if out.len() / 9 < m + 2 {
         return Written::NotWritten(Refusal::Room);
-    }
-    if m < 1 {
-        return Written::NotWritten(Refusal::Length);
-    }
-    if m + 2 > 256 {
-        return Written::NotWritten(Refusal::Length);
     }
     let k = crc::crc_bytes(bytes);
     within::put_bytes(out, 0, bytes);
@@ -83,7 +73,7 @@ pub fn write_crc(bytes: &[u8], out: &mut [u8]) -> Written
 
 // Writes the seven low bits of a byte as a short frame.
 pub fn write_short(b: u8, out: &mut [u8]) -> Written
-    ensures { λ r. ⌜ r ≡ writeShort (length (now (out .entry))) ⌝ }
+    ensures { λ r. ⌜ writtenSays r ≡ writeShortSays (length (now (out .entry))) ⌝ }
     ensures { λ r. ⌜ now (out .exit) ≡ rowAfter r (short b) (now (out .entry)) ⌝ }
 {
     if out.len() < 7 {
@@ -96,23 +86,23 @@ pub fn write_short(b: u8, out: &mut [u8]) -> Written
 
 // Reads a received row as a standard frame of 1 to 256 bytes. It asks for 256 bytes of room, whatever is heard.
 pub fn read(row: &[u8], out: &mut [u8]) -> Received
-    ensures { λ r. ⌜ r ≡ readAnswer (length (now (out .entry))) (readFrame 1 256 (now (row .entry))) ⌝ }
-    ensures { λ r. ⌜ now (out .exit) ≡ bytesAfter r (readFrame 1 256 (now (row .entry))) (now (out .entry)) ⌝ }
+    ensures { λ r. ⌜ receivedSays r ≡ readSays (length (now (out .entry))) (readFrame 1 mostBytes (now (row .entry))) ⌝ }
+    ensures { λ r. ⌜ now (out .exit) ≡ bytesAfter r (readFrame 1 mostBytes (now (row .entry))) (now (out .entry)) ⌝ }
 {
-    within::read_within(row, 1, 256, out)
+    within::read_within(row, 1, limits::MOST_BYTES, out)
 }
 
 // Reads a received row as a standard frame of 3 to 256 bytes that end with their CRC_A, which is not handed on.
 pub fn read_crc(row: &[u8], out: &mut [u8]) -> Received
-    ensures { λ r. ⌜ r ≡ readAnswer (length (now (out .entry))) (readCrc 3 256 (now (row .entry))) ⌝ }
-    ensures { λ r. ⌜ now (out .exit) ≡ bytesAfter r (readCrc 3 256 (now (row .entry))) (now (out .entry)) ⌝ }
+    ensures { λ r. ⌜ receivedSays r ≡ readSays (length (now (out .entry))) (readCrc 3 mostBytes (now (row .entry))) ⌝ }
+    ensures { λ r. ⌜ now (out .exit) ≡ bytesAfter r (readCrc 3 mostBytes (now (row .entry))) (now (out .entry)) ⌝ }
 {
-    within::read_crc_within(row, 256, out)
+    within::read_crc_within(row, limits::MOST_BYTES, out)
 }
 
 // Reads a received row as a short frame.
 pub fn read_short(row: &[u8]) -> ReceivedShort
-    ensures { λ r. ⌜ r ≡ readShort (now (row .entry)) ⌝ }
+    ensures { λ r. ⌜ shortSays r ≡ readShort (now (row .entry)) ⌝ }
 {
     if row.len() != 7 {
         return ReceivedShort::NotShort(Refusal::Length);

@@ -10,6 +10,7 @@ ghost use Rattle.rows.specs.Rows.{overlay, clean};
 ghost use Rattle.parity.specs.Bits.{odd};
 ghost use Rattle.frame.specs.Frame.{standard, dataOf, bytesOf, faulty, readFrame, withoutCrc, readCrc};
 ghost use Rattle.frame.specs.Calls.{received, readAnswer, bytesAfter};
+ghost use Rattle.limits.specs.Limits.{mostBytes};
 
 // Writes bytes with parity into out from index at on.
 pub fn put_bytes(out: &mut [u8], at: usize, bytes: &[u8])
@@ -27,11 +28,11 @@ fn is_wrong(row: &[u8], at: usize) -> bool
     requires { ⌜ at + 9 ≤ length (now row) ⌝ }
     ensures { λ r. ⌜ r ≡ (clean (take 8 (drop at (now (row .entry)))) && not (eqb (getD (now (row .entry)) (at + 8) 0) (odd (take 8 (drop at (now (row .entry))))))) ⌝ }
 {
-    let d = &row[at..at + 8];
-    if !rows::is_clean(d) {
+    if !rows::is_clean(&row[at..at + 8]) {
         return false;
     }
-    row[at + 8] != parity::parity_of(d)
+    let b = parity::within::byte_at(row, at);
+    row[at + 8] != parity::odd_parity(b)
 }
 
 // Has one of the n bytes at index at no collided data bit and wrong parity? A collided parity bit is wrong.
@@ -59,11 +60,11 @@ pub fn bytes_of(row: &[u8], n: usize, out: &mut [u8])
 
 // Reads a received row as a standard frame of least to most bytes, tested 2, 8, 3; before these 1, room for 256 bytes.
 pub fn read_within(row: &[u8], least: usize, most: usize, out: &mut [u8]) -> Received
-    requires { ⌜ most ≤ 256 ⌝ }
+    requires { ⌜ most ≤ mostBytes ⌝ }
     ensures { λ r. ⌜ r ≡ readAnswer (length (now (out .entry))) (readFrame least most (now (row .entry))) ⌝ }
     ensures { λ r. ⌜ now (out .exit) ≡ bytesAfter r (readFrame least most (now (row .entry))) (now (out .entry)) ⌝ }
 {
-    if out.len() < 256 {
+    if out.len() < limits::MOST_BYTES {
         return Received::NotReceived(Refusal::Room);
     }
     if !crate::is_whole(row.len(), least, most) {
@@ -97,14 +98,14 @@ pub fn without_crc(held: &[u8], n: usize, out: &mut [u8]) -> Received
 // Reads a received row as a standard frame of 3 to most bytes that end with their CRC_A, tested 2, 8, 3, 4; before these 1. The bytes
 // are read into an array of its own, so that nothing is written into out before CRC_A is found right.
 pub fn read_crc_within(row: &[u8], most: usize, out: &mut [u8]) -> Received
-    requires { ⌜ most ≤ 256 ⌝ }
+    requires { ⌜ most ≤ mostBytes ⌝ }
     ensures { λ r. ⌜ r ≡ readAnswer (length (now (out .entry))) (readCrc 3 most (now (row .entry))) ⌝ }
     ensures { λ r. ⌜ now (out .exit) ≡ bytesAfter r (readCrc 3 most (now (row .entry))) (now (out .entry)) ⌝ }
 {
-    if out.len() < 256 {
+    if out.len() < limits::MOST_BYTES {
         return Received::NotReceived(Refusal::Room);
     }
-    let mut held = [0u8; 256];
+    let mut held = [0u8; limits::MOST_BYTES];
     let got = read_within(row, 3, most, &mut held);
     match got {
         Received::NotReceived(e) => Received::NotReceived(e),

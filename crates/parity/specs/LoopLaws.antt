@@ -1,13 +1,13 @@
 -- Laws for the loops over bits: one turn, and the end. Over the width. Assumes nothing.
-use mathlib.Core.Path.{_≡_, refl, sym, ap, _∙_}
-use mathlib.Core.Bool.{Bool, true, false}
-use mathlib.Core.List.{List, [], _∷_, _++_, append-assoc, append-nil}
-use Prim.Native.Nat.{ℕ, zero, suc, _+_, _-_, _*_, _/_, _%_, _^_, _≤_, _<_}
+use mathlib.Core.Path.{_≡_}
+use mathlib.Core.Bool.{true}
+use mathlib.Core.List.{List, _++_, append-assoc, append-nil}
+use Prim.Native.Nat.{ℕ, suc, _+_, _-_, _*_, _/_, _%_, _≤_, _<_}
 use native.Mathlib.Numerals.{add-one}
 use native.Mathlib.Omega.{arith}
 use lib.ListN.{length, take, drop, getD, set, length-drop, drop-of-length-le}
 use lib.Seq.{drop-cons, take-suc-set, take-all}
-use Rattle.rows.specs.Rows.{Bits, clean}
+use Rattle.rows.specs.Rows.{clean}
 use Rattle.rows.specs.HeardLaws.{clean-bits, clean-drop}
 use Rattle.parity.specs.Bits.{bitsOf, unbits, ones, odd}
 use Rattle.parity.specs.BitLaws.{unbits-lt}
@@ -27,15 +27,15 @@ bits-done k i x l h m =
     let e : k - i ≡ 0 = omega arith in
     rw (e, append-nil, take-all i l m)
 
--- ---- the parity of a row
+-- ---- the ones of a number's bits, counted one after the other
 
-pub ones-next : (l : List ℕ) (i : ℕ) → i < length l → ones (drop i l) ≡ getD l i 0 + ones (drop (i + 1) l)
-unfolding ones
-ones-next l i h = rw (add-one, drop-cons l i 0)
+pub ones-next : (k i x : ℕ) → i < k → ones (bitsOf (k - i) x) ≡ x % 2 + ones (bitsOf (k - (i + 1)) (x / 2))
+unfolding ones bitsOf
+ones-next k i x h = let e : k - i ≡ suc (k - (i + 1)) = omega arith in rw e
 
-pub ones-done : (l : List ℕ) (i : ℕ) → length l ≤ i → ones (drop i l) ≡ 0
-unfolding ones
-ones-done l i h = rw (drop-of-length-le l h)
+pub ones-done : (k i x : ℕ) → k ≤ i → ones (bitsOf (k - i) x) ≡ 0
+unfolding ones bitsOf
+ones-done k i x h = let e : k - i ≡ 0 = omega arith in rw e
 
 -- ---- the number of a row, from its last bit on
 

@@ -19,21 +19,15 @@ pub fn bits_of(b: u8) -> [u8; 8]
     bits
 }
 
-// The bit that makes the number of ones odd.
-pub fn parity_of(bits: &[u8]) -> u8
-    ensures { λ r. ⌜ r ≡ odd (now (bits .entry)) ⌝ }
-{
-    let mut n: u8 = 1;
-    for i in 0..bits.len() {
-        n = (n + bits[i] % 2) % 2;
-    }
-    n
-}
-
-// The odd parity bit of a byte.
+// The odd parity bit of a byte: the bit that makes the number of ones odd.
 pub fn odd_parity(b: u8) -> u8
     ensures { λ r. ⌜ r ≡ odd (bitsOf 8 b) ⌝ }
 {
-    let bits = bits_of(b);
-    parity_of(&bits)
+    let mut n: u8 = 1;
+    let mut rest = b;
+    for i in 0..8usize {
+        n = (n + rest % 2) % 2;
+        rest = rest / 2;
+    }
+    n
 }

@@ -1,5 +1,5 @@
 -- Laws of the tests on received rows: which bits collided, and whether two rows are equal. Assumes nothing.
-use mathlib.Core.Path.{_≡_, refl, sym}
+use mathlib.Core.Path.{_≡_, refl}
 use mathlib.Core.Bool.{Bool, true, false, cond, false≢true}
 use mathlib.Core.List.{List, [], _∷_}
 use Prim.Native.Nat.{ℕ, _+_, _≤_, _<_}
@@ -7,9 +7,9 @@ use native.Mathlib.Numerals.{add-one}
 use native.Mathlib.Omega.{arith}
 use lib.ListN.{length, take, drop, getD, drop-of-length-le}
 use lib.Seq.{drop-cons}
-use lib.Dec.{ltb, eqb}
+use lib.Dec.{ltb}
 use borrow.Author.Tests.{lt-ltb, le-ltb, ltb-false, eq-eqb, ne-eqb}
-use Rattle.rows.specs.Rows.{clean, collided, same, Bits}
+use Rattle.rows.specs.Rows.{clean, same, Bits}
 use Rattle.rows.specs.ListLaws.{all-take, all-drop}
 
 -- ---- the loop over `clean`
@@ -25,20 +25,6 @@ clean-here h i l b = rw (drop-cons h i 0) (rw (lt-ltb 1 (getD h i 0) b))
 pub clean-done : (h : List ℕ) (i : ℕ) → length h ≤ i → clean (drop i h) ≡ true
 unfolding clean
 clean-done h i l = rw (drop-of-length-le h l)
-
--- ---- the loop over `collided`
-
-pub collided-next : (h : List ℕ) (i : ℕ) → i < length h → getD h i 0 ≤ 1 → collided (drop i h) ≡ collided (drop (i + 1) h)
-unfolding collided
-collided-next h i l b = rw (add-one, drop-cons h i 0) (rw (le-ltb 1 (getD h i 0) b))
-
-pub collided-here : (h : List ℕ) (i : ℕ) → i < length h → 1 < getD h i 0 → collided (drop i h) ≡ 1 + collided (drop (i + 1) h)
-unfolding collided
-collided-here h i l b = rw (add-one, drop-cons h i 0) (rw (lt-ltb 1 (getD h i 0) b))
-
-pub collided-done : (h : List ℕ) (i : ℕ) → length h ≤ i → collided (drop i h) ≡ 0
-unfolding collided
-collided-done h i l = rw (drop-of-length-le h l)
 
 -- ---- the loop over `same`
 
@@ -57,16 +43,6 @@ unfolding same
 same-done r s i a b = rw (drop-of-length-le r a, drop-of-length-le s b)
 
 -- ---- what a clean row is
-
--- no bit collided exactly where the number of collided bits is 0
-pub clean-collided : (h : List ℕ) → clean h ≡ eqb (collided h) 0
-unfolding clean collided
-clean-collided [] = refl
-clean-collided (x ∷ h) = go (ltb 1 x) (clean-collided h)
-  where
-    go : (b : Bool) → clean h ≡ eqb (collided h) 0 → cond b false (clean h) ≡ eqb (cond b (1 + collided h) (collided h)) 0
-    go true e = sym (ne-eqb (1 + collided h) 0 (λ n. omega arith))
-    go false e = e
 
 -- a clean row is of 0 and 1
 pub clean-bits : (h : List ℕ) → clean h ≡ true → Bits h

@@ -20,11 +20,6 @@ unfoldable pub clean : List ℕ → Bool
 clean [] = true
 clean (x ∷ h) = cond (ltb 1 x) false (clean h)
 
--- how many bits of a received row collided
-unfoldable pub collided : List ℕ → ℕ
-collided [] = 0
-collided (x ∷ h) = cond (ltb 1 x) (1 + collided h) (collided h)
-
 -- the bits before the first collided one and then a 1; all of them, where none collided
 -- (document 01, "The reader and the sweep": "the next frame sends the bits before p and then a 1")
 unfoldable pub next : List ℕ → List ℕ

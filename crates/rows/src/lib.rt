@@ -1,7 +1,7 @@
 // Rows of air bits, one byte of the row for each bit, and rows of bytes.
 // Document 01, "Frames on the air": "A received row gives each bit as 0, 1 or collided". A value over 1 is a collided bit.
 ghost use mathlib.Core.Path.{_≡_};
-ghost use Rattle.rows.specs.Rows.{clean, collided, same};
+ghost use Rattle.rows.specs.Rows.{clean, same};
 
 // Functions with conditions on what they are called with. Only the crates of this repository call them.
 pub mod within;
@@ -18,20 +18,7 @@ pub fn is_clean(row: &[u8]) -> bool
     true
 }
 
-// How many bits of a received row collided?
-pub fn count_collided(heard: &[u8]) -> usize
-    ensures { λ r. ⌜ r ≡ collided (now (heard .entry)) ⌝ }
-{
-    let mut n: usize = 0;
-    for i in 0..heard.len() {
-        if heard[i] > 1 {
-            n += 1;
-        }
-    }
-    n
-}
-
-// Are two heards equal, in length and in each element?
+// Are two rows equal, in length and in each element?
 pub fn is_same(a: &[u8], b: &[u8]) -> bool
     ensures { λ r. ⌜ r ≡ same (now (a .entry)) (now (b .entry)) ⌝ }
 {

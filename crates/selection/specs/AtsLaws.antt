@@ -1,24 +1,20 @@
 -- How an ATS is read, byte by byte. Assumes nothing.
-use mathlib.Core.Path.{_≡_, refl, sym, ap, _∙_}
-use mathlib.Core.Bool.{Bool, true, false, cond, _&&_}
+use mathlib.Core.Path.{_≡_, refl, ap}
+use mathlib.Core.Bool.{false, cond, _&&_}
 use mathlib.Core.List.{List, [], _∷_}
-use Prim.Native.Nat.{ℕ, zero, suc, _+_, _-_, _%_, _≤_, _<_}
+use Prim.Native.Nat.{ℕ, suc, _+_, _-_, _%_, _≤_}
 use native.Mathlib.Omega.{arith}
 use lib.ListN.{length, take, getD, replicate, length-append}
 use lib.Dec.{eqb, ltb, leb}
-use borrow.Author.Tests.{eq-eqb, ne-eqb, lt-ltb, le-ltb, le-leb, lt-leb}
 use Rattle.rows.specs.Rows.{overlay, isNil}
 use Rattle.rows.specs.RowLaws.{overlay-front}
 use Rattle.frame.specs.Frame.{Verdict, Good, Fault, readCrc}
 use Rattle.frame.specs.Calls.{received, readAnswer, goodBytes, bytesAfter}
-use Rattle.selection.specs.Selection.{size}
-use Rattle.selection.specs.SizeLaws.{size-most}
+use Rattle.selection.specs.Selection.{atMost8, size}
 use Rattle.selection.specs.Heard.{announced, atsFits, atsBytes, atsOf, readAts}
 use Rattle.refusal.specs.declared.Refusal.{Refusal}
-use Rattle.refusal.specs.declared.Refusal.the-variants.{Forbidden, Silence}
-use Rattle.frame.specs.declared.Received.{Received}
+use Rattle.refusal.specs.declared.Refusal.the-variants.{Forbidden}
 use Rattle.frame.specs.declared.Received.the-variants.{Bytes, NotReceived}
-use Rattle.selection.specs.declared.AtsRead.{AtsRead}
 use Rattle.selection.specs.declared.AtsRead.the-variants.{Index, NotAts}
 
 -- what is written at the front fits
@@ -37,7 +33,7 @@ ats-short (x ∷ y ∷ l) h = absurd (omega arith)
 
 -- with T0: the three tests
 pub ats-is : (l : List ℕ) → (length l ≡ 0 → ⊥) → (length l ≡ 1 → ⊥)
-    → atsBytes l ≡ cond (eqb (getD l 0 0) (length l) && ltb (getD l 1 0) 0x80 && leb (announced (getD l 1 0)) (length l - 2)) (Index (getD l 1 0 % 16)) (NotAts Forbidden)
+    → atsBytes l ≡ cond (eqb (getD l 0 0) (length l) && ltb (getD l 1 0) 0x80 && leb (announced (getD l 1 0)) (length l - 2)) (Index (atMost8 (getD l 1 0 % 16))) (NotAts Forbidden)
 unfolding atsFits
 ats-is [] a b = absurd (a refl)
 ats-is (x ∷ []) a b = absurd (b refl)

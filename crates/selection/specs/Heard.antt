@@ -1,7 +1,7 @@
 -- Document 01, "The reader and the sweep", "RATS, ATS and blocks" and "When the core declines": what the reader makes of a received row,
 -- by the frame that it awaits. "A received frame is tested 7, 2, 8, 3, 4 or 5, 9, 10": the first test that applies wins.
 use Prim.Native.Nat.{ℕ, _+_, _-_, _*_, _/_, _%_}
-use mathlib.Core.Bool.{Bool, true, false, cond, not, _&&_}
+use mathlib.Core.Bool.{Bool, cond, not, _&&_}
 use mathlib.Core.List.{List, [], _∷_, _++_}
 use lib.ListN.{length, take, drop, getD, replicate}
 use lib.Dec.{eqb, ltb, leb}
@@ -9,7 +9,7 @@ use Rattle.rows.specs.Rows.{isNil, clean, next, same}
 use Rattle.crc.specs.Crc.{withCrc}
 use Rattle.frame.specs.Frame.{standard, dataOf, bytesOf, faulty, Verdict, Good, Fault, readCrc}
 use Rattle.uid.specs.Uid.{level}
-use Rattle.selection.specs.Selection.{cut, size}
+use Rattle.selection.specs.Selection.{cut, atMost8, size}
 use Rattle.refusal.specs.declared.Refusal.{Refusal}
 use Rattle.refusal.specs.declared.Refusal.the-variants.{Length, Parity, Crc, Check, Silence, Collision, Forbidden}
 use Rattle.selection.specs.declared.AtqaRead.{AtqaRead}
@@ -73,11 +73,12 @@ announced t0 = t0 / 16 % 2 + t0 / 32 % 2 + t0 / 64 % 2
 unfoldable pub atsFits : ℕ → ℕ → List ℕ → Bool
 atsFits tl t0 t = eqb tl (2 + length t) && ltb t0 0x80 && leb (announced t0) (length t)
 
--- "The reader reads any ATS"; "TL = 1 means size index 2"; "T0 b8 set, or TL not fitting the frame or T0: 9". Its low half is FSCI
+-- "The reader reads any ATS"; "TL = 1 means size index 2"; "T0 b8 set, or TL not fitting the frame or T0: 9". Its low half is FSCI, of which
+-- "9 to 15 read as 8"
 abbrev pub atsBytes : List ℕ → AtsRead
 atsBytes [] = NotAts Forbidden
 atsBytes (tl ∷ []) = cond (eqb tl 1) (Index 2) (NotAts Forbidden)
-atsBytes (tl ∷ t0 ∷ t) = cond (atsFits tl t0 t) (Index (t0 % 16)) (NotAts Forbidden)
+atsBytes (tl ∷ t0 ∷ t) = cond (atsFits tl t0 t) (Index (atMost8 (t0 % 16))) (NotAts Forbidden)
 
 abbrev pub atsOf : Verdict → AtsRead
 atsOf (Good l) = atsBytes l

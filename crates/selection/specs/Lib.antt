@@ -1,9 +1,12 @@
 pub mod Selection
 pub mod Heard
+pub mod Says
 pub mod Level
+pub mod FrameTable
 pub mod LevelLaws
 pub mod PadLaws
 pub mod RestLaws
+pub mod SaysLaws
 pub mod SentLaws
 pub mod SizeLaws
 pub mod SealLaws

@@ -20,7 +20,7 @@ use Rattle.frame.specs.FrameLaws.{Passed, read-passed, read-standard, read-crc-
 use Rattle.frame.specs.ParityLaws.{faulty-drop}
 use Rattle.uid.specs.CheckLaws.{Five}
 use Rattle.uid.specs.Uid.{level}
-use Rattle.selection.specs.Selection.{nvb, cut, others, sakFrame, atqa, ats, size}
+use Rattle.selection.specs.Selection.{nvb, cut, others, sakFrame, atqa, ats, atMost8, size}
 use Rattle.selection.specs.Heard.{readAtqa, readRest, restOf, readSak, announced, atsFits, readAts}
 use Rattle.uid.specs.declared.UidSize.{UidSize}
 use Rattle.uid.specs.declared.UidSize.the-variants.{Single, Double, Triple}
@@ -143,7 +143,7 @@ size-least i =
     at-least (16 ∷ 24 ∷ 32 ∷ 40 ∷ 48 ∷ 64 ∷ 96 ∷ 128 ∷ []) i
     (omega arith, (omega arith, (omega arith, (omega arith, (omega arith, (omega arith, (omega arith, (omega arith, tt))))))))
 
-pub reads-ats : (own i : ℕ) → i < 16 → readAts own (ats i) ≡ Index i
+pub reads-ats : (own i : ℕ) → i < 16 → readAts own (ats i) ≡ Index (atMost8 i)
 unfolding readAts ats atsFits announced
 reads-ats own i h =
     let l : List ℕ = withCrc (0x02 ∷ i ∷ []) in

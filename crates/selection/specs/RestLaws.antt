@@ -1,6 +1,6 @@
 -- What a level's 45 bits say, and how the answer to ANTICOLLISION is read by it. Assumes nothing.
-use mathlib.Core.Path.{_≡_, refl, sym, ap, _∙_}
-use mathlib.Core.Bool.{Bool, true, false, cond, not, _&&_}
+use mathlib.Core.Path.{_≡_, refl, sym, _∙_}
+use mathlib.Core.Bool.{Bool, true, false, not, _&&_}
 use mathlib.Core.List.{List, [], _∷_, _++_, append-nil}
 use Prim.Native.Nat.{ℕ, zero, suc, _+_, _-_, _*_, _/_, _≤_, _<_}
 use native.Mathlib.Omega.{arith}
@@ -16,7 +16,7 @@ use Rattle.selection.specs.declared.SakRead.the-variants.{Sak, NotSak}
 use Rattle.crc.specs.Crc.{crcGood, withCrc}
 use Rattle.rows.specs.RowLaws.{overlay-all}
 use Rattle.frame.specs.ByteLaws.{length-bytes}
-use Rattle.selection.specs.Level.{firstCollided}
+use Rattle.selection.specs.Level.{firstCollided, levelSays}
 use Rattle.selection.specs.LevelLaws.{first-clean, first-clash, first-head, length-data}
 use Rattle.selection.specs.PadLaws.{bytes-fill}
 use Rattle.rows.specs.ListLaws.{all-append}
@@ -24,16 +24,6 @@ use Rattle.rows.specs.HeardLaws.{bits-clean, clean-bits}
 use Rattle.refusal.specs.declared.Refusal.the-variants.{Length, Parity, Crc, Check, Silence, Collision}
 use Rattle.selection.specs.declared.Rest.{Rest}
 use Rattle.selection.specs.declared.RestSays.the-variants.{Whole, Collided}
-
--- the tests of `readRest` on the level's row w, behind silence and length
-unfoldable pub levelSays : ℕ → List ℕ → Rest
-levelSays k w =
-    let d : List ℕ = dataOf 5 w in
-    let i : ℕ = (k + 7) / 8 in
-    cond (not (clean d) && ltb 32 (length (next d))) (notRest Collision)
-    (cond (faulty (5 - i) (drop (9 * i) w)) (notRest Parity)
-    (cond (clean d && not (same (bytesOf 5 d) (level (take 4 (bytesOf 5 d))))) (notRest Check)
-    (restOf (cond (clean d) Whole Collided) (next d))))
 
 pub nil-yes : (h : List ℕ) → length h ≡ 0 → isNil h ≡ true
 unfolding isNil

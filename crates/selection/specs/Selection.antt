@@ -1,14 +1,13 @@
 -- Document 01, "Frames on the air", "The card" (ATQA, SAK) and "RATS, ATS and blocks" (RATS, ATS, sizes): the frames of a selection.
 -- A level on the air is one row of 45 bits, its five bytes with parity. Where k of its 40 data bits are known, the reader has sent
 -- the first k + k / 8 of them and the card answers the rest.
-use Prim.Native.Nat.{ℕ, _+_, _-_, _*_, _/_, _%_}
+use Prim.Native.Nat.{ℕ, _+_, _*_, _/_, _%_}
 use mathlib.Core.Bool.{cond}
 use mathlib.Core.List.{List, [], _∷_, _++_}
 use lib.ListN.{take, drop, getD}
 use lib.Dec.{ltb}
 use Rattle.crc.specs.Crc.{withCrc}
 use Rattle.frame.specs.Frame.{short, standard}
-use Rattle.uid.specs.Uid.{place}
 use Rattle.uid.specs.declared.Level.{Level}
 use Rattle.uid.specs.declared.Level.the-variants.{One, Two, Three}
 use Rattle.uid.specs.declared.UidSize.{UidSize}

@@ -1,12 +1,15 @@
 -- The sizes as a table, and past it. Assumes nothing.
 use mathlib.Core.Path.{_≡_, refl, sym}
+use mathlib.Core.Bool.{Bool, true, false, cond}
 use mathlib.Core.List.{List, [], _∷_}
 use Prim.Native.Nat.{ℕ, zero, suc, _≤_, _<_}
 use native.Mathlib.Nat.{not-suc-le-zero}
 use native.Mathlib.Omega.{arith}
 use lib.ListN.{length, getD, List·getD-eq-default}
+use lib.Dec.{ltb}
+use borrow.Author.Tests.{ltb-false}
 use Rattle.rows.specs.Rows.{All}
-use Rattle.selection.specs.Selection.{size}
+use Rattle.selection.specs.Selection.{atMost8, size}
 
 -- what lies past a table's end is not read
 getD-in : (l : List ℕ) (i d e : ℕ) → i < length l → getD l i d ≡ getD l i e
@@ -21,6 +24,14 @@ size-small i h = getD-in (16 ∷ 24 ∷ 32 ∷ 40 ∷ 48 ∷ 64 ∷ 96 ∷ 128 �
 pub size-large : (i : ℕ) → 8 ≤ i → 256 ≡ size i
 unfolding size
 size-large i h = sym (List·getD-eq-default (16 ∷ 24 ∷ 32 ∷ 40 ∷ 48 ∷ 64 ∷ 96 ∷ 128 ∷ []) 256 h)
+
+-- "9 to 15 read as 8"
+pub index-most : (i : ℕ) → atMost8 i ≤ 8
+index-most i = go (ltb 8 i) refl
+  where
+    go : (b : Bool) → ltb 8 i ≡ b → cond b 8 i ≤ 8
+    go true e = omega arith
+    go false e = omega (arith, ltb-false 8 i e)
 
 at-most : (l : List ℕ) (k : ℕ) → All (λ s. s ≤ 256) l → getD l k 256 ≤ 256
 at-most [] k h = omega arith

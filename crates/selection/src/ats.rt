@@ -1,6 +1,7 @@
 // ATS, as the reader reads it: the card's size index, or why not.
 ghost use mathlib.Core.Path.{_≡_};
 ghost use Rattle.selection.specs.Heard.{announced, atsBytes, readAts};
+ghost use Rattle.selection.specs.Says.{atsSays};
 use crate::AtsRead;
 use frame::Received;
 use refusal::Refusal;
@@ -37,18 +38,19 @@ fn read_bytes(l: &[u8]) -> AtsRead
     if l.len() - 2 < announced(t0) {
         return AtsRead::NotAts(Refusal::Forbidden);
     }
-    AtsRead::Index(t0 % 16)
+    AtsRead::Index(crate::numbers::at_most_8(t0 % 16))
 }
 
 // ATS, heard by a reader of this size index.
 pub fn read_ats(own: u8, row: &[u8]) -> AtsRead
     ensures { λ r. ⌜ r ≡ readAts own (now (row .entry)) ⌝ }
+    ensures { λ r. ⌜ atsSays r ≡ atsSays (readAts own (now (row .entry))) ⌝ }
 {
     if row.len() == 0 {
         return AtsRead::NotAts(Refusal::Silence);
     }
     let most = crate::numbers::size_of(own);
-    let mut bytes = [0u8; 256];
+    let mut bytes = [0u8; limits::MOST_BYTES];
     let got = frame::within::read_crc_within(row, most, &mut bytes);
     match got {
         Received::NotReceived(e) => AtsRead::NotAts(e),

@@ -5,9 +5,9 @@ ghost use Rattle.rows.specs.Rows.{same};
 ghost use Rattle.uid.specs.Uid.{level};
 ghost use lib.ListN.{take, drop};
 ghost use Rattle.frame.specs.Frame.{dataOf, faulty};
-ghost use Rattle.selection.specs.Level.{firstCollided};
+ghost use Rattle.selection.specs.Level.{firstCollided, levelSays};
 ghost use Rattle.selection.specs.Heard.{readAtqa, notRest, readRest, readSak};
-ghost use Rattle.selection.specs.RestLaws.{levelSays};
+ghost use Rattle.selection.specs.Says.{atqaSays, restSays, sakSays};
 use crate::AtqaRead;
 use crate::Rest;
 use crate::RestSays;
@@ -17,6 +17,7 @@ use refusal::Refusal;
 // ATQA. A collided bit counts as 1, so it is enough that b1 to b5 are not all zeros.
 pub fn read_atqa(row: &[u8]) -> AtqaRead
     ensures { λ r. ⌜ r ≡ readAtqa (now (row .entry)) ⌝ }
+    ensures { λ r. ⌜ atqaSays r ≡ atqaSays (readAtqa (now (row .entry))) ⌝ }
 {
     if row.len() == 0 {
         return AtqaRead::NotAtqa(Refusal::Silence);
@@ -37,6 +38,7 @@ pub fn read_atqa(row: &[u8]) -> AtqaRead
 // SAK and CRC_A.
 pub fn read_sak(row: &[u8]) -> SakRead
     ensures { λ r. ⌜ r ≡ readSak (now (row .entry)) ⌝ }
+    ensures { λ r. ⌜ sakSays r ≡ sakSays (readSak (now (row .entry))) ⌝ }
 {
     if row.len() == 0 {
         return SakRead::NotSak(Refusal::Silence);
@@ -138,6 +140,7 @@ fn level_says(k: u8, w: [u8; 45]) -> Rest
 // The answer to ANTICOLLISION, of which k bits of five were sent: the parity of the broken byte is never looked at.
 pub fn read_rest(k: u8, five: [u8; 5], row: &[u8]) -> Rest
     ensures { λ r. ⌜ r ≡ readRest k five (now (row .entry)) ⌝ }
+    ensures { λ r. ⌜ restSays r ≡ restSays (readRest k five (now (row .entry))) ⌝ }
 {
     if row.len() == 0 {
         return not_rest(Refusal::Silence);

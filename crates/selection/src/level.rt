@@ -1,9 +1,7 @@
 // The 45 bits of a level as they were sent and heard: its data bits, the first of them that collided, and the bytes of those known.
 ghost use mathlib.Core.Path.{_≡_};
 ghost use mathlib.Core.Bool.{true};
-ghost use Prim.Native.Nat.{_≤_};
-ghost use lib.ListN.{length};
-ghost use Rattle.rows.specs.Rows.{clean, next, fill, same};
+ghost use Rattle.rows.specs.Rows.{clean, next, fill};
 ghost use Rattle.frame.specs.Frame.{dataOf, bytesOf};
 ghost use Rattle.selection.specs.Level.{firstCollided};
 

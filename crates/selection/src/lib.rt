@@ -5,7 +5,6 @@ pub mod heard;
 mod level;
 pub mod numbers;
 pub mod sent;
-pub mod split;
 pub mod within;
 
 use refusal::Refusal;

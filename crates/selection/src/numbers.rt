@@ -44,6 +44,13 @@ pub fn cut(k: u8) -> usize
     if c < 45 { c } else { 45 }
 }
 
+// How many air bits ANTICOLLISION has with k bits known.
+pub fn anticollision_bits(k: u8) -> usize
+    ensures { λ r. ⌜ r ≡ 18 + min (cut k) 45 ⌝ }
+{
+    18 + cut(k)
+}
+
 // The first byte of ATQA.
 pub fn atqa_byte(z: UidSize) -> u8
     ensures { λ r. ⌜ r ≡ atqaByte z ⌝ }

@@ -1,11 +1,7 @@
 // The frames that a reader and a card send in a selection: rows of air bits, parity included, by value.
 ghost use mathlib.Core.Path.{_≡_};
-ghost use mathlib.Core.List.{[], _∷_};
-ghost use Prim.Native.Nat.{_+_, _%_};
-ghost use lib.ListN.{length};
-ghost use Rattle.crc.specs.Crc.{withCrc};
 ghost use Rattle.frame.specs.Frame.{standard};
-ghost use Rattle.selection.specs.Selection.{reqa, wupa, hlta, select, sakFrame, atqa, rats, ats};
+ghost use Rattle.selection.specs.Selection.{reqa, wupa, hlta, select, sakFrame, atqa};
 use uid::Level;
 use uid::UidSize;
 
@@ -21,35 +17,10 @@ pub fn wupa() -> [u8; 7]
     [0, 1, 0, 0, 1, 0, 1]
 }
 
-// A frame of two bytes and their CRC_A.
-fn two_bytes(a: u8, b: u8) -> [u8; 36]
-    ensures { λ r. ⌜ r ≡ standard (withCrc (a ∷ b ∷ [])) ⌝ }
-{
-    let data = [a, b];
-    let crc = crc::crc_bytes(&data);
-    let bytes = [a, b, crc[0], crc[1]];
-    let mut row = [0u8; 36];
-    frame::within::put_bytes(&mut row, 0, &bytes);
-    row
-}
-
 pub fn hlta() -> [u8; 36]
     ensures { λ r. ⌜ r ≡ hlta ⌝ }
 {
-    two_bytes(0x50, 0x00)
-}
-
-// RATS, for an FSDI of 4 bits, and CID 0.
-pub fn rats(fsdi: u8) -> [u8; 36]
-    ensures { λ r. ⌜ r ≡ rats (fsdi % 16) ⌝ }
-{
-    two_bytes(0xE0, 16 * (fsdi % 16))
-}
-
-pub fn ats(fsci: u8) -> [u8; 36]
-    ensures { λ r. ⌜ r ≡ ats fsci ⌝ }
-{
-    two_bytes(0x02, fsci)
+    crate::within::two_bytes(0x50, 0x00)
 }
 
 // SAK and its CRC_A.

@@ -1,6 +1,7 @@
 pub mod Order
 pub mod Uid
 pub mod Calls
+pub mod SaysLaws
 pub mod LevelLaws
 pub mod BytesAtLaws
 pub mod Table

@@ -4,7 +4,7 @@ ghost use mathlib.Core.List.{[], _∷_};
 ghost use lib.ListN.{length};
 ghost use Rattle.rows.specs.Rows.{same};
 ghost use Rattle.uid.specs.Uid.{levelCount, byteCount, uidBytes, check, threeLevels, valid};
-ghost use Rattle.uid.specs.Calls.{newUid, airRow, airRowAfter};
+ghost use Rattle.uid.specs.Calls.{newUid, madeSays, newSays, airRowSays, airSays, airRowAfter};
 use refusal::Refusal;
 
 // Functions that only the crates of this repository call.
@@ -119,6 +119,7 @@ pub fn is_valid(u: Uid) -> bool
 // A UID from bytes, or 6: "one of these lengths", and the rest of what valid means.
 pub fn new_uid(bytes: &[u8]) -> NewUid
     ensures { λ r. ⌜ r ≡ newUid (now (bytes .entry)) ⌝ }
+    ensures { λ r. ⌜ madeSays (r .made) ≡ newSays (now (bytes .entry)) ⌝ }
 {
     if bytes.len() == 4 {
         let u = within::sized(UidSize::Single, bytes);
@@ -150,7 +151,7 @@ pub fn same_uid(a: Uid, b: Uid) -> bool
 
 // "The on-air row of a UID is its levels in air order, parity left out". It asks for room for the longest.
 pub fn air_row(u: Uid, out: &mut [u8]) -> AirRow
-    ensures { λ r. ⌜ r ≡ airRow (length (now (out .entry))) u ⌝ }
+    ensures { λ r. ⌜ airRowSays r ≡ airSays (length (now (out .entry))) u ⌝ }
     ensures { λ r. ⌜ now (out .exit) ≡ airRowAfter r u (now (out .entry)) ⌝ }
 {
     if out.len() < 120 {

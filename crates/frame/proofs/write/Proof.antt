@@ -1,24 +1,18 @@
-use mathlib.Core.Path.{_≡_, refl}
+-- `frame::write` meets its contract, by that of `put_bytes`: 1 exactly where the row has no room. Assumes nothing.
+use mathlib.Core.Path.{refl, sym}
 use native.Mathlib.Nat.{add-zero}
-use borrow.Author.Tests.{lt-ltb, le-ltb, lt-leb, le-leb}
-use Rattle.frame.specs.Calls.{writeAnswer}
+use native.Mathlib.Omega.{arith}
+use denote.Ref.{now}
+use lib.ListN.{length}
+use Rattle.frame.specs.SaysLaws.{no-room, has-room}
 use borrow.Author.Needs.{needs}
 use Rattle.frame.proofs.write.Statement.{statement}
 use Rattle.frame.proofs.write.Tie as tie
 
--- `frame::write` meets its contract: the definition has the same tests, in the same order. Assumes nothing.
-
 returns : tie.Need-returns
-unfolding writeAnswer
-returns c = (simp (add-zero, lt-ltb _ _ (c .if1 .taken)), refl)
-
-returns-2 : tie.Need-returns-2
-unfolding writeAnswer
-returns-2 c = (simp (add-zero, le-ltb _ _ (c .before .if1 .left), lt-leb _ _ (c .if2 .taken)), refl)
-
-returns-3 : tie.Need-returns-3
-unfolding writeAnswer
-returns-3 c = (simp (add-zero, le-ltb _ _ (c .before .before .if1 .left), le-leb _ _ (c .before .if2 .left), lt-leb _ _ (c .if3 .taken)), refl)
+returns c =
+    let a = c .before .before .before .args in
+    (sym (no-room 0 (length (now (a .out))) (length (now (a .bytes))) (omega arith)), refl)
 
 put-bytes-requires : tie.Need-put-bytes-requires
 put-bytes-requires c κs = search needs
@@ -29,13 +23,10 @@ mul-t4 c = search needs
 same-length : tie.Need-same-length
 same-length c = search needs
 
-returns-4 : tie.Need-returns-4
-unfolding writeAnswer
-returns-4 c =
-    let d = c .before .before .before .before in
-    (simp (add-zero, le-ltb _ _ (d .before .before .if1 .left), le-leb _ _ (d .before .if2 .left), le-leb _ _ (d .if3 .left)), c .before .before .put-bytes .ensures)
+returns-2 : tie.Need-returns-2
+returns-2 c =
+    let a = c .before .before .before .before .before .before .before .args in
+    (rw (has-room 0 (length (now (a .out))) (length (now (a .bytes))) (omega arith), add-zero), c .before .before .put-bytes .ensures)
 
 pub write-spec : {M : Type 1} → statement M
-write-spec =
-    tie.close
-    (tie.spec returns returns-2 returns-3 put-bytes-requires mul-t4 same-length returns-4)
+write-spec = tie.close (tie.spec returns put-bytes-requires mul-t4 same-length returns-2)

@@ -1,13 +1,11 @@
 use mathlib.Core.List.{List}
-use mathlib.Core.Path.{_≡_, refl, sym, ap}
-use borrow.Author.Tests.{lt-ltb, le-ltb}
+use mathlib.Core.Path.{refl, sym, ap}
 use native.Mathlib.Omega.{arith}
 use Prim.Native.Nat.{ℕ}
 use lib.ListN.{length, take, length-take}
 use Rattle.parity.specs.Bits.{bitsOf}
-use Rattle.parity.specs.BitLaws.{length-bits}
 use Rattle.frame.specs.Frame.{short}
-use Rattle.frame.specs.Calls.{writeShort}
+use Rattle.frame.specs.SaysLaws.{short-no-room, short-has-room}
 use borrow.Author.Needs.{needs}
 use Rattle.frame.proofs.write_short.Statement.{statement}
 use Rattle.frame.proofs.write_short.Tie as tie
@@ -15,8 +13,7 @@ use Rattle.frame.proofs.write_short.Tie as tie
 -- `frame::write_short` meets its contract, by those of `bits_of` and `put`. Assumes nothing.
 
 returns : tie.Need-returns
-unfolding writeShort
-returns c = (simp (lt-ltb _ _ (c .if1 .taken)), refl)
+returns c = (sym (short-no-room _ (c .if1 .taken)), refl)
 
 bits-of-requires : tie.Need-bits-of-requires
 bits-of-requires c κs = search needs
@@ -35,9 +32,9 @@ same-length : tie.Need-same-length
 same-length c = search needs
 
 returns-2 : tie.Need-returns-2
-unfolding writeShort short bitsOf
+unfolding short bitsOf
 returns-2 c =
-    (simp (le-ltb _ _ (c .before .before .before .before .before .before .if1 .left)), rw (c .before .before .put .ensures, c .before .before .before .before .before .bits-of .ensures))
+    (sym (short-has-room _ (c .before .before .before .before .before .before .if1 .left)), rw (c .before .before .put .ensures, c .before .before .before .before .before .bits-of .ensures))
 
 pub write-short-spec : {M : Type 1} → statement M
 write-short-spec =

@@ -1,22 +1,38 @@
--- `parity::odd_parity` meets its contract, by those of `bits_of` and `parity_of`. Assumes nothing.
-use mathlib.Core.Path.{ap, _∙_}
-use Rattle.parity.specs.Bits.{odd}
-use borrow.Author.Needs.{needs}
+-- `parity::odd_parity` meets its contract. The loop's invariant: n with the ones among the bits left is as odd or even as 1 with all of them.
+-- Assumes nothing.
+use Prim.Native.Nat.{_≤_, _<_, _+_, _-_, _%_}
+use mathlib.Core.Path.{_≡_}
+use native.Mathlib.Omega.{arith}
+use Rattle.parity.specs.Bits.{bitsOf, ones, odd}
+use Rattle.parity.specs.LoopLaws.{ones-next, ones-done}
 use Rattle.parity.proofs.odd_parity.Statement.{statement}
 use Rattle.parity.proofs.odd_parity.Tie as tie
 
-bits-of-requires : tie.Need-bits-of-requires
-bits-of-requires c κs = search needs
+abbrev Inv-loop : tie.InvT-loop
+Inv-loop b n₀ rest₀ i₀ n rest i = (i ≤ 8) × (n < 2) × ((n + ones (bitsOf (8 - i) rest)) % 2 ≡ (1 + ones (bitsOf 8 b)) % 2)
 
-slice-aggregate-parity-of : tie.Need-slice-aggregate-parity-of
-slice-aggregate-parity-of c = search needs
+abbrev μ-loop : tie.MeasureT-loop
+μ-loop b n₀ rest₀ i₀ n rest i = 8 - i
 
-parity-of-requires : tie.Need-parity-of-requires
-parity-of-requires c κs = search needs
+loop-holds : tie.Need-loop-holds Inv-loop μ-loop
+loop-holds c = omega arith
 
-returns : tie.Need-returns
-returns c = c .parity-of .ensures ∙ ap odd (c .before .before .bits-of .ensures)
+add-n : tie.Need-add-n Inv-loop μ-loop
+add-n c = omega arith
+
+add-i : tie.Need-add-i Inv-loop μ-loop
+add-i c = omega arith
+
+loop-less : tie.Need-loop-less Inv-loop μ-loop
+loop-less c = omega arith
+
+loop-again : tie.Need-loop-again Inv-loop μ-loop
+loop-again c = omega (arith, ones-next 8 (c .before .loop .i) (c .before .loop .rest) (omega arith))
+
+returns : tie.Need-returns Inv-loop μ-loop
+unfolding odd
+returns c = omega (arith, ones-done 8 (c .before .loop .i) (c .before .loop .rest) (omega arith))
 
 pub odd-parity-spec : {M : Type 1} → statement M
 odd-parity-spec =
-    tie.close (tie.spec bits-of-requires slice-aggregate-parity-of parity-of-requires returns)
+    tie.close (tie.spec Inv-loop μ-loop loop-holds add-n add-i loop-less loop-again returns)

@@ -1,9 +1,9 @@
 -- `uid::air_row` meets its contract: where there is room, what the loop over levels wrote is the on-air row. Assumes nothing.
 use borrow.Author.Needs.{needs}
-use mathlib.Core.Path.{refl, sym, ap}
+use mathlib.Core.Path.{refl, sym, ap, _∙_}
 use native.Mathlib.Omega.{arith}
-use borrow.Author.Tests.{lt-ltb, le-ltb}
-use Rattle.uid.specs.Calls.{airRow}
+use Rattle.uid.specs.Calls.{airRowSays}
+use Rattle.uid.specs.SaysLaws.{air-no-room, air-has-room}
 use Rattle.uid.specs.BytesAtLaws.{levels-most}
 use Rattle.uid.specs.AirLaws.{row-made}
 use Rattle.uid.specs.declared.AirRow.the-variants.{Bits}
@@ -11,8 +11,7 @@ use Rattle.uid.proofs.air_row.Statement.{statement}
 use Rattle.uid.proofs.air_row.Tie as tie
 
 returns : tie.Need-returns
-unfolding airRow
-returns c = (simp (lt-ltb _ _ (c .if1 .taken)), refl)
+returns c = (sym (air-no-room _ (c .before .before .args .u) (c .if1 .taken)), refl)
 
 level-count-requires : tie.Need-level-count-requires
 level-count-requires c κs = search needs
@@ -31,12 +30,11 @@ same-length : tie.Need-same-length
 same-length c = search needs
 
 returns-2 : tie.Need-returns-2
-unfolding airRow
 returns-2 c =
     let u = c .before .before .before .before .before .before .before .before .args .u in
     let p = c .before .before .put-levels in
     let r = row-made u _ _ (c .before .before .before .before .before .level-count .ensures) (c .before .before .before .before .levels .ensures) in
-    (rw (le-ltb _ _ (c .before .before .before .before .before .before .if1 .left)) (ap Bits (sym (rw r at (p .ensures .1)))), rw r at (p .ensures .0))
+    (ap (λ n. airRowSays (Bits n)) (sym (rw r at (p .ensures .1))) ∙ sym (air-has-room _ u (c .before .before .before .before .before .before .if1 .left)), rw r at (p .ensures .0))
 
 pub air-row-spec : {M : Type 1} → statement M
 air-row-spec =

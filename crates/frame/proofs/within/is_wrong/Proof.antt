@@ -1,23 +1,31 @@
--- `frame::within::is_wrong` meets its contract, by those of `is_clean` and `parity_of`. Assumes nothing.
+-- `frame::within::is_wrong` meets its contract, by those of `is_clean`, `byte_at` and `odd_parity`: the bits of the byte that is read are the bits in the row. Assumes nothing.
 use Prim.Native.Nat.{_+_, _-_}
-use mathlib.Core.Path.{_≡_, sym, _∙_}
+use mathlib.Core.Path.{_≡_, sym, ap, _∙_}
+use mathlib.Core.Bool.{true}
 use borrow.Author.Tests.{not-true, not-false}
 use native.Mathlib.Omega.{arith}
+use denote.Ref.{now}
+use lib.ListN.{take, drop, length-drop}
+use lib.Seq.{length-take-le}
+use Rattle.rows.specs.Rows.{clean}
+use Rattle.rows.specs.HeardLaws.{clean-bits}
+use Rattle.parity.specs.Bits.{bitsOf}
+use Rattle.frame.specs.FrameLaws.{bits-whole}
 use borrow.Author.Needs.{needs}
 use Rattle.frame.proofs.within.is_wrong.Statement.{statement}
 use Rattle.frame.proofs.within.is_wrong.Tie as tie
 
-add-d : tie.Need-add-d
-add-d c = search needs
+add-is-clean : tie.Need-add-is-clean
+add-is-clean c = search needs
 
-sub-d : tie.Need-sub-d
-sub-d c = search needs
+sub-is-clean : tie.Need-sub-is-clean
+sub-is-clean c = search needs
 
-part-d-start : tie.Need-part-d-start
-part-d-start c = search needs
+part-is-clean-start : tie.Need-part-is-clean-start
+part-is-clean-start c = search needs
 
-part-d-end : tie.Need-part-d-end
-part-d-end c = search needs
+part-is-clean-end : tie.Need-part-is-clean-end
+part-is-clean-end c = search needs
 
 is-clean-requires : tie.Need-is-clean-requires
 is-clean-requires c κs = search needs
@@ -28,33 +36,44 @@ returns c =
     let e : a .at + 8 - a .at ≡ 8 = omega arith in
     rw (rw e at (sym (c .before .is-clean .ensures) ∙ not-true _ (c .if1 .taken)))
 
+byte-at-requires : tie.Need-byte-at-requires
+byte-at-requires c κs =
+    let a = c .before .before .before .before .args in
+    let e : a .at + 8 - a .at ≡ 8 = omega arith in
+    (omega arith, rw e at (sym (c .before .is-clean .ensures) ∙ not-false _ (c .if1 .left)))
+
 add-result : tie.Need-add-result
 add-result c = search needs
 
 shared-slice-read-result : tie.Need-shared-slice-read-result
 shared-slice-read-result c = search needs
 
-parity-of-requires : tie.Need-parity-of-requires
-parity-of-requires c κs = search needs
+odd-parity-requires : tie.Need-odd-parity-requires
+odd-parity-requires c κs = search needs
 
 returns-2 : tie.Need-returns-2
 returns-2 c =
-    let f = c .before .before in
+    let f = c .before .before .before in
     let a = f .before .before .before .before .args in
     let e : a .at + 8 - a .at ≡ 8 = omega arith in
-    rw (rw e at (c .parity-of .ensures), rw e at (sym (f .before .is-clean .ensures) ∙ not-false _ (f .if1 .left)))
+    let d = take 8 (drop (a .at) (now (a .row))) in
+    let k : clean d ≡ true = rw e at (sym (f .before .is-clean .ensures) ∙ not-false _ (f .if1 .left)) in
+    let w : bitsOf 8 (c .before .before .byte-at .result) ≡ d =
+    ap (bitsOf 8) (c .before .before .byte-at .ensures) ∙ bits-whole 8 d (clean-bits d k) (length-take-le 8 (drop (a .at) (now (a .row))) (rw length-drop (omega arith))) in
+    rw (c .odd-parity .ensures, w, k)
 
 pub is-wrong-spec : {M : Type 1} → statement M
 is-wrong-spec =
     tie.close
     (tie.spec
-    add-d
-    sub-d
-    part-d-start
-    part-d-end
+    add-is-clean
+    sub-is-clean
+    part-is-clean-start
+    part-is-clean-end
     is-clean-requires
     returns
+    byte-at-requires
     add-result
     shared-slice-read-result
-    parity-of-requires
+    odd-parity-requires
     returns-2)

@@ -1,21 +1,22 @@
 use Rattle.frame.specs.Frame.{readCrc}
-use Rattle.frame.specs.Calls.{readAnswer, bytesAfter}
-use mathlib.Core.Path.{_≡_, sym, ap, ap₂, _∙_}
+use Rattle.frame.specs.Calls.{bytesAfter}
+use mathlib.Core.Path.{refl, sym, ap₂, _∙_}
 use denote.Ref.{now}
 use native.Mathlib.Omega.{arith}
-use lib.ListN.{length, length-take, replicate}
-use Rattle.selection.specs.Selection.{size}
+use lib.ListN.{length-take, replicate}
 use Rattle.selection.specs.Heard.{readAts}
 use Rattle.selection.specs.SizeLaws.{size-most}
 use Rattle.selection.specs.RestLaws.{nil-yes, nil-no}
 use Rattle.selection.specs.AtsLaws.{ats-fault, ats-good, ats-count}
+use Rattle.selection.specs.Says.{atsSays}
+use Rattle.selection.specs.SaysLaws.{with-says}
 use borrow.Author.Needs.{needs}
 use Rattle.selection.proofs.ats.read_ats.Statement.{statement}
 use Rattle.selection.proofs.ats.read_ats.Tie as tie
 
 returns : tie.Need-returns
 unfolding readAts
-returns c = rw (nil-yes _ (c .if1 .taken))
+returns c = rw (nil-yes _ (c .if1 .taken)) (refl, refl)
 
 size-of-requires : tie.Need-size-of-requires
 size-of-requires c κs = search needs
@@ -53,15 +54,16 @@ read-bytes-requires c κs = search needs
 returns-2 : tie.Need-returns-2
 returns-2 c =
     let a = c .before .before .before .before .before .before .before .before .before .args in
-    sym (ats-fault (a .own) (now (a .row)) _ (nil-no _ (c .before .before .before .before .before .before .before .if1 .left)) (rw (c .before .before .before .before .before .before .size-of .ensures) at (sym (c .before .before .before .before .read-crc-within .ensures .0)) ∙ c .before .got .given .1))
+    with-says atsSays _ _ (sym (ats-fault (a .own) (now (a .row)) _ (nil-no _ (c .before .before .before .before .before .before .before .if1 .left)) (rw (c .before .before .before .before .before .before .size-of .ensures) at (sym (c .before .before .before .before .read-crc-within .ensures .0)) ∙ c .before .got .given .1)))
 
 returns-3 : tie.Need-returns-3
 returns-3 c =
     let a = c .before .before .before .before .before .before .before .before .before .before .before .args in
     let r = c .before .before .before .before .before .before .read-crc-within in
-    c .read-bytes .ensures
+    with-says atsSays _ _
+    (c .read-bytes .ensures
     ∙ ats-good (a .own) (now (a .row)) _ _ (nil-no _ (c .before .before .before .before .before .before .before .before .before .if1 .left)) (rw (c .before .before .before .before .before .before .before .before .size-of .ensures) at (sym (r .ensures .0)) ∙ c .before .before .before .got2 .given .1)
-    (r .ensures .1 ∙ ap₂ (λ x s. bytesAfter x (readCrc 3 s (now (a .row))) (replicate 256 0)) (c .before .before .before .got2 .given .1) (c .before .before .before .before .before .before .before .before .size-of .ensures))
+    (r .ensures .1 ∙ ap₂ (λ x s. bytesAfter x (readCrc 3 s (now (a .row))) (replicate 256 0)) (c .before .before .before .got2 .given .1) (c .before .before .before .before .before .before .before .before .size-of .ensures)))
 
 pub read-ats-spec : {M : Type 1} → statement M
 read-ats-spec =

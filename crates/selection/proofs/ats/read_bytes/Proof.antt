@@ -1,8 +1,9 @@
-use mathlib.Core.Path.{_≡_, sym, _∙_}
+use mathlib.Core.Path.{sym, ap, _∙_}
 use denote.Ref.{now}
 use native.Mathlib.Omega.{arith}
 use borrow.Author.Tests.{eq-eqb, ne-eqb, lt-ltb, le-ltb, le-leb, lt-leb}
 use Rattle.selection.specs.AtsLaws.{ats-none, ats-short, ats-is}
+use Rattle.selection.specs.declared.AtsRead.the-variants.{Index}
 use borrow.Author.Needs.{needs}
 use Rattle.selection.proofs.ats.read_bytes.Statement.{statement}
 use Rattle.selection.proofs.ats.read_bytes.Tie as tie
@@ -40,8 +41,11 @@ announced-requires c κs = search needs
 returns-6 : tie.Need-returns-6
 returns-6 c = sym (ats-is (now (c .before .before .before .before .before .before .before .before .before .args .l)) (c .before .before .before .before .before .before .before .if1 .left) (c .before .before .before .before .before .if2 .left) ∙ rw (eq-eqb _ _ (c .before .before .before .if4 .left), lt-ltb _ _ (c .before .before .if5 .left), ← c .before .announced .ensures, lt-leb _ _ (c .if6 .taken)))
 
+at-most-8-requires : tie.Need-at-most-8-requires
+at-most-8-requires c κs = search needs
+
 returns-7 : tie.Need-returns-7
-returns-7 c = sym (ats-is (now (c .before .before .before .before .before .before .before .before .before .args .l)) (c .before .before .before .before .before .before .before .if1 .left) (c .before .before .before .before .before .if2 .left) ∙ rw (eq-eqb _ _ (c .before .before .before .if4 .left), lt-ltb _ _ (c .before .before .if5 .left), ← c .before .announced .ensures, le-leb _ _ (c .if6 .left)))
+returns-7 c = sym (ats-is (now (c .before .before .before .before .before .before .before .before .before .before .args .l)) (c .before .before .before .before .before .before .before .before .if1 .left) (c .before .before .before .before .before .before .if2 .left) ∙ rw (eq-eqb _ _ (c .before .before .before .before .if4 .left), lt-ltb _ _ (c .before .before .before .if5 .left), ← c .before .before .announced .ensures, le-leb _ _ (c .before .if6 .left)) (ap Index (sym (c .at-most-8 .ensures))))
 
 pub read-bytes-spec : {M : Type 1} → statement M
 read-bytes-spec =
@@ -58,4 +62,5 @@ read-bytes-spec =
     sub-if6
     announced-requires
     returns-6
+    at-most-8-requires
     returns-7)

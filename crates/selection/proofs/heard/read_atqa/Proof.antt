@@ -1,6 +1,6 @@
 use lib.ListN.{length-take}
 use native.Mathlib.Omega.{arith}
-use mathlib.Core.Path.{_≡_, refl, sym, _∙_}
+use mathlib.Core.Path.{refl, sym, _∙_}
 use borrow.Author.Tests.{eq-eqb, ne-eqb}
 use Rattle.selection.specs.Heard.{readAtqa}
 use Rattle.selection.specs.RestLaws.{nil-yes, nil-no}
@@ -10,18 +10,18 @@ use Rattle.selection.proofs.heard.read_atqa.Tie as tie
 
 returns : tie.Need-returns
 unfolding readAtqa
-returns c = rw (nil-yes _ (c .if1 .taken))
+returns c = rw (nil-yes _ (c .if1 .taken)) (refl, refl)
 
 returns-2 : tie.Need-returns-2
 unfolding readAtqa
-returns-2 c = rw (nil-no _ (c .before .if1 .left), ne-eqb _ _ (c .if2 .taken))
+returns-2 c = rw (nil-no _ (c .before .if1 .left), ne-eqb _ _ (c .if2 .taken)) (refl, refl)
 
 is-faulty-requires : tie.Need-is-faulty-requires
 is-faulty-requires c κs = search needs
 
 returns-3 : tie.Need-returns-3
 unfolding readAtqa
-returns-3 c = rw (nil-no _ (c .before .before .before .if1 .left), eq-eqb _ _ (c .before .before .if2 .left), sym (c .before .is-faulty .ensures) ∙ c .if3 .taken)
+returns-3 c = rw (nil-no _ (c .before .before .before .if1 .left), eq-eqb _ _ (c .before .before .if2 .left), sym (c .before .is-faulty .ensures) ∙ c .if3 .taken) (refl, refl)
 
 slice-aggregate-is-same : tie.Need-slice-aggregate-is-same
 slice-aggregate-is-same c = rw length-take (omega arith)
@@ -34,11 +34,11 @@ is-same-requires c κs = search needs
 
 returns-4 : tie.Need-returns-4
 unfolding readAtqa
-returns-4 c = rw (nil-no _ (c .before .before .before .before .before .before .before .if1 .left), eq-eqb _ _ (c .before .before .before .before .before .before .if2 .left), sym (c .before .before .before .before .before .is-faulty .ensures) ∙ c .before .before .before .before .if3 .left, sym (c .before .is-same .ensures) ∙ c .if4 .taken)
+returns-4 c = rw (nil-no _ (c .before .before .before .before .before .before .before .if1 .left), eq-eqb _ _ (c .before .before .before .before .before .before .if2 .left), sym (c .before .before .before .before .before .is-faulty .ensures) ∙ c .before .before .before .before .if3 .left, sym (c .before .is-same .ensures) ∙ c .if4 .taken) (refl, refl)
 
 returns-5 : tie.Need-returns-5
 unfolding readAtqa
-returns-5 c = rw (nil-no _ (c .before .before .before .before .before .before .before .if1 .left), eq-eqb _ _ (c .before .before .before .before .before .before .if2 .left), sym (c .before .before .before .before .before .is-faulty .ensures) ∙ c .before .before .before .before .if3 .left, sym (c .before .is-same .ensures) ∙ c .if4 .left)
+returns-5 c = rw (nil-no _ (c .before .before .before .before .before .before .before .if1 .left), eq-eqb _ _ (c .before .before .before .before .before .before .if2 .left), sym (c .before .before .before .before .before .is-faulty .ensures) ∙ c .before .before .before .before .if3 .left, sym (c .before .is-same .ensures) ∙ c .if4 .left) (refl, refl)
 
 pub read-atqa-spec : {M : Type 1} → statement M
 read-atqa-spec =

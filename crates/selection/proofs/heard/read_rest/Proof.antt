@@ -1,4 +1,4 @@
-use mathlib.Core.Path.{_≡_, refl, sym, ap, _∙_}
+use mathlib.Core.Path.{_≡_, sym, ap, _∙_}
 use Prim.Native.Nat.{_+_}
 use native.Mathlib.Omega.{arith}
 use denote.Ref.{now}
@@ -6,7 +6,10 @@ use lib.ListN.{length}
 use Rattle.frame.specs.Frame.{standard}
 use Rattle.frame.specs.FrameLaws.{length-standard}
 use Rattle.selection.specs.Selection.{cut}
-use Rattle.selection.specs.RestLaws.{levelSays, rest-silent, rest-length, rest-level, level-row}
+use Rattle.selection.specs.RestLaws.{rest-silent, rest-length, rest-level, level-row}
+use Rattle.selection.specs.Level.{levelSays}
+use Rattle.selection.specs.Says.{restSays}
+use Rattle.selection.specs.SaysLaws.{with-says}
 use borrow.Author.Needs.{needs}
 use Rattle.selection.proofs.heard.read_rest.Statement.{statement}
 use Rattle.selection.proofs.heard.read_rest.Tie as tie
@@ -15,7 +18,7 @@ not-rest-requires : tie.Need-not-rest-requires
 not-rest-requires c κs = search needs
 
 returns : tie.Need-returns
-returns c = c .not-rest .ensures ∙ sym (rest-silent (c .before .before .before .args .k) (c .before .before .before .args .five) (now (c .before .before .before .args .row)) (c .before .if1 .taken))
+returns c = with-says restSays _ _ (c .not-rest .ensures ∙ sym (rest-silent (c .before .before .before .args .k) (c .before .before .before .args .five) (now (c .before .before .before .args .row)) (c .before .if1 .taken)))
 
 cut-requires : tie.Need-cut-requires
 cut-requires c κs = search needs
@@ -27,7 +30,7 @@ not-rest-requires-2 : tie.Need-not-rest-requires-2
 not-rest-requires-2 c κs = search needs
 
 returns-2 : tie.Need-returns-2
-returns-2 c = c .not-rest2 .ensures ∙ sym (rest-length (c .before .before .before .before .before .args .k) (c .before .before .before .before .before .args .five) (now (c .before .before .before .before .before .args .row)) (c .before .before .before .if1 .left) (λ e. c .before .if2 .taken (omega (arith, e))))
+returns-2 c = with-says restSays _ _ (c .not-rest2 .ensures ∙ sym (rest-length (c .before .before .before .before .before .args .k) (c .before .before .before .before .before .args .five) (now (c .before .before .before .before .before .args .row)) (c .before .before .before .if1 .left) (λ e. c .before .if2 .taken (omega (arith, e)))))
 
 level-row-requires : tie.Need-level-row-requires
 level-row-requires c κs = search needs
@@ -50,9 +53,10 @@ returns-3 c =
     let e : cut k + length row ≡ 45 = omega arith in
     let n : c .before .before .before .before .before .before .cut .result ≡ cut k = omega arith in
     let s : length (standard five) ≡ 45 = rw (length-standard, f) in
-    c .level-says .ensures
+    with-says restSays _ _
+    (c .level-says .ensures
     ∙ ap (levelSays k) (c .before .before .put .ensures ∙ rw (c .before .before .before .before .level-row .ensures, n) (level-row (standard five) row (cut k) s e))
-    ∙ sym (rest-level k five row (c .before .before .before .before .before .before .before .if1 .left) e)
+    ∙ sym (rest-level k five row (c .before .before .before .before .before .before .before .if1 .left) e))
 
 pub read-rest-spec : {M : Type 1} → statement M
 read-rest-spec =

@@ -1,14 +1,12 @@
 use borrow.Author.Tests.{not-true, not-false}
-use Rattle.rows.specs.RowLaws.{overlay-all}
-use Rattle.frame.specs.ByteLaws.{length-bytes}
-use lib.ListN.{replicate}
 use denote.Ref.{now}
 use Rattle.selection.specs.RestLaws.{sak-crc, sak-good}
-use mathlib.Core.Path.{_≡_, refl, sym, ap, _∙_}
+use mathlib.Core.Path.{refl, sym, _∙_}
 use native.Mathlib.Omega.{arith}
 use borrow.Author.Tests.{eq-eqb, ne-eqb}
-use mathlib.Core.Bool.{not}
 use Rattle.selection.specs.Heard.{readSak}
+use Rattle.selection.specs.Says.{sakSays}
+use Rattle.selection.specs.SaysLaws.{with-says}
 use Rattle.selection.specs.RestLaws.{nil-yes, nil-no}
 use borrow.Author.Needs.{needs}
 use Rattle.selection.proofs.heard.read_sak.Statement.{statement}
@@ -16,25 +14,25 @@ use Rattle.selection.proofs.heard.read_sak.Tie as tie
 
 returns : tie.Need-returns
 unfolding readSak
-returns c = rw (nil-yes _ (c .if1 .taken))
+returns c = rw (nil-yes _ (c .if1 .taken)) (refl, refl)
 
 returns-2 : tie.Need-returns-2
 unfolding readSak
-returns-2 c = rw (nil-no _ (c .before .if1 .left), ne-eqb _ _ (c .if2 .taken))
+returns-2 c = rw (nil-no _ (c .before .if1 .left), ne-eqb _ _ (c .if2 .taken)) (refl, refl)
 
 is-clean-requires : tie.Need-is-clean-requires
 is-clean-requires c κs = search needs
 
 returns-3 : tie.Need-returns-3
 unfolding readSak
-returns-3 c = rw (nil-no _ (c .before .before .before .if1 .left), eq-eqb _ _ (c .before .before .if2 .left), sym (c .before .is-clean .ensures) ∙ not-true _ (c .if3 .taken))
+returns-3 c = rw (nil-no _ (c .before .before .before .if1 .left), eq-eqb _ _ (c .before .before .if2 .left), sym (c .before .is-clean .ensures) ∙ not-true _ (c .if3 .taken)) (refl, refl)
 
 is-faulty-requires : tie.Need-is-faulty-requires
 is-faulty-requires c κs = search needs
 
 returns-4 : tie.Need-returns-4
 unfolding readSak
-returns-4 c = rw (nil-no _ (c .before .before .before .before .before .if1 .left), eq-eqb _ _ (c .before .before .before .before .if2 .left), sym (c .before .before .before .is-clean .ensures) ∙ not-false _ (c .before .before .if3 .left), sym (c .before .is-faulty .ensures) ∙ c .if4 .taken)
+returns-4 c = rw (nil-no _ (c .before .before .before .before .before .if1 .left), eq-eqb _ _ (c .before .before .before .before .if2 .left), sym (c .before .before .before .is-clean .ensures) ∙ not-false _ (c .before .before .if3 .left), sym (c .before .is-faulty .ensures) ∙ c .if4 .taken) (refl, refl)
 
 slice-aggregate-bytes-of : tie.Need-slice-aggregate-bytes-of
 slice-aggregate-bytes-of c = search needs
@@ -49,15 +47,13 @@ is-good-requires : tie.Need-is-good-requires
 is-good-requires c κs = search needs
 
 returns-5 : tie.Need-returns-5
-unfolding readSak
-returns-5 c = sym (sak-crc (now (c .before .before .before .before .before .before .before .before .before .before .before .before .before .args .row)) _ (c .before .before .before .before .before .before .before .before .before .before .if2 .left) (sym (c .before .before .before .before .before .before .before .before .before .is-clean .ensures) ∙ not-false _ (c .before .before .before .before .before .before .before .before .if3 .left)) (sym (c .before .before .before .before .before .before .before .is-faulty .ensures) ∙ c .before .before .before .before .before .before .if4 .left) (c .before .before .before .before .bytes-of .ensures) (sym (c .before .is-good .ensures) ∙ not-true _ (c .if5 .taken)))
+returns-5 c = with-says sakSays _ _ (sym (sak-crc (now (c .before .before .before .before .before .before .before .before .before .before .before .before .before .args .row)) _ (c .before .before .before .before .before .before .before .before .before .before .if2 .left) (sym (c .before .before .before .before .before .before .before .before .before .is-clean .ensures) ∙ not-false _ (c .before .before .before .before .before .before .before .before .if3 .left)) (sym (c .before .before .before .before .before .before .before .is-faulty .ensures) ∙ c .before .before .before .before .before .before .if4 .left) (c .before .before .before .before .bytes-of .ensures) (sym (c .before .is-good .ensures) ∙ not-true _ (c .if5 .taken))))
 
 array-read-t19 : tie.Need-array-read-t19
 array-read-t19 c = search needs
 
 returns-6 : tie.Need-returns-6
-unfolding readSak
-returns-6 c = sym (sak-good (now (c .before .before .before .before .before .before .before .before .before .before .before .before .before .args .row)) _ (c .before .before .before .before .before .before .before .before .before .before .if2 .left) (sym (c .before .before .before .before .before .before .before .before .before .is-clean .ensures) ∙ not-false _ (c .before .before .before .before .before .before .before .before .if3 .left)) (sym (c .before .before .before .before .before .before .before .is-faulty .ensures) ∙ c .before .before .before .before .before .before .if4 .left) (c .before .before .before .before .bytes-of .ensures) (sym (c .before .is-good .ensures) ∙ not-false _ (c .if5 .left)))
+returns-6 c = with-says sakSays _ _ (sym (sak-good (now (c .before .before .before .before .before .before .before .before .before .before .before .before .before .args .row)) _ (c .before .before .before .before .before .before .before .before .before .before .if2 .left) (sym (c .before .before .before .before .before .before .before .before .before .is-clean .ensures) ∙ not-false _ (c .before .before .before .before .before .before .before .before .if3 .left)) (sym (c .before .before .before .before .before .before .before .is-faulty .ensures) ∙ c .before .before .before .before .before .before .if4 .left) (c .before .before .before .before .bytes-of .ensures) (sym (c .before .is-good .ensures) ∙ not-false _ (c .if5 .left))))
 
 pub read-sak-spec : {M : Type 1} → statement M
 read-sak-spec =

@@ -1,11 +1,10 @@
 use mathlib.Core.Path.{refl}
 use mathlib.Core.List.{[], _∷_}
 use lib.ListN.{replicate}
-use Rattle.selection.specs.Selection.{sakFrame}
 use Rattle.selection.specs.SentLaws.{made, with-crc}
 use borrow.Author.Needs.{needs}
-use Rattle.selection.proofs.sent.two_bytes.Statement.{statement}
-use Rattle.selection.proofs.sent.two_bytes.Tie as tie
+use Rattle.selection.proofs.within.two_bytes.Statement.{statement}
+use Rattle.selection.proofs.within.two_bytes.Tie as tie
 
 slice-aggregate-crc-bytes : tie.Need-slice-aggregate-crc-bytes
 slice-aggregate-crc-bytes c = search needs

@@ -2,14 +2,14 @@ use Rattle.rows.specs.Rows.{same}
 use Rattle.selection.specs.Selection.{anticollision}
 use denote.Ref.{now}
 use lib.ListN.{length-take}
-use mathlib.Core.Path.{_≡_, refl, sym, ap, _∙_}
+use mathlib.Core.Path.{_≡_, sym, ap, _∙_}
 use native.Mathlib.Omega.{arith}
-use lib.ListN.{length, take}
+use lib.ListN.{length}
 use Rattle.rows.specs.RowLaws.{overlay-front}
 use Rattle.selection.specs.SentLaws.{anti-length}
 use borrow.Author.Needs.{needs}
-use Rattle.selection.proofs.split.is_anticollision.Statement.{statement}
-use Rattle.selection.proofs.split.is_anticollision.Tie as tie
+use Rattle.selection.proofs.within.is_anticollision.Statement.{statement}
+use Rattle.selection.proofs.within.is_anticollision.Tie as tie
 
 slice-aggregate-put-anticollision : tie.Need-slice-aggregate-put-anticollision
 slice-aggregate-put-anticollision c = search needs

@@ -1,7 +1,7 @@
 use Rattle.selection.specs.Selection.{rats}
 use borrow.Author.Needs.{needs}
-use Rattle.selection.proofs.sent.rats.Statement.{statement}
-use Rattle.selection.proofs.sent.rats.Tie as tie
+use Rattle.selection.proofs.within.rats.Statement.{statement}
+use Rattle.selection.proofs.within.rats.Tie as tie
 
 mul-two-bytes : tie.Need-mul-two-bytes
 mul-two-bytes c = search needs

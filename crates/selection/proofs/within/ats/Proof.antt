@@ -1,7 +1,7 @@
 use Rattle.selection.specs.Selection.{ats}
 use borrow.Author.Needs.{needs}
-use Rattle.selection.proofs.sent.ats.Statement.{statement}
-use Rattle.selection.proofs.sent.ats.Tie as tie
+use Rattle.selection.proofs.within.ats.Statement.{statement}
+use Rattle.selection.proofs.within.ats.Tie as tie
 
 two-bytes-requires : tie.Need-two-bytes-requires
 two-bytes-requires c κs = search needs
