@@ -1,10 +1,11 @@
 -- The card's calls: a new card, and a step of the rules handed back.
 use Prim.Native.Nat.{ℕ}
-use mathlib.Core.Bool.{Bool, false, cond}
+use mathlib.Core.Bool.{Bool, false, cond, not, _||_}
 use mathlib.Core.List.{List, [], _∷_}
 use lib.ListN.{length}
 use lib.Dec.{ltb}
-use Rattle.uid.specs.Calls.{newUid, sized}
+use Rattle.refusal.specs.Refusal.{Said, giving, declineIf}
+use Rattle.uid.specs.Calls.{newUid, sized, validBytes}
 use Rattle.card.specs.Card.{Step, withState}
 use Rattle.refusal.specs.declared.Refusal.the-variants.{Argument}
 use Rattle.uid.specs.declared.NewUid.{NewUid}
@@ -28,6 +29,10 @@ cardOf u (NotMade e) blocks index = refusedCard
 -- 6: "invalid .. UID, .. index over 8"
 unfoldable pub newCard : List ℕ → Bool → ℕ → NewCard
 newCard l blocks index = cond (ltb 8 index) refusedCard (cardOf (newUid l) (newUid l .made) blocks index)
+
+-- .. in the table's numbers
+abbrev pub newCardSays : List ℕ → ℕ → Said
+newCardSays l index = declineIf (ltb 8 index || not (validBytes l)) 6 (giving [])
 
 -- what a card answers by the row that it sends
 abbrev pub answerOf : List ℕ → CardAnswer

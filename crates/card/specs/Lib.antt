@@ -8,3 +8,4 @@ pub mod TakenLaws
 pub mod RulesLaws
 pub mod RatsLaws
 pub mod ReadyLaws
+pub mod SaysLaws

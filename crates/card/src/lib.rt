@@ -7,7 +7,8 @@ pub mod within;
 
 ghost use mathlib.Core.Path.{_≡_};
 ghost use Rattle.card.specs.Card.{powered, powerOn, powerOff};
-ghost use Rattle.card.specs.Calls.{refusedCard, newCard};
+ghost use Rattle.card.specs.Calls.{refusedCard, newCard, newCardSays};
+ghost use Rattle.uid.specs.Calls.{madeSays};
 use refusal::Refusal;
 use uid::Level;
 use uid::Made;
@@ -73,6 +74,7 @@ fn refused_card() -> NewCard
 // A card without power. 6: the UID is not valid, or the size index is over 8.
 pub fn new_card(bytes: &[u8], blocks: bool, index: u8) -> NewCard
     ensures { λ r. ⌜ r ≡ newCard (now (bytes .entry)) blocks index ⌝ }
+    ensures { λ r. ⌜ madeSays (r .made) ≡ newCardSays (now (bytes .entry)) index ⌝ }
 {
     if index > 8 {
         return refused_card();

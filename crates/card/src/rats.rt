@@ -24,6 +24,6 @@ pub fn is_rats(row: &[u8]) -> bool
     if i > 15 {
         return false;
     }
-    let rats = selection::sent::rats(i as u8);
+    let rats = selection::within::rats(i as u8);
     rows::is_same(row, &rats)
 }

@@ -68,7 +68,7 @@ fn is_matching(row: &[u8], l: Level, five: [u8; 5]) -> bool
 {
     let k = bits_sent(row.len());
     if k < 40 {
-        return selection::split::is_anticollision(row, l, k as u8, five);
+        return selection::within::is_anticollision(row, l, k as u8, five);
     }
     false
 }

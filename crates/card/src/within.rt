@@ -70,7 +70,7 @@ fn take_active(c: Card, row: &[u8], out: &mut [u8]) -> Taken
         let fsdi = crate::rats::fsdi(row);
         let theirs = selection::numbers::at_most_8(fsdi as u8);
         let ours = selection::numbers::at_most_8(c.index);
-        let ats = selection::sent::ats(ours);
+        let ats = selection::within::ats(ours);
         return crate::answer::send(c, CardState::Protocol(theirs), &ats, out);
     }
     crate::answer::silent(c, CardState::Idle)

@@ -20,9 +20,9 @@ use Rattle.frame.specs.FrameLaws.{length-standard}
 use Rattle.frame.specs.ParityLaws.{bits-standard}
 use Rattle.uid.specs.Uid.{level}
 use Rattle.selection.specs.Heard.{readAtqa, readRest, restOf, notRest}
-use Rattle.selection.specs.Level.{firstCollided}
+use Rattle.selection.specs.Level.{firstCollided, levelSays}
 use Rattle.selection.specs.LevelLaws.{data-at, first-clean, first-clash, first-head}
-use Rattle.selection.specs.RestLaws.{levelSays, nil-no, rest-silent, rest-length, rest-level}
+use Rattle.selection.specs.RestLaws.{nil-no, rest-silent, rest-length, rest-level}
 use Rattle.selection.specs.Selection.{cut, anticollision}
 use Rattle.reader.specs.Reader.{reader, frame, sends, hear, afterRest}
 use Rattle.reader.specs.StepLaws.{hear-at, rest-at}

@@ -71,7 +71,7 @@ pub fn frame_bits(r: Reader) -> usize
     match p {
         Phase::New => 0,
         Phase::ReqaSent => 7,
-        Phase::AnticollisionSent(_) => selection::split::anticollision_bits(k),
+        Phase::AnticollisionSent(_) => selection::numbers::anticollision_bits(k),
         Phase::SelectSent(_) => 81,
         Phase::HltaSent => 36,
         Phase::Selected => 0,

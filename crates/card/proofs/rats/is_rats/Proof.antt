@@ -1,12 +1,10 @@
 -- `card::rats::is_rats` meets its contract: RATS has 36 bits and an FSDI below 16. Assumes nothing.
 use mathlib.Core.Path.{_≡_, sym, ap, _∙_}
-use Prim.Native.Nat.{_%_}
 use native.Mathlib.Omega.{arith}
 use denote.Ref.{now}
 use borrow.Author.Needs.{needs}
 use Rattle.rows.specs.Rows.{same}
 use Rattle.selection.specs.Selection.{rats}
-use Rattle.card.specs.Card.{fsdi}
 use Rattle.card.specs.RatsLaws.{not-rats, not-fsdi}
 use Rattle.card.proofs.rats.is_rats.Statement.{statement}
 use Rattle.card.proofs.rats.is_rats.Tie as tie
@@ -35,8 +33,7 @@ is-same-requires c κs = search needs
 returns-3 : tie.Need-returns-3
 returns-3 c =
     let f = now (c .before .before .before .before .before .before .before .args .row) in
-    let e : c .before .before .before .before .fsdi .result % 16 ≡ fsdi f = omega (arith, c .before .before .before .before .fsdi .ensures) in
-    c .is-same .ensures ∙ ap (same f) (c .before .before .rats .ensures ∙ ap rats e)
+    c .is-same .ensures ∙ ap (same f) (c .before .before .rats .ensures ∙ ap rats (c .before .before .before .before .fsdi .ensures))
 
 pub is-rats-spec : {M : Type 1} → statement M
 is-rats-spec =

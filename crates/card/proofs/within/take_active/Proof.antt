@@ -6,6 +6,7 @@ use borrow.Author.Tests.{not-true, not-false}
 use denote.Ref.{now}
 use borrow.Author.Needs.{needs}
 use Rattle.selection.specs.Selection.{ats, atMost8}
+use Rattle.selection.specs.SizeLaws.{index-most}
 use Rattle.card.specs.declared.CardState.the-variants.{Protocol}
 use Rattle.card.specs.RatsLaws.{rats-is}
 use Rattle.card.specs.RulesLaws.{active-step}
@@ -56,7 +57,7 @@ at-most-8-requires-2 : tie.Need-at-most-8-requires-2
 at-most-8-requires-2 c κs = search needs
 
 ats-requires : tie.Need-ats-requires
-ats-requires c κs = search needs
+ats-requires c κs = omega (arith, c .at-most-82 .ensures, index-most (c .before .before .before .before .before .before .before .before .before .before .before .before .before .args .c .index))
 
 slice-aggregate-send : tie.Need-slice-aggregate-send
 slice-aggregate-send c = search needs

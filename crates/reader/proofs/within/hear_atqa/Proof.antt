@@ -41,12 +41,12 @@ returns-2 : tie.Need-returns-2
 returns-2 c =
     let a = c .before .before .before .before .before .before .before .before .args in
     c .opens .ensures ∙ ap (opens One (a .r .sweeps)) (c .before .no-uid .ensures)
-    ∙ sym (atqa-at (a .r) (now (a .row)) _ (sym (c .before .before .before .before .before .before .is-over .ensures) ∙ c .before .before .before .before .before .if1 .left) (sym (c .before .before .before .before .read-atqa .ensures) ∙ c .before .before .enum-told .given .1))
+    ∙ sym (atqa-at (a .r) (now (a .row)) _ (sym (c .before .before .before .before .before .before .is-over .ensures) ∙ c .before .before .before .before .before .if1 .left) (sym (c .before .before .before .before .read-atqa .ensures .0) ∙ c .before .before .enum-told .given .1))
 
 returns-3 : tie.Need-returns-3
 returns-3 c =
     let a = c .before .before .before .before .before .before .before .before .args in
-    c .stop .ensures ∙ sym (atqa-at (a .r) (now (a .row)) _ (sym (c .before .before .before .before .before .before .is-over .ensures) ∙ c .before .before .before .before .before .if1 .left) (sym (c .before .before .before .before .read-atqa .ensures) ∙ c .before .before .a .given .1))
+    c .stop .ensures ∙ sym (atqa-at (a .r) (now (a .row)) _ (sym (c .before .before .before .before .before .before .is-over .ensures) ∙ c .before .before .before .before .before .if1 .left) (sym (c .before .before .before .before .read-atqa .ensures .0) ∙ c .before .before .a .given .1))
 
 pub hear-atqa-spec : {M : Type 1} → statement M
 hear-atqa-spec =

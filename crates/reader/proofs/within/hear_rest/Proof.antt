@@ -34,13 +34,13 @@ stop-requires : tie.Need-stop-requires
 stop-requires c κs = search needs
 
 returns : tie.Need-returns
-returns c = let a = c .before .before .before .before .before .before .before .args in c .sends .ensures ∙ ap sends (c .before .knows .ensures) ∙ sym (rest-at (a .l) (a .r) (now (a .row)) _ _ (c .before .before .before .before .read-rest .ensures) (c .before .before .enum-told .given .1))
+returns c = let a = c .before .before .before .before .before .before .before .args in c .sends .ensures ∙ ap sends (c .before .knows .ensures) ∙ sym (rest-at (a .l) (a .r) (now (a .row)) _ _ (c .before .before .before .before .read-rest .ensures .0) (c .before .before .enum-told .given .1))
 
 returns-2 : tie.Need-returns-2
-returns-2 c = let a = c .before .before .before .before .before .before .before .args in c .sends2 .ensures ∙ ap sends (c .before .knows2 .ensures) ∙ sym (rest-at (a .l) (a .r) (now (a .row)) _ _ (c .before .before .before .before .read-rest .ensures) (c .before .before .enum-told2 .given .1))
+returns-2 c = let a = c .before .before .before .before .before .before .before .args in c .sends2 .ensures ∙ ap sends (c .before .knows2 .ensures) ∙ sym (rest-at (a .l) (a .r) (now (a .row)) _ _ (c .before .before .before .before .read-rest .ensures .0) (c .before .before .enum-told2 .given .1))
 
 returns-3 : tie.Need-returns-3
-returns-3 c = let a = c .before .before .before .before .before .before .before .args in c .stop .ensures ∙ sym (rest-at (a .l) (a .r) (now (a .row)) _ _ (c .before .before .before .before .read-rest .ensures) (c .before .before .says .given .1))
+returns-3 c = let a = c .before .before .before .before .before .before .before .args in c .stop .ensures ∙ sym (rest-at (a .l) (a .r) (now (a .row)) _ _ (c .before .before .before .before .read-rest .ensures .0) (c .before .before .says .given .1))
 
 pub hear-rest-spec : {M : Type 1} → statement M
 hear-rest-spec =

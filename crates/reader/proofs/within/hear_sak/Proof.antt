@@ -30,16 +30,16 @@ returns : tie.Need-returns
 returns c =
     let a = c .before .before .before .before .before .before .before .args in
     c .more-levels .ensures ∙ more-any (a .l) (a .r) 0 _ ∙ ap (afterSak (a .l) (a .r) _) (sym (eq-eqb _ _ (c .before .if1 .taken)))
-    ∙ sym (sak-at (a .l) (a .r) (now (a .row)) _ (sym (c .before .before .before .before .before .read-sak .ensures) ∙ c .before .before .before .a .given .1))
+    ∙ sym (sak-at (a .l) (a .r) (now (a .row)) _ (sym (c .before .before .before .before .before .read-sak .ensures .0) ∙ c .before .before .before .a .given .1))
 
 returns-2 : tie.Need-returns-2
 returns-2 c =
     let a = c .before .before .before .before .before .before .before .args in
     c .last-level .ensures ∙ ap (afterSak (a .l) (a .r) _) (sym (ne-eqb _ _ (c .before .if1 .left)))
-    ∙ sym (sak-at (a .l) (a .r) (now (a .row)) _ (sym (c .before .before .before .before .before .read-sak .ensures) ∙ c .before .before .before .a .given .1))
+    ∙ sym (sak-at (a .l) (a .r) (now (a .row)) _ (sym (c .before .before .before .before .before .read-sak .ensures .0) ∙ c .before .before .before .a .given .1))
 
 returns-3 : tie.Need-returns-3
-returns-3 c = let a = c .before .before .before .before .before .before .args in c .stop .ensures ∙ sym (sak-at (a .l) (a .r) (now (a .row)) _ (sym (c .before .before .before .before .read-sak .ensures) ∙ c .before .before .a2 .given .1))
+returns-3 c = let a = c .before .before .before .before .before .before .args in c .stop .ensures ∙ sym (sak-at (a .l) (a .r) (now (a .row)) _ (sym (c .before .before .before .before .read-sak .ensures .0) ∙ c .before .before .a2 .given .1))
 
 pub hear-sak-spec : {M : Type 1} → statement M
 hear-sak-spec =
