@@ -4,15 +4,12 @@ use mathlib.Core.Bool.{Bool}
 use mathlib.Core.List.{List}
 use lib.ListN.{take, drop}
 use lib.Dec.{leb, ltb}
+use Rattle.limits.specs.Limits.{messageMax}
 use Rattle.selection.specs.Selection.{size}
 
 -- "Payload is at most size - 3": so much goes to a receiver of size index i
 unfoldable pub payloadMax : ℕ → ℕ
 payloadMax i = size i - 3
-
--- "A message has 0 to 4,096 bytes"
-abbrev pub messageMax : ℕ
-messageMax = 4096
 
 -- A message of len bytes goes to a receiver of size index i. More follows the I that begins at place at:
 unfoldable pub follows : ℕ → ℕ → ℕ → Bool

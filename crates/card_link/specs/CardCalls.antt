@@ -12,6 +12,7 @@ use mathlib.Core.Bool.{Bool, true, false, cond, not}
 use mathlib.Core.List.{List, []}
 use lib.ListN.{length}
 use lib.Dec.{ltb}
+use Rattle.limits.specs.Limits.{rowRoom}
 use Rattle.refusal.specs.declared.Refusal.{Refusal}
 use Rattle.refusal.specs.declared.Refusal.the-variants.{Room, NotDue}
 use Rattle.card.specs.Card.{takes, answers, withState, powerOn, powerOff}
@@ -27,10 +28,6 @@ use Rattle.card_link.specs.declared.LinkCard.{LinkCard}
 use Rattle.card_link.specs.declared.CardTurn.{CardTurn}
 use Rattle.card_blocks.specs.CardRules.{cardOpen, owes}
 use Rattle.card_blocks.specs.CardFrames.{cardBlock, cardReply, cardWtx}
-
--- Each call that writes a row asks for room for the longest frame, 256 bytes with parity, whatever is heard
-abbrev pub rowRoom : ℕ
-rowRoom = 2304
 
 -- no link: a card outside Protocol carries nothing of an earlier one
 abbrev pub noLink : CardLink
@@ -95,7 +92,7 @@ owing x = owesIn (x .card .state) (x .link)
 abbrev pub declined : LinkCard → List ℕ → Refusal → Out LinkCard
 declined x buffer e = record { link = x; sent = []; told = Refused e; buffer = buffer }
 
--- 11 and 1 around what is due
+-- 11 and 1 around what is due. Each call that writes a row asks for room for the longest frame, whatever is heard
 unfoldable pub called : Bool → LinkCard → List ℕ → ℕ → Out LinkCard → Out LinkCard
 called due x buffer room o = cond (not due) (declined x buffer NotDue) (cond (ltb room rowRoom) (declined x buffer Room) o)
 

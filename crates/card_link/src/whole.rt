@@ -4,6 +4,7 @@ ghost use mathlib.Core.Bool.{cond};
 ghost use mathlib.Core.List.{[]};
 ghost use Prim.Native.Nat.{_≤_};
 ghost use lib.ListN.{length};
+ghost use Rattle.limits.specs.Limits.{rowRoom};
 ghost use Rattle.rows.specs.Rows.{overlay};
 ghost use Rattle.frame.specs.Calls.{goodBytes};
 ghost use Rattle.block.specs.Block.{behind};
@@ -158,7 +159,7 @@ fn hear_row(c: CardLink, row: &[u8], answer: &[u8], buffer: &mut [u8]) -> CardSt
 
 // A step of the link handed back, and its block at the front of the lent row.
 fn finish(card: Card, step: CardStep, answer: &[u8], out: &mut [u8]) -> CardTurn
-    requires { ⌜ 2304 ≤ length (now out) ⌝ }
+    requires { ⌜ rowRoom ≤ length (now out) ⌝ }
     ensures { λ r. ⌜ r ≡ turnOf (withRow card (cardOut step (now (answer .entry)) [] 0 [])) ⌝ }
     ensures { λ _. ⌜ now (out .exit) ≡ overlay (now (out .entry)) 0 (withRow card (cardOut step (now (answer .entry)) [] 0 []) .sent) ⌝ }
 {
@@ -176,7 +177,7 @@ fn finish(card: Card, step: CardStep, answer: &[u8], out: &mut [u8]) -> CardTurn
 
 // A frame outside Protocol.
 fn take_outside(x: LinkCard, row: &[u8], out: &mut [u8]) -> CardTurn
-    requires { ⌜ 2304 ≤ length (now out) ⌝ }
+    requires { ⌜ rowRoom ≤ length (now out) ⌝ }
     ensures { λ r. ⌜ r ≡ turnOf (takesOutside x (now (row .entry)) []) ⌝ }
     ensures { λ _. ⌜ now (out .exit) ≡ overlay (now (out .entry)) 0 (takesOutside x (now (row .entry)) [] .sent) ⌝ }
 {
@@ -201,7 +202,7 @@ fn take_inside(
     buffer: &mut [u8],
     out: &mut [u8],
 ) -> CardTurn
-    requires { ⌜ 2304 ≤ length (now out) ⌝ }
+    requires { ⌜ rowRoom ≤ length (now out) ⌝ }
     ensures { λ r. ⌜ r ≡ turnOf (takesInside x (now (row .entry)) (now (answer .entry)) (now (buffer .entry))) ⌝ }
     ensures { λ _. ⌜ now (buffer .exit) ≡ takesInside x (now (row .entry)) (now (answer .entry)) (now (buffer .entry)) .buffer ⌝ }
     ensures { λ _. ⌜ now (out .exit) ≡ overlay (now (out .entry)) 0 (takesInside x (now (row .entry)) (now (answer .entry)) (now (buffer .entry)) .sent) ⌝ }
@@ -214,7 +215,7 @@ fn take_inside(
 
 // A frame that a card takes, by its state.
 fn take_due(x: LinkCard, row: &[u8], answer: &[u8], buffer: &mut [u8], out: &mut [u8]) -> CardTurn
-    requires { ⌜ 2304 ≤ length (now out) ⌝ }
+    requires { ⌜ rowRoom ≤ length (now out) ⌝ }
     ensures { λ r. ⌜ r ≡ turnOf (takesIn (x .card .state) x (now (row .entry)) (now (answer .entry)) (now (buffer .entry))) ⌝ }
     ensures { λ _. ⌜ now (buffer .exit) ≡ takesIn (x .card .state) x (now (row .entry)) (now (answer .entry)) (now (buffer .entry)) .buffer ⌝ }
     ensures { λ _. ⌜ now (out .exit) ≡ overlay (now (out .entry)) 0 (takesIn (x .card .state) x (now (row .entry)) (now (answer .entry)) (now (buffer .entry)) .sent) ⌝ }
@@ -241,7 +242,7 @@ pub fn take(x: LinkCard, row: &[u8], answer: &[u8], buffer: &mut [u8], out: &mut
     if is_owing(x) {
         return declines(x, Refusal::NotDue);
     }
-    if out.len() < 2304 {
+    if out.len() < limits::ROW_ROOM {
         return declines(x, Refusal::Room);
     }
     take_due(x, row, answer, buffer, out)
@@ -255,7 +256,7 @@ pub fn reply(x: LinkCard, answer: &[u8], out: &mut [u8]) -> CardTurn
     if !is_owing(x) {
         return declines(x, Refusal::NotDue);
     }
-    if out.len() < 2304 {
+    if out.len() < limits::ROW_ROOM {
         return declines(x, Refusal::Room);
     }
     let card = x.card;
@@ -272,7 +273,7 @@ pub fn ask(x: LinkCard, wtx: u8, out: &mut [u8]) -> CardTurn
     if !is_owing(x) {
         return declines(x, Refusal::NotDue);
     }
-    if out.len() < 2304 {
+    if out.len() < limits::ROW_ROOM {
         return declines(x, Refusal::Room);
     }
     let card = x.card;

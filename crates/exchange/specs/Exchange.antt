@@ -1,5 +1,5 @@
 -- Both ends joined over a channel: one message of the reader's host and the answer of the card's host.
-use Prim.Native.Nat.{ℕ, _+_, _≤_, _<_}
+use Prim.Native.Nat.{ℕ, _+_, _<_}
 use mathlib.Core.Path.{_≡_}
 use mathlib.Core.Bool.{Bool, true, false, cond, not}
 use mathlib.Core.List.{List, [], _∷_, _++_}
@@ -160,7 +160,6 @@ pub record Between (i j : ℕ) (e : Ends) : Type 0 where
   pub own : e .card .own ≡ j
   pub other : e .card .reader ≡ i
   pub last : Fine (e .card .last)
-  pub lent : e .card .at ≤ length (e .lent)
 
 -- the run r brings the message m, once and whole, to the card's host, and the answer a to the reader's, whose buffer was u; and the ends
 -- are ready for the next message

@@ -21,7 +21,8 @@ use Rattle.reader_blocks.specs.declared.Turn.the-variants.{Sending, Awaiting, J
 use Rattle.rows.specs.Rows.{overlay}
 use Rattle.rows.specs.RowLaws.{overlay-nil, overlay-next, overlay-front, length-overlay}
 use Rattle.frame.specs.Frame.{Good}
-use Rattle.block.specs.Cut.{payloadMax, follows, part, fewest, messageMax}
+use Rattle.limits.specs.Limits.{messageMax}
+use Rattle.block.specs.Cut.{payloadMax, follows, part, fewest}
 use Rattle.block.specs.Out.{Out}
 use Rattle.block.specs.Block.{kind, verdict, heardBlock, blockBytes}
 use Rattle.block.specs.CutLaws.{fewest-last, fewest-next, fewest-some, fewest-most, part-full, part-fits, part-rest, part-in, take-part}
@@ -110,12 +111,12 @@ owes-none false = refl
 
 module _ (i j : ℕ) (m a d u : List ℕ) (ha : length a ≤ messageMax) (hu : length a ≤ length u) where
   -- the card's last I is on its way to the reader
-  up-last : (k g at ra : ℕ) (n : Bool) (t : Turn) → follows i at (length a) ≡ false → fewest i (length a - at) ≡ suc k → at ≤ length a → ra ≤ length m → lastIsOut t ≡ true
+  up-last : (k g at ra : ℕ) (n : Bool) (t : Turn) → follows i at (length a) ≡ false → fewest i (length a - at) ≡ suc k → at ≤ length a → lastIsOut t ≡ true
       → (r : Out ReaderLink) → readerBlock (reader i j n t ra at 0 0) (verdict i (blockBytes (I n false) (part i at a))) m (overlay u 0 (take at a)) ≡ r
       → Rest i j a [] d (overlay u 0 a) 0 k
       (exchange m a (replicate g clean) (record { reader = r .link; card = card j i n Receiving (I n false) 0 at; down = d; up = r .buffer; lent = a }) (r .told) (r .sent))
   unfolding follows countI
-  up-last k g at ra n t eb ek h hr et r er =
+  up-last k g at ra n t eb ek h et r er =
       let p : List ℕ = part i at a in
       let u₁ : List ℕ = overlay u 0 (take at a) in
       let l : length a ≤ at + payloadMax i = ltb-false (at + payloadMax i) (length a) eb in
@@ -123,7 +124,7 @@ module _ (i j : ℕ) (m a d u : List ℕ) (ha : length a ≤ messageMax) (hu : l
       let one : suc k ≡ 1 = sym ek ∙ fewest-last i (length a - at) (omega arith) in
       let len : length u₁ ≡ length u = length-overlay u 0 (take at a) (omega (arith, length-take-le at a h)) in
       let e : r ≡ record { link = readerOpen i j (not n); sent = []; told = Message (at + length p); buffer = overlay u₁ at p } =
-      sym er ∙ reader-last i j ra at 0 0 p m u₁ hr (part-fits i at a) (omega arith) (omega arith) t n et in
+      sym er ∙ reader-last i j ra at 0 0 p m u₁ (part-fits i at a) (omega arith) (omega arith) t n et in
       rw (e, exchange-over m a (replicate g clean) (record { reader = readerOpen i j (not n); card = card j i n Receiving (I n false) 0 at; down = d; up = overlay u₁ at p; lent = a }) (Message (at + length p)) [] refl)
       (record {
         got-is = refl;
@@ -133,21 +134,21 @@ module _ (i j : ℕ) (m a d u : List ℕ) (ha : length a ≤ messageMax) (hu : l
         downs-are = refl;
         ups-are = omega arith;
         lent-is = refl;
-        between-is = record { reader = refl; number = sym (Bool·not-not n); phase = refl; joined = refl; own = refl; other = refl; last = tt; lent = h };
+        between-is = record { reader = refl; number = sym (Bool·not-not n); phase = refl; joined = refl; own = refl; other = refl; last = tt };
       })
 
   -- the card's I of place at is on its way to the reader; k more follow it
-  up-run : (k g at ra : ℕ) (n : Bool) (t : Turn) (b : Bool) → follows i at (length a) ≡ b → fewest i (length a - at) ≡ suc k → k ≤ g → at ≤ length a → ra ≤ length m → lastIsOut t ≡ true
+  up-run : (k g at ra : ℕ) (n : Bool) (t : Turn) (b : Bool) → follows i at (length a) ≡ b → fewest i (length a - at) ≡ suc k → k ≤ g → at ≤ length a → lastIsOut t ≡ true
       → (r : Out ReaderLink) → readerBlock (reader i j n t ra at 0 0) (verdict i (blockBytes (I n b) (part i at a))) m (overlay u 0 (take at a)) ≡ r
       → Rest i j a [] d (overlay u 0 a) 0 k
       (exchange m a (replicate g clean) (record { reader = r .link; card = card j i n (cond b Answering Receiving) (I n b) 0 at; down = d; up = r .buffer; lent = a }) (r .told) (r .sent))
   unfolding follows
-  up-run zero g at ra n t false eb ek hk h hr et r er = up-last zero g at ra n t eb ek h hr et r er
-  up-run (suc k) g at ra n t false eb ek hk h hr et r er = up-last (suc k) g at ra n t eb ek h hr et r er
-  up-run zero g at ra n t true eb ek hk h hr et r er =
+  up-run zero g at ra n t false eb ek hk h et r er = up-last zero g at ra n t eb ek h et r er
+  up-run (suc k) g at ra n t false eb ek hk h et r er = up-last (suc k) g at ra n t eb ek h et r er
+  up-run zero g at ra n t true eb ek hk h et r er =
       absurd (omega (arith, fewest-next i (length a - at) (omega (arith, ltb-true (at + payloadMax i) (length a) eb)), fewest-some i (length a - at - payloadMax i)))
-  up-run (suc k) zero at ra n t true eb ek hk h hr et r er = absurd (omega arith)
-  up-run (suc k) (suc g) at ra n t true eb ek hk h hr et r er =
+  up-run (suc k) zero at ra n t true eb ek hk h et r er = absurd (omega arith)
+  up-run (suc k) (suc g) at ra n t true eb ek hk h et r er =
       let p : List ℕ = part i at a in
       let u₁ : List ℕ = overlay u 0 (take at a) in
       let at′ : ℕ = at + payloadMax i in
@@ -158,22 +159,22 @@ module _ (i j : ℕ) (m a d u : List ℕ) (ha : length a ≤ messageMax) (hu : l
       let left : length a - at - payloadMax i ≡ length a - at′ = omega arith in
       let next : fewest i (length a - at) ≡ suc (fewest i (length a - at′)) = rw left at (fewest-next i (length a - at) (omega arith)) in
       let e : r ≡ record { link = reader i j (not n) Joining 0 at′ 0 0; sent = blockBytes (Ack (not n)) []; told = Quiet; buffer = overlay u 0 (take at′ a) } =
-      rw (full, joined-next i at a u h (omega (arith, part-in i at a h))) at (sym er ∙ reader-chained i j ra at 0 0 p m u₁ hr (part-fits i at a) (omega arith) (omega arith) t n et) in
+      rw (full, joined-next i at a u h (omega (arith, part-in i at a h))) at (sym er ∙ reader-chained i j ra at 0 0 p m u₁ (part-fits i at a) (omega arith) (omega arith) t n et) in
       let c : Out CardLink = record { link = card j i (not n) (cond b′ Answering Receiving) (I (not n) b′) 0 at′; sent = blockBytes (I (not n) b′) (part i at′ a); told = Quiet; buffer = d } in
       let s : Ends = record { reader = reader i j (not n) Joining 0 at′ 0 0; card = card j i n Answering (I n true) 0 at; down = d; up = overlay u 0 (take at′ a); lent = a } in
       let r′ : Out ReaderLink = readerBlock (s .reader) (verdict i (c .sent)) m (s .up) in
       rw e (rw (is-ack (not n), is-i (not n) b′ (part i at′ a), zero-add, one-add) at
-      (tick m a s (blockBytes (Ack (not n)) []) c c a r′ (card-acked j i (I n true) 0 at n a d h) (rw (owes-none b′) refl) refl i j (replicate g clean) [] d (overlay u 0 a) 0 k
-      (up-run k g at′ 0 (not n) Joining b′ refl (omega arith) (omega arith) (omega arith) (omega arith) refl r′ refl)))
+      (tick m a s (blockBytes (Ack (not n)) []) c c a r′ (card-acked j i (I n true) 0 at n a d (omega arith) ha) (rw (owes-none b′) refl) refl i j (replicate g clean) [] d (overlay u 0 a) 0 k
+      (up-run k g at′ 0 (not n) Joining b′ refl (omega arith) (omega arith) (omega arith) refl r′ refl)))
 
 module _ (i j : ℕ) (m a d u lent : List ℕ) (hm : length m ≤ messageMax) (hd : length m ≤ length d) (ha : length a ≤ messageMax) (hu : length a ≤ length u) where
   -- the reader's last I is on its way to the card, and with it the answer begins
-  down-last : (k g at ca : ℕ) (n c : Bool) (last : Block) → c ≡ not n → follows j at (length m) ≡ false → fewest j (length m - at) ≡ suc k → k + fewest i (length a) ≤ suc g → at ≤ length m → ca ≤ length lent
+  down-last : (k g at ca : ℕ) (n c : Bool) (last : Block) → c ≡ not n → follows j at (length m) ≡ false → fewest j (length m - at) ≡ suc k → k + fewest i (length a) ≤ suc g → at ≤ length m
       → Rest i j a (m ∷ []) (overlay d 0 m) (overlay u 0 a) (suc k) (fewest i (length a))
       (exchange m a (replicate (suc g) clean) (record { reader = reader i j n Awaiting at 0 0 0; card = card j i c Receiving last at ca; down = overlay d 0 (take at m); up = u; lent = lent })
       Quiet (blockBytes (I n false) (part j at m)))
   unfolding follows
-  down-last k g at ca n c last ec eb ek hg h hl =
+  down-last k g at ca n c last ec eb ek hg h =
       let p : List ℕ = part j at m in
       let d₁ : List ℕ = overlay d 0 (take at m) in
       let b′ : Bool = follows i 0 (length a) in
@@ -184,28 +185,28 @@ module _ (i j : ℕ) (m a d u lent : List ℕ) (hm : length m ≤ messageMax) (h
       let len : length d₁ ≡ length d = length-overlay d 0 (take at m) (omega (arith, length-take-le at m h)) in
       let c₁ : Out CardLink = record { link = card j i n Owing Nothing 0 0; sent = []; told = Message (length m); buffer = overlay d 0 m } in
       let e₁ : cardBlock (card j i c Receiving last at ca) (verdict j (blockBytes (I n false) p)) lent d₁ ≡ c₁ =
-      rw ec (rw (full, joined-all j at m d h (omega (arith, part-in j at m h)) l) at (card-last j i last ca at p lent d₁ hl (part-fits j at m) (omega arith) (omega arith) n)) in
+      rw ec (rw (full, joined-all j at m d h (omega (arith, part-in j at m h)) l) at (card-last j i last ca at p lent d₁ (part-fits j at m) (omega arith) (omega arith) n)) in
       let h₁ : Out CardLink = record { link = card j i n (cond b′ Answering Receiving) (I n b′) 0 0; sent = blockBytes (I n b′) (part i 0 a); told = Quiet; buffer = overlay d 0 m } in
       let s : Ends = record { reader = reader i j n Awaiting at 0 0 0; card = card j i c Receiving last at ca; down = d₁; up = u; lent = lent } in
       let r : Out ReaderLink = readerBlock (s .reader) (verdict i (h₁ .sent)) m u in
       let some : suc ka ≡ fewest i (length a) = omega (arith, fewest-some i (length a)) in
       rw one (rw (is-i n false p, is-i n b′ (part i 0 a), one-add ka, some, overlay-front d m) at
       (tick m a s (blockBytes (I n false) p) c₁ h₁ a r e₁ (ap (λ o. (o, a)) (card-reply j i Nothing 0 0 n a (overlay d 0 m) ha)) refl i j (replicate g clean) [] (overlay d 0 m) (overlay u 0 a) 0 ka
-      (up-run i j m a (overlay d 0 m) u ha hu ka g 0 at n Awaiting b′ refl (rw sub-zero (sym some)) (omega arith) (omega arith) h refl r (rw (overlay-nil u 0) refl))))
+      (up-run i j m a (overlay d 0 m) u ha hu ka g 0 at n Awaiting b′ refl (rw sub-zero (sym some)) (omega arith) (omega arith) refl r (rw (overlay-nil u 0) refl))))
 
   -- the reader's I of place at is on its way to the card; k more follow it
-  down-run : (k g at ca : ℕ) (n c : Bool) (last : Block) (b : Bool) → c ≡ not n → follows j at (length m) ≡ b → fewest j (length m - at) ≡ suc k → k + fewest i (length a) ≤ g → at ≤ length m → ca ≤ length lent
+  down-run : (k g at ca : ℕ) (n c : Bool) (last : Block) (b : Bool) → c ≡ not n → follows j at (length m) ≡ b → fewest j (length m - at) ≡ suc k → k + fewest i (length a) ≤ g → at ≤ length m
       → Rest i j a (m ∷ []) (overlay d 0 m) (overlay u 0 a) (suc k) (fewest i (length a))
       (exchange m a (replicate g clean) (record { reader = reader i j n (cond b Sending Awaiting) at 0 0 0; card = card j i c Receiving last at ca; down = overlay d 0 (take at m); up = u; lent = lent })
       Quiet (blockBytes (I n b) (part j at m)))
   unfolding follows
-  down-run zero zero at ca n c last b ec eb ek hg h hl = absurd (omega (arith, fewest-some i (length a)))
-  down-run (suc k) zero at ca n c last b ec eb ek hg h hl = absurd (omega arith)
-  down-run zero (suc g) at ca n c last false ec eb ek hg h hl = down-last zero g at ca n c last ec eb ek hg h hl
-  down-run (suc k) (suc g) at ca n c last false ec eb ek hg h hl = down-last (suc k) g at ca n c last ec eb ek hg h hl
-  down-run zero (suc g) at ca n c last true ec eb ek hg h hl =
+  down-run zero zero at ca n c last b ec eb ek hg h = absurd (omega (arith, fewest-some i (length a)))
+  down-run (suc k) zero at ca n c last b ec eb ek hg h = absurd (omega arith)
+  down-run zero (suc g) at ca n c last false ec eb ek hg h = down-last zero g at ca n c last ec eb ek hg h
+  down-run (suc k) (suc g) at ca n c last false ec eb ek hg h = down-last (suc k) g at ca n c last ec eb ek hg h
+  down-run zero (suc g) at ca n c last true ec eb ek hg h =
       absurd (omega (arith, fewest-next j (length m - at) (omega (arith, ltb-true (at + payloadMax j) (length m) eb)), fewest-some j (length m - at - payloadMax j)))
-  down-run (suc k) (suc g) at ca n c last true ec eb ek hg h hl =
+  down-run (suc k) (suc g) at ca n c last true ec eb ek hg h =
       let p : List ℕ = part j at m in
       let d₁ : List ℕ = overlay d 0 (take at m) in
       let at′ : ℕ = at + payloadMax j in
@@ -217,12 +218,12 @@ module _ (i j : ℕ) (m a d u lent : List ℕ) (hm : length m ≤ messageMax) (h
       let next : fewest j (length m - at) ≡ suc (fewest j (length m - at′)) = rw left at (fewest-next j (length m - at) (omega arith)) in
       let c₁ : Out CardLink = record { link = card j i n Receiving (Ack n) at′ 0; sent = blockBytes (Ack n) []; told = Quiet; buffer = overlay d 0 (take at′ m) } in
       let e₁ : cardBlock (card j i c Receiving last at ca) (verdict j (blockBytes (I n true) p)) lent d₁ ≡ c₁ =
-      rw ec (rw (full, joined-next j at m d h (omega (arith, part-in j at m h))) at (card-chained j i last ca at p lent d₁ hl (part-fits j at m) (omega arith) (omega arith) n)) in
+      rw ec (rw (full, joined-next j at m d h (omega (arith, part-in j at m h))) at (card-chained j i last ca at p lent d₁ (part-fits j at m) (omega arith) (omega arith) n)) in
       let s : Ends = record { reader = reader i j n Sending at 0 0 0; card = card j i c Receiving last at ca; down = d₁; up = u; lent = lent } in
       let r : Out ReaderLink = record { link = reader i j (not n) (cond b′ Sending Awaiting) at′ 0 0 0; sent = blockBytes (I (not n) b′) (part j at′ m); told = Quiet; buffer = u } in
       rw (is-i n true p, is-ack n, one-add, zero-add) at
-      (tick m a s (blockBytes (I n true) p) c₁ c₁ lent r e₁ refl (reader-acked i j at 0 0 n m u h) i j (replicate g clean) (m ∷ []) (overlay d 0 m) (overlay u 0 a) (suc k) (fewest i (length a))
-      (down-run k g at′ 0 (not n) n (Ack n) b′ (sym (Bool·not-not n)) refl (omega arith) (omega arith) (omega arith) (omega arith)))
+      (tick m a s (blockBytes (I n true) p) c₁ c₁ lent r e₁ refl (reader-acked i j at 0 0 n m u (omega arith) hm) i j (replicate g clean) (m ∷ []) (overlay d 0 m) (overlay u 0 a) (suc k) (fewest i (length a))
+      (down-run k g at′ 0 (not n) n (Ack n) b′ (sym (Bool·not-not n)) refl (omega arith) (omega arith) (omega arith)))
 
 module _ (i j : ℕ) (m a : List ℕ) (e : Ends) (hm : length m ≤ messageMax) (ha : length a ≤ messageMax) (hd : length m ≤ length (e .down)) (hu : length a ≤ length (e .up)) (b : Between i j e) where
   -- the same from a state between messages, in any number of rounds that is enough
@@ -238,7 +239,7 @@ module _ (i j : ℕ) (m a : List ℕ) (e : Ends) (hm : length m ≤ messageMax) 
       λ t. record { own = b .own t; reader = b .other t; number = b .number t; phase = b .phase t; last = e .card .last; joined = b .joined t; at = e .card .at } in
       let x : Rest i j a (m ∷ []) (overlay (e .down) 0 m) (overlay (e .up) 0 a) (fewest j (length m)) (fewest i (length a)) (talk m a (replicate g clean) e) =
       rw (es, ec) (rw (some, overlay-nil (e .down) 0) at (down-run i j m a (e .down) (e .up) (e .lent) hm hd ha hu k g 0 (e .card .at) n (not n) (e .card .last) (follows j 0 (length m))
-      refl refl (rw sub-zero (sym some)) (omega arith) (omega arith) (b .lent))) in
+      refl refl (rw sub-zero (sym some)) (omega arith) (omega arith))) in
       record { answered = record { got = x .got-is; told = x .told-is; up = x .up-is; lent = x .lent-is; between = x .between-is }; down = x .down-is; downs = x .downs-are; ups = x .ups-are }
 
   -- 631 rounds are always enough
@@ -247,4 +248,4 @@ module _ (i j : ℕ) (m a : List ℕ) (e : Ends) (hm : length m ≤ messageMax) 
 
 -- the ends after RATS and ATS are such a state
 pub after-ats : (i j : ℕ) (d u : List ℕ) → Between i j (record { reader = readerOpen i j false; card = cardOpen j i; down = d; up = u; lent = [] })
-after-ats i j d u = record { reader = refl; number = refl; phase = refl; joined = refl; own = refl; other = refl; last = tt; lent = omega arith }
+after-ats i j d u = record { reader = refl; number = refl; phase = refl; joined = refl; own = refl; other = refl; last = tt }

@@ -11,7 +11,8 @@ use Rattle.reader.specs.declared.Answer.{Answer}
 use Rattle.reader.specs.declared.Answer.the-variants.{Sends, Finds, Selects, Finishes, Declines}
 use Rattle.block.specs.declared.Told.{Told}
 use Rattle.block.specs.declared.Told.the-variants.{Quiet, Message, Refused}
-use Rattle.block.specs.Cut.{fewest, messageMax}
+use Rattle.limits.specs.Limits.{messageMax}
+use Rattle.block.specs.Cut.{fewest}
 use Rattle.block.specs.Out.{Out}
 use Rattle.block.specs.Row.{blockRow}
 use Rattle.card_link.specs.declared.LinkCard.{LinkCard}
@@ -99,7 +100,6 @@ pub record RowBetween (i j : ℕ) (e : RowEnds) : Type 0 where
   pub links : Ends
   pub reader : e .reader .link ≡ Linked (links .reader)
   pub card : e .card .link ≡ links .card
-  pub lent : e .lent ≡ links .lent
   pub index : ℕ
   pub protocol : e .card .card .state ≡ Protocol index
   pub between : Between i j links

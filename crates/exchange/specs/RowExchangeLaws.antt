@@ -14,7 +14,8 @@ use Rattle.refusal.specs.declared.Refusal.the-variants.{TooLong, NotDue}
 use Rattle.block.specs.declared.Block.{Block}
 use Rattle.block.specs.declared.Told.{Told}
 use Rattle.block.specs.declared.Told.the-variants.{Quiet, Message, Granted, Deselected, Refused}
-use Rattle.block.specs.Cut.{messageMax, fewest, part}
+use Rattle.limits.specs.Limits.{messageMax, rowRoom}
+use Rattle.block.specs.Cut.{fewest, part}
 use Rattle.block.specs.Block.{verdict, heardBlock, payload, blockBytes}
 use Rattle.block.specs.Out.{Out}
 use Rattle.block.specs.Row.{blockRow}
@@ -22,7 +23,7 @@ use Rattle.card_blocks.specs.declared.CardLink.{CardLink}
 use Rattle.card_blocks.specs.declared.CardStep.{CardStep}
 use Rattle.card_blocks.specs.CardRules.{cardOpen, owes, cardSilent, cardI, cardTakes, cardReplies}
 use Rattle.card_blocks.specs.CardFrames.{cardOut, cardBlock, cardReply}
-use Rattle.card_link.specs.CardCalls.{rowRoom, leftBy, owing, takeCall, replyCall}
+use Rattle.card_link.specs.CardCalls.{leftBy, owing, takeCall, replyCall}
 use Rattle.card_link.specs.CardRowLaws.{take-block, reply-block}
 use Rattle.reader_blocks.specs.declared.ReaderPhase.{ReaderPhase}
 use Rattle.reader_blocks.specs.declared.ReaderPhase.the-variants.{Open, Talking, Leaving, Finished, Stopped}
@@ -321,7 +322,7 @@ module _ (c : Card) (i : ℕ) (s : c .state ≡ Protocol i) (r : Reader) (room :
         ups = refl;
         downBlocks = x .downs;
         upBlocks = x .ups;
-        ready = record { links = y .ends; reader = ap (λ x. x .link) w′; card = refl; lent = refl; index = i; protocol = s; between = z };
+        ready = record { links = y .ends; reader = ap (λ x. x .link) w′; card = refl; index = i; protocol = s; between = z };
         lent = x .answered .lent;
         same-reader = ap (λ x. x .reader) w′ ∙ sym (ap (λ x. x .reader) w);
         same-card = refl;
@@ -335,7 +336,7 @@ row-exchanged i j room m a rounds e h hm ha hl t =
     let b : Between i j k = t .ends .between in
     let l : Ends = record { reader = k .reader; card = k .card; down = e .down; up = e .up; lent = e .lent } in
     let y : Between i j l =
-    record { reader = b .reader; number = b .number; phase = b .phase; joined = b .joined; own = b .own; other = b .other; last = b .last; lent = rw (t .ends .lent) (b .lent) } in
+    record { reader = b .reader; number = b .number; phase = b .phase; joined = b .joined; own = b .own; other = b .other; last = b .last } in
     let w = linked-open (e .reader .reader) (k .reader .phase) (k .reader) (ap (λ z. isOpen (z .phase)) (b .reader)) in
     let x : wide (e .card .card) (e .reader .reader) l ≡ e =
     λ q. record {
@@ -348,13 +349,12 @@ row-exchanged i j room m a rounds e h hm ha hl t =
     rw x at (wide-exchanged (e .card .card) (t .ends .index) (t .ends .protocol) (e .reader .reader) room h m a hm ha i j rounds l (t .message) (t .answer) (t .down) (t .up) (t .enough) y hl)
 
 -- right after RATS and ATS both ends are between messages: a reader of size index i, a card of size index j
-pub after-ats-between : (i j k : ℕ) (e : RowEnds) → e .reader .link ≡ Linked (readerOpen i j false) → e .card .link ≡ cardOpen j i → e .lent ≡ [] → e .card .card .state ≡ Protocol k → RowBetween i j e
-after-ats-between i j k e r c l s =
+pub after-ats-between : (i j k : ℕ) (e : RowEnds) → e .reader .link ≡ Linked (readerOpen i j false) → e .card .link ≡ cardOpen j i → e .card .card .state ≡ Protocol k → RowBetween i j e
+after-ats-between i j k e r c s =
     record {
       links = record { reader = readerOpen i j false; card = cardOpen j i; down = []; up = []; lent = [] };
       reader = r;
       card = c;
-      lent = l;
       index = k;
       protocol = s;
       between = after-ats i j [] [];

@@ -4,6 +4,7 @@ ghost use mathlib.Core.Bool.{true, false, cond};
 ghost use mathlib.Core.List.{[]};
 ghost use Prim.Native.Nat.{_≤_};
 ghost use lib.ListN.{length};
+ghost use Rattle.limits.specs.Limits.{rowRoom};
 ghost use Rattle.rows.specs.Rows.{overlay};
 ghost use Rattle.frame.specs.Calls.{goodBytes};
 ghost use Rattle.selection.specs.Heard.{readAts};
@@ -82,7 +83,7 @@ fn declines(x: LinkReader, e: Refusal) -> LinkTurn
 
 // A turn of a selection handed back, and its frame at the front of the lent row.
 fn select_turn(t: Turn, out: &mut [u8]) -> LinkTurn
-    requires { ⌜ 2304 ≤ length (now out) ⌝ }
+    requires { ⌜ rowRoom ≤ length (now out) ⌝ }
     ensures { λ r. ⌜ r ≡ selecting t [] .turn ⌝ }
     ensures { λ _. ⌜ now (out .exit) ≡ overlay (now (out .entry)) 0 (selecting t [] .sent) ⌝ }
 {
@@ -132,7 +133,7 @@ fn linked(r: Reader, phase: ReaderPhase, l: ReaderLink) -> LinkReader
 
 // A step of the link handed back, and its block at the front of the lent row.
 fn finish(r: Reader, step: ReaderStep, message: &[u8], out: &mut [u8]) -> LinkTurn
-    requires { ⌜ 2304 ≤ length (now out) ⌝ }
+    requires { ⌜ rowRoom ≤ length (now out) ⌝ }
     ensures { λ t. ⌜ t ≡ linking r (readerOut step (now (message .entry)) [] 0 []) .turn ⌝ }
     ensures { λ _. ⌜ now (out .exit) ≡ overlay (now (out .entry)) 0 (linking r (readerOut step (now (message .entry)) [] 0 []) .sent) ⌝ }
 {
@@ -167,7 +168,7 @@ fn hear_block(
     buffer: &mut [u8],
     out: &mut [u8],
 ) -> LinkTurn
-    requires { ⌜ 2304 ≤ length (now out) ⌝ }
+    requires { ⌜ rowRoom ≤ length (now out) ⌝ }
     ensures { λ t. ⌜ t ≡ linking r (readerBlock l (heardRow (l .own) (now (row .entry))) (now (message .entry)) (now (buffer .entry))) .turn ⌝ }
     ensures { λ _. ⌜ now (buffer .exit) ≡ linking r (readerBlock l (heardRow (l .own) (now (row .entry))) (now (message .entry)) (now (buffer .entry))) .buffer ⌝ }
     ensures { λ _. ⌜ now (out .exit) ≡ overlay (now (out .entry)) 0 (linking r (readerBlock l (heardRow (l .own) (now (row .entry))) (now (message .entry)) (now (buffer .entry))) .sent) ⌝ }
@@ -204,7 +205,7 @@ fn hear_ats(r: Reader, own: u8, row: &[u8]) -> LinkTurn
 
 // .. while it selects.
 fn hear_selecting(r: Reader, row: &[u8], out: &mut [u8]) -> LinkTurn
-    requires { ⌜ 2304 ≤ length (now out) ⌝ }
+    requires { ⌜ rowRoom ≤ length (now out) ⌝ }
     ensures { λ t. ⌜ t ≡ selecting (hear r (now (row .entry))) [] .turn ⌝ }
     ensures { λ _. ⌜ now (out .exit) ≡ overlay (now (out .entry)) 0 (selecting (hear r (now (row .entry))) [] .sent) ⌝ }
 {
@@ -220,7 +221,7 @@ fn hear_due(
     buffer: &mut [u8],
     out: &mut [u8],
 ) -> LinkTurn
-    requires { ⌜ 2304 ≤ length (now out) ⌝ }
+    requires { ⌜ rowRoom ≤ length (now out) ⌝ }
     ensures { λ t. ⌜ t ≡ hearsIn (x .link) (x .reader) (now (row .entry)) (now (message .entry)) (now (buffer .entry)) .turn ⌝ }
     ensures { λ _. ⌜ now (buffer .exit) ≡ hearsIn (x .link) (x .reader) (now (row .entry)) (now (message .entry)) (now (buffer .entry)) .buffer ⌝ }
     ensures { λ _. ⌜ now (out .exit) ≡ overlay (now (out .entry)) 0 (hearsIn (x .link) (x .reader) (now (row .entry)) (now (message .entry)) (now (buffer .entry)) .sent) ⌝ }
@@ -279,7 +280,7 @@ pub fn hear(
     if !frame_due(link, r) {
         return declines(x, Refusal::NotDue);
     }
-    if out.len() < 2304 {
+    if out.len() < limits::ROW_ROOM {
         return declines(x, Refusal::Room);
     }
     hear_due(x, row, message, buffer, out)
@@ -305,7 +306,7 @@ fn start(sweeps: bool, x: LinkReader, out: &mut [u8]) -> LinkTurn
     if !is_new(link, r) {
         return declines(x, Refusal::NotDue);
     }
-    if out.len() < 2304 {
+    if out.len() < limits::ROW_ROOM {
         return declines(x, Refusal::Room);
     }
     let t = reader::within::sends(reader::within::blank(Phase::ReqaSent, sweeps));
@@ -374,7 +375,7 @@ pub fn rats(x: LinkReader, index: u8, out: &mut [u8]) -> LinkTurn
     if !rats_due(link, r) {
         return declines(x, Refusal::NotDue);
     }
-    if out.len() < 2304 {
+    if out.len() < limits::ROW_ROOM {
         return declines(x, Refusal::Room);
     }
     if index > 8 {
@@ -406,7 +407,7 @@ fn is_between(link: Link) -> bool
 }
 
 fn send_due(x: LinkReader, message: &[u8], out: &mut [u8]) -> LinkTurn
-    requires { ⌜ 2304 ≤ length (now out) ⌝ }
+    requires { ⌜ rowRoom ≤ length (now out) ⌝ }
     ensures { λ t. ⌜ t ≡ sendIn (x .link) x (now (message .entry)) .turn ⌝ }
     ensures { λ _. ⌜ now (out .exit) ≡ overlay (now (out .entry)) 0 (sendIn (x .link) x (now (message .entry)) .sent) ⌝ }
 {
@@ -431,14 +432,14 @@ pub fn send(x: LinkReader, message: &[u8], out: &mut [u8]) -> LinkTurn
     if !is_between(link) {
         return declines(x, Refusal::NotDue);
     }
-    if out.len() < 2304 {
+    if out.len() < limits::ROW_ROOM {
         return declines(x, Refusal::Room);
     }
     send_due(x, message, out)
 }
 
 fn deselect_due(x: LinkReader, out: &mut [u8]) -> LinkTurn
-    requires { ⌜ 2304 ≤ length (now out) ⌝ }
+    requires { ⌜ rowRoom ≤ length (now out) ⌝ }
     ensures { λ t. ⌜ t ≡ deselectIn (x .link) x .turn ⌝ }
     ensures { λ _. ⌜ now (out .exit) ≡ overlay (now (out .entry)) 0 (deselectIn (x .link) x .sent) ⌝ }
 {
@@ -464,7 +465,7 @@ pub fn deselect(x: LinkReader, out: &mut [u8]) -> LinkTurn
     if !is_between(link) {
         return declines(x, Refusal::NotDue);
     }
-    if out.len() < 2304 {
+    if out.len() < limits::ROW_ROOM {
         return declines(x, Refusal::Room);
     }
     deselect_due(x, out)
