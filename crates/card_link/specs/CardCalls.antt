@@ -6,7 +6,8 @@
 --     reply(x, answer, out)               replyCall x answer (length out)
 --     ask(x, wtx, out)                    askCall x wtx (length out)
 -- the answer is `turnOf o`, buffer at exit `o .buffer` and out at exit `overlay out 0 (o .sent)`. `power_on` and `power_off` have no more
--- than `poweredOn x` and `poweredOff x`. A call tests 11, 1, 6, 10; a refused call sends nothing and changes nothing.
+-- than `poweredOn x` and `poweredOff x`. A call tests 11, 1, 6, 10; a refused call sends nothing and changes nothing. CardSays.antt says the
+-- answers in the table's numbers.
 use Prim.Native.Nat.{ℕ}
 use mathlib.Core.Bool.{Bool, true, false, cond, not}
 use mathlib.Core.List.{List, []}
@@ -17,6 +18,8 @@ use Rattle.refusal.specs.declared.Refusal.{Refusal}
 use Rattle.refusal.specs.declared.Refusal.the-variants.{Room, NotDue}
 use Rattle.card.specs.Card.{takes, answers, withState, powerOn, powerOff}
 use Rattle.card.specs.declared.Card.{Card}
+use Rattle.card.specs.declared.CardAnswer.{CardAnswer}
+use Rattle.card.specs.declared.CardAnswer.the-variants.{Sends, Silent, NotTaken}
 use Rattle.card.specs.declared.CardState.{CardState}
 use Rattle.card.specs.declared.CardState.the-variants.{Off, Idle, Ready, Active, Halt, Protocol}
 use Rattle.block.specs.declared.Told.{Told}
@@ -53,6 +56,12 @@ leftBy (Refused e) c l = record { card = c; link = l }
 -- what comes of a call; sent is a row here
 abbrev pub withRow : Card → Out CardLink → Out LinkCard
 withRow c o = record { link = leftBy (o .told) c (o .link); sent = blockRow (o .sent); told = o .told; buffer = o .buffer }
+
+-- how many air bits an answer of crate card has
+abbrev pub bitsIn : CardAnswer → ℕ
+bitsIn (Sends n) = n
+bitsIn Silent = 0
+bitsIn (NotTaken e) = 0
 
 -- a frame outside Protocol
 unfoldable pub takesOutside : LinkCard → List ℕ → List ℕ → Out LinkCard

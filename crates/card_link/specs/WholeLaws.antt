@@ -13,8 +13,6 @@ use Rattle.refusal.specs.declared.Refusal.the-variants.{Room, NotDue}
 use Rattle.card.specs.Card.{rules, takes, answers}
 use Rattle.card.specs.Calls.{taken, answerOf}
 use Rattle.card.specs.declared.Card.{Card}
-use Rattle.card.specs.declared.CardAnswer.{CardAnswer}
-use Rattle.card.specs.declared.CardAnswer.the-variants.{Sends, Silent, NotTaken}
 use Rattle.card.specs.declared.CardState.{CardState}
 use Rattle.card.specs.declared.Taken.{Taken}
 use Rattle.block.specs.declared.BlockBytes.{BlockBytes}
@@ -30,13 +28,7 @@ use Rattle.card_link.specs.declared.CardTurn.{CardTurn}
 use Rattle.card_link.specs.declared.LinkCard.{LinkCard}
 use Rattle.card_blocks.specs.CardFrames.{cardHears, cardOut, cardBlock}
 use Rattle.card_blocks.specs.CardLaws.{block-bytes}
-use Rattle.card_link.specs.CardCalls.{withRow, linkIn, leftBy, takesOutside, takesInside, takesIn, owing, declined, called, takeCall, turnOf}
-
--- how many air bits an answer has
-abbrev pub bitsIn : CardAnswer → ℕ
-bitsIn (Sends n) = n
-bitsIn Silent = 0
-bitsIn (NotTaken e) = 0
+use Rattle.card_link.specs.CardCalls.{bitsIn, withRow, linkIn, leftBy, takesOutside, takesInside, takesIn, owing, declined, called, takeCall, turnOf}
 
 -- ---- a frame heard and a block sent
 

@@ -9,10 +9,11 @@ ghost use Rattle.rows.specs.Rows.{overlay};
 ghost use Rattle.frame.specs.Calls.{goodBytes};
 ghost use Rattle.block.specs.Block.{behind};
 ghost use Rattle.block.specs.Row.{heardRow};
+ghost use Rattle.block.specs.Says.{toldSays};
 ghost use Rattle.card.specs.Calls.{newCard};
 ghost use Rattle.card_blocks.specs.CardFrames.{cardHears, cardOut};
-ghost use Rattle.card_link.specs.CardCalls.{noLink, linkIn, leftBy, withRow, takesOutside, takesInside, takesIn, owing, declined, takeCall, replyCall, askCall, poweredOn, poweredOff, turnOf};
-ghost use Rattle.card_link.specs.WholeLaws.{bitsIn};
+ghost use Rattle.card_link.specs.CardCalls.{noLink, bitsIn, linkIn, leftBy, withRow, takesOutside, takesInside, takesIn, owing, declined, takeCall, replyCall, askCall, poweredOn, poweredOff, turnOf};
+ghost use Rattle.card_link.specs.CardSays.{madeSays, newSays, takeSays, replySays, askSays};
 use crate::CardTurn;
 use crate::LinkCard;
 use block::Told;
@@ -35,6 +36,7 @@ pub fn new_card(bytes: &[u8], blocks: bool, index: u8) -> NewLinkCard
     ensures { λ r. ⌜ r .card .card ≡ newCard (now (bytes .entry)) blocks index .card ⌝ }
     ensures { λ r. ⌜ r .card .link ≡ noLink ⌝ }
     ensures { λ r. ⌜ r .made ≡ newCard (now (bytes .entry)) blocks index .made ⌝ }
+    ensures { λ r. ⌜ madeSays (r .made) ≡ newSays (now (bytes .entry)) index ⌝ }
 {
     let new = card::new_card(bytes, blocks, index);
     let card = new.card;
@@ -238,6 +240,7 @@ pub fn take(x: LinkCard, row: &[u8], answer: &[u8], buffer: &mut [u8], out: &mut
     ensures { λ r. ⌜ r ≡ turnOf (takeCall x (now (row .entry)) (now (answer .entry)) (now (buffer .entry)) (length (now (out .entry)))) ⌝ }
     ensures { λ _. ⌜ now (buffer .exit) ≡ takeCall x (now (row .entry)) (now (answer .entry)) (now (buffer .entry)) (length (now (out .entry))) .buffer ⌝ }
     ensures { λ _. ⌜ now (out .exit) ≡ overlay (now (out .entry)) 0 (takeCall x (now (row .entry)) (now (answer .entry)) (now (buffer .entry)) (length (now (out .entry))) .sent) ⌝ }
+    ensures { λ r. ⌜ toldSays (r .told) ≡ takeSays x (now (row .entry)) (now (answer .entry)) (now (buffer .entry)) (length (now (out .entry))) ⌝ }
 {
     if is_owing(x) {
         return declines(x, Refusal::NotDue);
@@ -252,6 +255,7 @@ pub fn take(x: LinkCard, row: &[u8], answer: &[u8], buffer: &mut [u8], out: &mut
 pub fn reply(x: LinkCard, answer: &[u8], out: &mut [u8]) -> CardTurn
     ensures { λ r. ⌜ r ≡ turnOf (replyCall x (now (answer .entry)) (length (now (out .entry)))) ⌝ }
     ensures { λ _. ⌜ now (out .exit) ≡ overlay (now (out .entry)) 0 (replyCall x (now (answer .entry)) (length (now (out .entry))) .sent) ⌝ }
+    ensures { λ r. ⌜ toldSays (r .told) ≡ replySays x (now (answer .entry)) (length (now (out .entry))) ⌝ }
 {
     if !is_owing(x) {
         return declines(x, Refusal::NotDue);
@@ -269,6 +273,7 @@ pub fn reply(x: LinkCard, answer: &[u8], out: &mut [u8]) -> CardTurn
 pub fn ask(x: LinkCard, wtx: u8, out: &mut [u8]) -> CardTurn
     ensures { λ r. ⌜ r ≡ turnOf (askCall x wtx (length (now (out .entry)))) ⌝ }
     ensures { λ _. ⌜ now (out .exit) ≡ overlay (now (out .entry)) 0 (askCall x wtx (length (now (out .entry))) .sent) ⌝ }
+    ensures { λ r. ⌜ toldSays (r .told) ≡ askSays x wtx (length (now (out .entry))) ⌝ }
 {
     if !is_owing(x) {
         return declines(x, Refusal::NotDue);

@@ -8,7 +8,7 @@
 --     deselect(x, out)                  deselectCall x (length out)
 --     hear(x, row, message, buffer, out) hearCall x row message buffer (length out)
 -- the answer is `t .turn`, out at exit `overlay out 0 (t .sent)` and, of hear, buffer at exit `t .buffer`. A call tests 11, 1, 6, 10; a
--- refused call sends nothing and changes nothing.
+-- refused call sends nothing and changes nothing. ReaderSays.antt says the answers in the table's numbers.
 use Prim.Native.Nat.{ℕ, _/_, _%_}
 use mathlib.Core.Bool.{Bool, true, false, cond, not, _&&_}
 use mathlib.Core.List.{List, []}
