@@ -15,7 +15,8 @@ use Rattle.block.specs.declared.Block.{Block}
 use Rattle.block.specs.declared.Told.{Told}
 use Rattle.block.specs.declared.Told.the-variants.{Quiet, Message, Granted, Deselected, Refused}
 use Rattle.limits.specs.Limits.{messageMax, rowRoom}
-use Rattle.block.specs.Cut.{fewest, part}
+use Rattle.block.specs.Cut.{fewest, part, cut, lastNumber}
+use Rattle.block.specs.CutBlockLaws.{cut-count}
 use Rattle.block.specs.Block.{verdict, heardBlock, payload, blockBytes}
 use Rattle.block.specs.Out.{Out}
 use Rattle.block.specs.Row.{blockRow}
@@ -36,9 +37,9 @@ use Rattle.reader_blocks.specs.ReaderRules.{readerOpen, readerKeeps, readerI, r
 use Rattle.reader_blocks.specs.ReaderFrames.{readerOut, readerBlock, readerSend}
 use Rattle.reader_link.specs.ReaderCalls.{linked, linking, awaitsBlock, hearCall}
 use Rattle.reader_link.specs.ReaderRowLaws.{hear-block, send-block}
-use Rattle.exchange.specs.Exchange.{Ends, clean, Passed, passes, Run, isQuiet, exchange, talk, Fine, Between, Exchanged}
+use Rattle.exchange.specs.Exchange.{Ends, clean, Passed, passes, Run, isQuiet, exchange, talk, iBlocks, Fine, Between, Exchanged}
 use Rattle.exchange.specs.ExchangeLaws.{passed, exchanged-in, after-ats}
-use Rattle.exchange.specs.RowExchange.{RowEnds, RowPassed, rowPasses, RowRun, rowExchange, rowTalk, RowBetween, Terms, RowExchanged}
+use Rattle.exchange.specs.RowExchange.{RowEnds, RowPassed, rowPasses, RowRun, rowExchange, rowTalk, RowBetween, numberIn, Terms, RowExchanged}
 use Rattle.exchange.specs.FineLaws.{fine-bytes, part-bytes, leaves, FineCard, takes-fine, replies-fine, talks, fine-heard, Goes, FineReader, hears-fine, starts-fine, quiet-talks}
 
 left-stays : (t : Told) (c : Card) (l : CardLink) → leaves t ≡ false → leftBy t c l ≡ record { card = c; link = l }
@@ -310,6 +311,7 @@ module _ (c : Card) (i : ℕ) (s : c .state ≡ Protocol i) (r : Reader) (room :
       let o′ : isOpen (y .ends .reader .phase) ≡ true = ap (λ z. isOpen (z .phase)) (z .reader) in
       let w = linked-open r (e .reader .phase) (e .reader) o in
       let w′ = linked-open r (y .ends .reader .phase) (y .ends .reader) o′ in
+      let number : numberIn (linked r (e .reader .phase) (e .reader) .link) ≡ e .reader .number = ap (λ x. numberIn (x .link)) w in
       rw (row-talk g e o (b .last) hl)
       (record {
         got = x .answered .got;
@@ -320,8 +322,8 @@ module _ (c : Card) (i : ℕ) (s : c .state ≡ Protocol i) (r : Reader) (room :
         upBytes = y .ups;
         downs = refl;
         ups = refl;
-        downBlocks = x .downs;
-        upBlocks = x .ups;
+        downBlocks = x .downs ∙ ap (λ n. cut k n m) (sym number);
+        upBlocks = x .ups ∙ ap (λ n. cut j (lastNumber k n m) a) (sym number);
         ready = record { links = y .ends; reader = ap (λ x. x .link) w′; card = refl; index = i; protocol = s; between = z };
         lent = x .answered .lent;
         same-reader = ap (λ x. x .reader) w′ ∙ sym (ap (λ x. x .reader) w);
@@ -347,6 +349,13 @@ row-exchanged i j room m a rounds e h hm ha hl t =
       lent = e .lent;
     } in
     rw x at (wide-exchanged (e .card .card) (t .ends .index) (t .ends .protocol) (e .reader .reader) room h m a hm ha i j rounds l (t .message) (t .answer) (t .down) (t .up) (t .enough) y hl)
+
+-- .. and each message went in the fewest blocks
+pub fewest-blocks : (i j : ℕ) (m a : List ℕ) (e : RowEnds) (r : RowRun) (x : RowExchanged i j m a e r)
+    → (length (iBlocks (x .downBytes)) ≡ fewest j (length m)) × (length (iBlocks (x .upBytes)) ≡ fewest i (length a))
+fewest-blocks i j m a e r x =
+    let n : Bool = numberIn (e .reader .link) in
+    (ap length (x .downBlocks) ∙ cut-count j n m, ap length (x .upBlocks) ∙ cut-count i (lastNumber j n m) a)
 
 -- right after RATS and ATS both ends are between messages: a reader of size index i, a card of size index j
 pub after-ats-between : (i j k : ℕ) (e : RowEnds) → e .reader .link ≡ Linked (readerOpen i j false) → e .card .link ≡ cardOpen j i → e .card .card .state ≡ Protocol k → RowBetween i j e
