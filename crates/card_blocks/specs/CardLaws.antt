@@ -91,7 +91,12 @@ pub lent-short : (c : CardLink) (len : ℕ) (s : CardStep) → isI (s .send) ≡
 unfolding lentFor
 lent-short c len s e h = rw (e, lt-ltb len (s .link .at) h)
 
--- the same of the next I, where the answer ends before the last one
+-- .. and with 10 where it is over 4,096 bytes
+pub lent-long : (c : CardLink) (len : ℕ) (s : CardStep) → isI (s .send) ≡ true → s .link .at ≤ len → messageMax < len → lentFor c len s ≡ cardSilent c (Refused TooLong)
+unfolding lentFor
+lent-long c len s e h k = rw (e, le-ltb len (s .link .at) h, lt-ltb messageMax len k)
+
+-- 1 of the next I, where the answer ends before the last one
 pub next-short : (c : CardLink) (len : ℕ) → len < c .at → lentFor c len (cardSilent c (Refused Room)) ≡ lentFor c len (cardNext c Answering len)
 unfolding cardI
 next-short c len h = lent-any c len (cardSilent c (Refused Room)) refl ∙ sym (lent-short c len (cardNext c Answering len) refl (omega arith))

@@ -31,6 +31,7 @@ use Rattle.reader_blocks.specs.declared.ReaderLink.{ReaderLink}
 use Rattle.reader_blocks.specs.declared.ReaderStep.{ReaderStep}
 use Rattle.reader_blocks.specs.ReaderRules.{readerI, readerAgain, ackOwn, ackOther, readerJoins, asksAgain, awaitsI, readerRepeats, readerEchoes, readerTakesI, readerTakesAck, readerRules, readerTakes, isOpen, readerStarts}
 use Rattle.card_blocks.specs.CardLaws.{lent-either}
+use Rattle.card_blocks.specs.CaseLaws.{leaves}
 use Rattle.reader_blocks.specs.ReaderLaws.{lent-either as message-either}
 use Rattle.exchange.specs.Exchange.{isQuiet, Fine}
 
@@ -52,13 +53,6 @@ fine-bytes Nothing p f h = tt
 pub part-bytes : (i at : ℕ) (m : List ℕ) → Bytes m → Bytes (part i at m)
 unfolding part
 part-bytes i at m h = all-take (λ b. b < 256) (payloadMax i) _ (all-drop (λ b. b < 256) at m h)
-
-abbrev pub leaves : Told → Bool
-leaves Deselected = true
-leaves Quiet = false
-leaves (Message n) = false
-leaves Granted = false
-leaves (Refused e) = false
 
 -- ---- the card: what it sends and keeps as its last block is fine, and it stays in Protocol
 

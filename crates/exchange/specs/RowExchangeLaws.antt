@@ -24,7 +24,9 @@ use Rattle.card_blocks.specs.declared.CardLink.{CardLink}
 use Rattle.card_blocks.specs.declared.CardStep.{CardStep}
 use Rattle.card_blocks.specs.CardRules.{cardOpen, owes, cardSilent, cardI, cardTakes, cardReplies}
 use Rattle.card_blocks.specs.CardFrames.{cardOut, cardBlock, cardReply}
-use Rattle.card_link.specs.CardCalls.{leftBy, owing, takeCall, replyCall}
+use Rattle.card_blocks.specs.CaseLaws.{leaves}
+use Rattle.card_link.specs.CardCalls.{owing, takeCall, replyCall}
+use Rattle.card_link.specs.StayLaws.{left-stays}
 use Rattle.card_link.specs.CardRowLaws.{take-block, reply-block}
 use Rattle.reader_blocks.specs.declared.ReaderPhase.{ReaderPhase}
 use Rattle.reader_blocks.specs.declared.ReaderPhase.the-variants.{Open, Talking, Leaving, Finished, Stopped}
@@ -40,14 +42,7 @@ use Rattle.reader_link.specs.ReaderRowLaws.{hear-block, send-block}
 use Rattle.exchange.specs.Exchange.{Ends, clean, Passed, passes, Run, isQuiet, exchange, talk, iBlocks, Fine, Between, Exchanged}
 use Rattle.exchange.specs.ExchangeLaws.{passed, exchanged-in, after-ats}
 use Rattle.exchange.specs.RowExchange.{RowEnds, RowPassed, rowPasses, RowRun, rowExchange, rowTalk, RowBetween, numberIn, Terms, RowExchanged}
-use Rattle.exchange.specs.FineLaws.{fine-bytes, part-bytes, leaves, FineCard, takes-fine, replies-fine, talks, fine-heard, Goes, FineReader, hears-fine, starts-fine, quiet-talks}
-
-left-stays : (t : Told) (c : Card) (l : CardLink) → leaves t ≡ false → leftBy t c l ≡ record { card = c; link = l }
-left-stays Quiet c l e = refl
-left-stays (Message n) c l e = refl
-left-stays Granted c l e = refl
-left-stays Deselected c l e = absurd (false≢true (sym e))
-left-stays (Refused r) c l e = refl
+use Rattle.exchange.specs.FineLaws.{fine-bytes, part-bytes, FineCard, takes-fine, replies-fine, talks, fine-heard, Goes, FineReader, hears-fine, starts-fine, quiet-talks}
 
 linked-talks : (r : Reader) (ph : ReaderPhase) (l : ReaderLink) → talks ph ≡ true → linked r ph l ≡ record { reader = r; link = Linked l }
 linked-talks r (Talking t) l e = refl

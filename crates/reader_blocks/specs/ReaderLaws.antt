@@ -113,7 +113,12 @@ pub lent-short : (r : ReaderLink) (len : ℕ) (s : ReaderStep) → isI (s .send)
 unfolding lentFor
 lent-short r len s e h = rw (e, lt-ltb len (s .link .at) h)
 
--- the same of the next I, where the message ends before the last one
+-- .. and with 10 where it is over 4,096 bytes
+pub lent-long : (r : ReaderLink) (len : ℕ) (s : ReaderStep) → isI (s .send) ≡ true → s .link .at ≤ len → messageMax < len → lentFor r len s ≡ readerKeeps r TooLong
+unfolding lentFor
+lent-long r len s e h k = rw (e, le-ltb len (s .link .at) h, lt-ltb messageMax len k)
+
+-- 1 of the next I, where the message ends before the last one
 pub next-short : (r : ReaderLink) (len : ℕ) → len < r .at → lentFor r len (readerKeeps r Room) ≡ lentFor r len (ackOwn r Sending len)
 unfolding readerI
 next-short r len h = lent-any r len (readerKeeps r Room) refl ∙ sym (lent-short r len (ackOwn r Sending len) refl (omega arith))
