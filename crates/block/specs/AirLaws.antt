@@ -5,6 +5,7 @@ use native.Mathlib.Omega.{arith}
 use mathlib.Core.List.{List, [], _∷_, _++_}
 use lib.ListN.{length, take, drop, replicate, length-append, length-take}
 use lib.Seq.{length-take-le}
+use Rattle.limits.specs.Limits.{rowRoom}
 use Rattle.rows.specs.Rows.{overlay}
 use Rattle.rows.specs.RowLaws.{overlay-nil, overlay-next, overlay-front}
 use Rattle.crc.specs.Crc.{crcBytes, withCrc}
@@ -70,7 +71,7 @@ pub count-is : (n : ℕ) (d : List ℕ) → n ≤ 254 → length d ≡ 256 → n
 count-is n d h e = sym (length-take-le n d (omega arith))
 
 -- bytes, and behind them their CRC_A
-pub row-put : (l crc out q r : List ℕ) (n : ℕ) → 0 < n → n ≤ 254 → 2304 ≤ length out → length l ≡ n → crc ≡ crcBytes l
+pub row-put : (l crc out q r : List ℕ) (n : ℕ) → 0 < n → n ≤ 254 → rowRoom ≤ length out → length l ≡ n → crc ≡ crcBytes l
     → q ≡ overlay out 0 (standard l) → r ≡ overlay q (9 * n) (standard crc)
     → (9 * n + 18 ≡ length (blockRow l)) × (r ≡ overlay out 0 (blockRow l))
 unfolding withCrc crcBytes

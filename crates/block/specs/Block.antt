@@ -68,6 +68,16 @@ abbrev pub heardBlock : Verdict → Block
 heardBlock (Good l) = blockOf l
 heardBlock (Fault e) = Nothing
 
+-- an I, the one block that carries a part of a message
+abbrev pub isI : Block → Bool
+isI (I n chained) = true
+isI (Ack n) = false
+isI (Nak n) = false
+isI Deselect = false
+isI (Wtx v) = false
+isI Unknown = false
+isI Nothing = false
+
 -- the bytes behind a frame's first
 abbrev pub behind : List ℕ → List ℕ
 behind [] = []

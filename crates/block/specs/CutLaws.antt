@@ -11,7 +11,8 @@ use lib.Seq.{take-add, take-all}
 use borrow.Author.Tests.{le-ltb, le-leb, lt-leb, leb-true, leb-false}
 use Rattle.rows.specs.ListLaws.{is-nil}
 use Rattle.selection.specs.Selection.{size}
-use Rattle.block.specs.Cut.{payloadMax, follows, part, partBytes, fewest, fits, messageMax}
+use Rattle.limits.specs.Limits.{messageMax}
+use Rattle.block.specs.Cut.{payloadMax, follows, part, partBytes, fewest, fits}
 
 -- two tests of numbers that hold together are equal
 pub leb-iff : (a b c d : ℕ) → (a ≤ b → c ≤ d) → (c ≤ d → a ≤ b) → leb a b ≡ leb c d
@@ -85,7 +86,7 @@ fewest-some i l = omega arith
 -- 4,096 bytes take at most 316
 pub fewest-most : (i l : ℕ) → l ≤ messageMax → fewest i l ≤ 316
 unfolding fewest payloadMax
-fewest-most i l h = each-size (λ s. (l : ℕ) → l ≤ 4096 → max 1 ((l + (s - 3 - 1)) / (s - 3)) ≤ 316)
+fewest-most i l h = each-size (λ s. (l : ℕ) → l ≤ messageMax → max 1 ((l + (s - 3 - 1)) / (s - 3)) ≤ 316)
     (λ l h. omega arith) (λ l h. omega arith) (λ l h. omega arith) (λ l h. omega arith) (λ l h. omega arith) (λ l h. omega arith) (λ l h. omega arith) (λ l h. omega arith) (λ l h. omega arith) i l h
 
 pub fits-both : (n room : ℕ) → n ≤ messageMax → n ≤ room → fits n room ≡ true

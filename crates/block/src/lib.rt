@@ -10,7 +10,7 @@ ghost use Prim.Native.Nat.{_+_, _≤_};
 ghost use lib.ListN.{length};
 ghost use Rattle.rows.specs.Rows.{overlay};
 ghost use Rattle.block.specs.Cut.{payloadMax, follows, part, partBytes, fits};
-ghost use Rattle.block.specs.Block.{firstByte, kind, whole, blockOf, blockBytes, bytesIn, wtxOk};
+ghost use Rattle.block.specs.Block.{firstByte, kind, whole, blockOf, isI, blockBytes, bytesIn, wtxOk};
 use refusal::Refusal;
 
 // A block without its payload. I: number, chained; Ack, Nak: number; Wtx: its value.
@@ -38,6 +38,21 @@ pub enum Told {
     Granted,
     Deselected,
     Refused(Refusal),
+}
+
+// The one block that carries a part of a message.
+pub fn is_i(b: Block) -> bool
+    ensures { λ r. ⌜ r ≡ isI b ⌝ }
+{
+    match b {
+        Block::I(_, _) => true,
+        Block::Ack(_) => false,
+        Block::Nak(_) => false,
+        Block::Deselect => false,
+        Block::Wtx(_) => false,
+        Block::Unknown => false,
+        Block::Nothing => false,
+    }
 }
 
 // The longest payload that goes to a receiver of a size index.
@@ -76,10 +91,10 @@ fn part_bytes(index: u8, at: usize, len: usize) -> usize
 pub fn joins_in(joined: usize, bytes: usize, room: usize) -> bool
     ensures { λ r. ⌜ r ≡ fits (joined + bytes) room ⌝ }
 {
-    if 4096 < joined {
+    if limits::MESSAGE_MAX < joined {
         return false;
     }
-    if 4096 - joined < bytes {
+    if limits::MESSAGE_MAX - joined < bytes {
         return false;
     }
     joined + bytes <= room

@@ -2,6 +2,7 @@
 ghost use mathlib.Core.Path.{_≡_};
 ghost use Prim.Native.Nat.{_≤_};
 ghost use lib.ListN.{length, take};
+ghost use Rattle.limits.specs.Limits.{rowRoom};
 ghost use Rattle.rows.specs.Rows.{overlay};
 ghost use Rattle.frame.specs.Calls.{goodBytes};
 ghost use Rattle.block.specs.Row.{blockRow, heardRow};
@@ -24,7 +25,7 @@ pub fn read_row(own: u8, row: &[u8], out: &mut [u8]) -> usize
 
 // Writes the row of a block's bytes to the front of a lent row that has room for the longest frame.
 pub fn put_block(b: BlockBytes, out: &mut [u8]) -> usize
-    requires { ⌜ (b .count ≤ 254) × (2304 ≤ length (now out)) ⌝ }
+    requires { ⌜ (b .count ≤ 254) × (rowRoom ≤ length (now out)) ⌝ }
     ensures { λ r. ⌜ r ≡ length (blockRow (take (b .count) (b .bytes))) ⌝ }
     ensures { λ _. ⌜ now (out .exit) ≡ overlay (now (out .entry)) 0 (blockRow (take (b .count) (b .bytes))) ⌝ }
 {

@@ -9,7 +9,9 @@ use native.Mathlib.Omega.{arith}
 use Rattle.rows.specs.ListLaws.{all-take, all-drop, same-ne, same-sound}
 use Rattle.rows.specs.Rows.{Bits, same}
 use Rattle.parity.specs.BitLaws.{unbits-lt}
-use Rattle.parity.specs.Bits.{unbits}
+use Rattle.parity.specs.Bits.{unbits, bitsOf}
+use Rattle.frame.specs.Frame.{airByte, standard}
+use Rattle.crc.specs.Crc.{withCrc}
 use Rattle.frame.specs.ParityLaws.{bits-standard}
 use Rattle.uid.specs.BytesAtLaws.{four-at}
 use Rattle.selection.specs.Selection.{rats}
@@ -40,3 +42,8 @@ not-fsdi f h = same-ne f (rats (fsdi f)) (λ e. omega (arith, small f (fsdi f) e
 pub fsdi-read : (f : List ℕ) → 17 ≤ length f → getD f 13 0 + 2 * (getD f 14 0 + 2 * (getD f 15 0 + 2 * getD f 16 0)) ≡ fsdi f
 unfolding unbits
 fsdi-read f h = rw (four-at 13 f h) (omega arith)
+
+-- RATS is read back as the FSDI that was written: bits 13 to 16 of its row, the high half of its second byte
+pub fsdi-rats : (i : ℕ) → i < 16 → fsdi (rats i) ≡ i
+unfolding rats withCrc standard airByte bitsOf unbits
+fsdi-rats i h = omega arith

@@ -1,12 +1,13 @@
 -- Laws of the card's steps. Assumes nothing.
-use mathlib.Core.Path.{_≡_, refl, _∙_}
-use Prim.Native.Nat.{ℕ, _+_, _-_, _<_}
+use mathlib.Core.Path.{_≡_, refl, sym, _∙_}
+use Prim.Native.Nat.{ℕ, _+_, _-_, _≤_, _<_}
 use native.Mathlib.Omega.{arith}
 use mathlib.Core.Bool.{Bool, true, false, cond, not, false≢true, Bool·beq as same}
 use mathlib.Core.List.{List, [], _∷_}
 use lib.ListN.{length, take, drop}
 use lib.Seq.{take-all}
 use lib.Dec.{eqb, ltb}
+use borrow.Author.Tests.{le-ltb, lt-ltb}
 use Rattle.rows.specs.Rows.{overlay}
 use Rattle.frame.specs.Frame.{Verdict, Good, Fault}
 use Rattle.frame.specs.Calls.{goodBytes}
@@ -14,13 +15,14 @@ use Rattle.refusal.specs.declared.Refusal.the-variants.{Room, TooLong, NotDue}
 use Rattle.block.specs.declared.Block.{Block}
 use Rattle.block.specs.declared.Block.the-variants.{I, Ack, Nak, Deselect, Wtx, Unknown, Nothing}
 use Rattle.block.specs.declared.Told.the-variants.{Refused}
+use Rattle.limits.specs.Limits.{messageMax}
 use Rattle.block.specs.Cut.{fits}
-use Rattle.block.specs.Block.{blockOf, behind}
+use Rattle.block.specs.Block.{blockOf, behind, isI}
 use Rattle.card_blocks.specs.declared.CardPhase.{CardPhase}
 use Rattle.card_blocks.specs.declared.CardPhase.the-variants.{Receiving, Owing, Waiting, Answering}
 use Rattle.card_blocks.specs.declared.CardLink.{CardLink}
 use Rattle.card_blocks.specs.declared.CardStep.{CardStep}
-use Rattle.card_blocks.specs.CardRules.{cardAt, cardJoins, cardSilent, cardSends, cardI, cardNext, cardGranted, cardTakesI, cardTakesAck, cardTakesNak, cardRules, owes, cardTakes}
+use Rattle.card_blocks.specs.CardRules.{cardAt, cardJoins, cardSilent, cardSends, cardI, cardNext, cardGranted, cardTakesI, cardTakesAck, cardTakesNak, cardRules, owes, lentFor, cardTakes}
 use Rattle.card_blocks.specs.CardFrames.{cardHears, cardOut, cardBlock}
 
 -- of two steps that join nothing either joins nothing
@@ -56,19 +58,63 @@ rules-join c (Wtx w) bytes room len e = absurd (false≢true (rw (granted-joins 
 rules-join c Unknown bytes room len e = absurd (false≢true e)
 rules-join c Nothing bytes room len e = absurd (false≢true e)
 
+-- ---- the answer that is lent
+
+-- what holds of a step, and of the card that declines it, holds of the step with the answer that is lent
+pub lent-either : (P : CardStep → Type 0) (c : CardLink) (len : ℕ) (s : CardStep)
+    → P (cardSilent c (Refused Room)) → P (cardSilent c (Refused TooLong)) → P s → P (lentFor c len s)
+unfolding lentFor
+lent-either P c len s x y z = go (isI (s .send)) (ltb len (s .link .at)) (ltb messageMax len)
+  where
+    go : (t u v : Bool) → P (cond t (cond u (cardSilent c (Refused Room)) (cond v (cardSilent c (Refused TooLong)) s)) s)
+    go true true v = x
+    go true false true = y
+    go true false false = z
+    go false u v = z
+
+-- a step that sends no I goes with any answer
+pub lent-any : (c : CardLink) (len : ℕ) (s : CardStep) → isI (s .send) ≡ false → lentFor c len s ≡ s
+unfolding lentFor
+lent-any c len s e = rw e
+
+-- one that sends an I goes with an answer of up to 4,096 bytes that does not end before the I
+pub lent-fits : (c : CardLink) (len : ℕ) (s : CardStep) → s .link .at ≤ len → len ≤ messageMax → lentFor c len s ≡ s
+unfolding lentFor
+lent-fits c len s h k = rw (le-ltb len (s .link .at) h, le-ltb messageMax len k) (both (isI (s .send)))
+  where
+    both : (t : Bool) → cond t s s ≡ s
+    both true = refl
+    both false = refl
+
+-- one whose answer ends before it is declined with 1
+pub lent-short : (c : CardLink) (len : ℕ) (s : CardStep) → isI (s .send) ≡ true → len < s .link .at → lentFor c len s ≡ cardSilent c (Refused Room)
+unfolding lentFor
+lent-short c len s e h = rw (e, lt-ltb len (s .link .at) h)
+
+-- .. and with 10 where it is over 4,096 bytes
+pub lent-long : (c : CardLink) (len : ℕ) (s : CardStep) → isI (s .send) ≡ true → s .link .at ≤ len → messageMax < len → lentFor c len s ≡ cardSilent c (Refused TooLong)
+unfolding lentFor
+lent-long c len s e h k = rw (e, le-ltb len (s .link .at) h, lt-ltb messageMax len k)
+
+-- 1 of the next I, where the answer ends before the last one
+pub next-short : (c : CardLink) (len : ℕ) → len < c .at → lentFor c len (cardSilent c (Refused Room)) ≡ lentFor c len (cardNext c Answering len)
+unfolding cardI
+next-short c len h = lent-any c len (cardSilent c (Refused Room)) refl ∙ sym (lent-short c len (cardNext c Answering len) refl (omega arith))
+
 pub takes-join : (c : CardLink) (b : Block) (bytes room len : ℕ) → (cardTakes c b bytes room len) .joins ≡ true → fits (c .joined + bytes) room ≡ true
 unfolding cardTakes
-takes-join c b bytes room len e = go (owes (c .phase)) (ltb len (c .at)) e
+takes-join c b bytes room len e = go (owes (c .phase)) e
   where
-    go : (s t : Bool) → (cond s (cardSilent c (Refused NotDue)) (cond t (cardSilent c (Refused Room)) (cardRules c b bytes room len))) .joins ≡ true → fits (c .joined + bytes) room ≡ true
-    go true t e = absurd (false≢true e)
-    go false true e = absurd (false≢true e)
-    go false false e = rules-join c b bytes room len e
+    go : (s : Bool) → (cond s (cardSilent c (Refused NotDue)) (lentFor c len (cardRules c b bytes room len))) .joins ≡ true → fits (c .joined + bytes) room ≡ true
+    go true e = absurd (false≢true e)
+    go false e =
+        lent-either (λ s. s .joins ≡ true → fits (c .joined + bytes) room ≡ true) c len (cardRules c b bytes room len)
+        (λ e. absurd (false≢true e)) (λ e. absurd (false≢true e)) (rules-join c b bytes room len) e
 
 -- silence joins nothing
 pub nothing-joins : (c : CardLink) (bytes room len : ℕ) → (cardTakes c Nothing bytes room len) .joins ≡ false
 unfolding cardTakes
-nothing-joins c bytes room len = neither (owes (c .phase)) _ _ refl (neither (ltb len (c .at)) _ _ refl refl)
+nothing-joins c bytes room len = neither (owes (c .phase)) _ _ refl (lent-either (λ s. s .joins ≡ false) c len (cardRules c Nothing bytes room len) refl refl refl)
 
 -- a frame by its number of bytes
 pub hears-none : (c : CardLink) (l : List ℕ) (room len : ℕ) → length l ≡ 0 → cardTakes c Nothing 0 room len ≡ cardHears c l room len

@@ -12,8 +12,9 @@ use Rattle.card_blocks.specs.declared.CardPhase.{CardPhase}
 use Rattle.card_blocks.specs.declared.CardPhase.the-variants.{Receiving, Owing, Waiting, Answering}
 use Rattle.card_blocks.specs.declared.CardLink.{CardLink}
 use Rattle.card_blocks.specs.declared.CardStep.{CardStep}
-use Rattle.block.specs.Cut.{payloadMax, messageMax, follows, fits}
-use Rattle.block.specs.Block.{payload, wtxOk}
+use Rattle.limits.specs.Limits.{messageMax}
+use Rattle.block.specs.Cut.{payloadMax, follows, fits}
+use Rattle.block.specs.Block.{isI, wtxOk}
 
 -- after RATS: "card [starts] at 1"; nothing joined, no block sent
 abbrev pub cardOpen : ℕ → ℕ → CardLink
@@ -90,11 +91,17 @@ owes Receiving = false
 owes (Waiting v) = false
 owes Answering = false
 
--- "a card owing its host's answer takes no frame"; 1: an answer is lent that ends before the place of the last I
+-- A step that sends an I cuts it from the answer that is lent, of len bytes. 1: the answer ends before the place where that I begins; then 10:
+-- it is over 4,096 bytes. Nothing is sent and nothing changes. A step that sends no I looks at no answer, so any may be lent
+unfoldable pub lentFor : CardLink → ℕ → CardStep → CardStep
+lentFor c len s =
+    cond (isI (s .send))
+    (cond (ltb len (s .link .at)) (cardSilent c (Refused Room)) (cond (ltb messageMax len) (cardSilent c (Refused TooLong)) s)) s
+
+-- "a card owing its host's answer takes no frame"; else the rules, with the answer that is lent
 unfoldable pub cardTakes : CardLink → Block → ℕ → ℕ → ℕ → CardStep
 cardTakes c b bytes room len =
-    cond (owes (c .phase)) (cardSilent c (Refused NotDue))
-    (cond (ltb len (c .at)) (cardSilent c (Refused Room)) (cardRules c b bytes room len))
+    cond (owes (c .phase)) (cardSilent c (Refused NotDue)) (lentFor c len (cardRules c b bytes room len))
 
 -- the host's answer, of len bytes, goes out
 unfoldable pub cardReplies : CardLink → ℕ → CardStep

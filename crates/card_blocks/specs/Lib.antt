@@ -1,3 +1,4 @@
 pub mod CardRules
 pub mod CardFrames
 pub mod CardLaws
+pub mod CaseLaws

@@ -7,8 +7,8 @@ ghost use Rattle.rows.specs.Rows.{overlay};
 ghost use Rattle.block.specs.Cut.{part};
 ghost use Rattle.block.specs.Block.{behind, blockBytes, bytesIn};
 ghost use Rattle.card_blocks.specs.CardFrames.{cardHears};
-ghost use Prim.Native.Nat.{_<_, _≤_, _^_};
-ghost use Rattle.card_blocks.specs.CardRules.{cardOpen, cardAt, cardSilent, cardSends, cardI, cardJoins, cardNext, cardGranted, cardTakesI, cardTakesAck, cardTakesNak, cardRules, owes, cardTakes, cardReplies, cardAsks};
+ghost use Prim.Native.Nat.{_<_, _^_};
+ghost use Rattle.card_blocks.specs.CardRules.{cardOpen, cardAt, cardSilent, cardSends, cardI, cardJoins, cardNext, cardGranted, cardTakesI, cardTakesAck, cardTakesNak, cardRules, owes, lentFor, cardTakes, cardReplies, cardAsks};
 use block::Block;
 use block::BlockBytes;
 use block::Told;
@@ -143,13 +143,24 @@ fn takes_i(c: CardLink, chained: bool, bytes: usize, room: usize) -> CardStep
     silent(c, Told::Refused(Refusal::TooLong))
 }
 
-// R(ACK) of the other number. A place lies in the answer, which is lent as a slice, and so the sum fits.
+// The next I of its answer. An answer that ends before the last I ends before the next one too: 1, ahead of a sum that might not fit.
+fn next_i(c: CardLink, len: usize) -> CardStep
+    requires { ⌜ len < 2 ^ 63 ⌝ }
+    ensures { λ r. ⌜ lentFor c len r ≡ lentFor c len (cardNext c CardPhase.Answering len) ⌝ }
+{
+    if len < c.at {
+        return silent(c, Told::Refused(Refusal::Room));
+    }
+    sends_i(c, !c.number, c.at + block::payload_max(c.reader), len)
+}
+
+// R(ACK) of the other number. This and what calls it give the step of the rules as far as it goes with the answer that is lent.
 fn next(c: CardLink, phase: CardPhase, len: usize) -> CardStep
-    requires { ⌜ (c .at ≤ len) × (len < 2 ^ 63) ⌝ }
-    ensures { λ r. ⌜ r ≡ cardNext c phase len ⌝ }
+    requires { ⌜ len < 2 ^ 63 ⌝ }
+    ensures { λ r. ⌜ lentFor c len r ≡ lentFor c len (cardNext c phase len) ⌝ }
 {
     match phase {
-        CardPhase::Answering => sends_i(c, !c.number, c.at + block::payload_max(c.reader), len),
+        CardPhase::Answering => next_i(c, len),
         CardPhase::Receiving => silent(c, Told::Quiet),
         CardPhase::Owing => silent(c, Told::Quiet),
         CardPhase::Waiting(_) => silent(c, Told::Quiet),
@@ -157,8 +168,8 @@ fn next(c: CardLink, phase: CardPhase, len: usize) -> CardStep
 }
 
 fn takes_ack(c: CardLink, n: bool, len: usize) -> CardStep
-    requires { ⌜ (c .at ≤ len) × (len < 2 ^ 63) ⌝ }
-    ensures { λ r. ⌜ r ≡ cardTakesAck c n len ⌝ }
+    requires { ⌜ len < 2 ^ 63 ⌝ }
+    ensures { λ r. ⌜ lentFor c len r ≡ lentFor c len (cardTakesAck c n len) ⌝ }
 {
     if n == c.number {
         return sends(c);
@@ -210,8 +221,8 @@ fn deselected(c: CardLink) -> CardStep
 
 // What a card that owes nothing does with a block.
 fn rules(c: CardLink, b: Block, bytes: usize, room: usize, len: usize) -> CardStep
-    requires { ⌜ (c .at ≤ len) × (len < 2 ^ 63) ⌝ }
-    ensures { λ r. ⌜ r ≡ cardRules c b bytes room len ⌝ }
+    requires { ⌜ len < 2 ^ 63 ⌝ }
+    ensures { λ r. ⌜ lentFor c len r ≡ lentFor c len (cardRules c b bytes room len) ⌝ }
 {
     let phase = c.phase;
     match b {
@@ -236,6 +247,23 @@ pub fn owes_answer(phase: CardPhase) -> bool
     }
 }
 
+// A step as far as it goes with an answer of len bytes lent, from which an I is cut.
+fn lent_for(c: CardLink, len: usize, step: CardStep) -> CardStep
+    ensures { λ r. ⌜ r ≡ lentFor c len step ⌝ }
+{
+    let send = step.send;
+    if block::is_i(send) {
+        let link = step.link;
+        if len < link.at {
+            return silent(c, Told::Refused(Refusal::Room));
+        }
+        if limits::MESSAGE_MAX < len {
+            return silent(c, Told::Refused(Refusal::TooLong));
+        }
+    }
+    step
+}
+
 // What a card does with a block whose payload has so many bytes, with a buffer of room bytes and an answer of len bytes lent.
 fn takes(c: CardLink, b: Block, bytes: usize, room: usize, len: usize) -> CardStep
     requires { ⌜ len < 2 ^ 63 ⌝ }
@@ -245,10 +273,7 @@ fn takes(c: CardLink, b: Block, bytes: usize, room: usize, len: usize) -> CardSt
     if owes_answer(phase) {
         return silent(c, Told::Refused(Refusal::NotDue));
     }
-    if len < c.at {
-        return silent(c, Told::Refused(Refusal::Room));
-    }
-    rules(c, b, bytes, room, len)
+    lent_for(c, len, rules(c, b, bytes, room, len))
 }
 
 // The host's answer, of len bytes.
@@ -257,7 +282,7 @@ pub fn replies(c: CardLink, len: usize) -> CardStep
 {
     let phase = c.phase;
     if owes_answer(phase) {
-        if len <= 4096 {
+        if len <= limits::MESSAGE_MAX {
             return sends_i(c, c.number, 0, len);
         }
         return silent(c, Told::Refused(Refusal::TooLong));

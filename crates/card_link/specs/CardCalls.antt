@@ -6,16 +6,20 @@
 --     reply(x, answer, out)               replyCall x answer (length out)
 --     ask(x, wtx, out)                    askCall x wtx (length out)
 -- the answer is `turnOf o`, buffer at exit `o .buffer` and out at exit `overlay out 0 (o .sent)`. `power_on` and `power_off` have no more
--- than `poweredOn x` and `poweredOff x`. A call tests 11, 1, 6, 10; a refused call sends nothing and changes nothing.
+-- than `poweredOn x` and `poweredOff x`. A call tests 11, 1, 6, 10; a refused call sends nothing and changes nothing. CardSays.antt says the
+-- answers in the table's numbers.
 use Prim.Native.Nat.{ℕ}
 use mathlib.Core.Bool.{Bool, true, false, cond, not}
 use mathlib.Core.List.{List, []}
 use lib.ListN.{length}
 use lib.Dec.{ltb}
+use Rattle.limits.specs.Limits.{rowRoom}
 use Rattle.refusal.specs.declared.Refusal.{Refusal}
 use Rattle.refusal.specs.declared.Refusal.the-variants.{Room, NotDue}
 use Rattle.card.specs.Card.{takes, answers, withState, powerOn, powerOff}
 use Rattle.card.specs.declared.Card.{Card}
+use Rattle.card.specs.declared.CardAnswer.{CardAnswer}
+use Rattle.card.specs.declared.CardAnswer.the-variants.{Sends, Silent, NotTaken}
 use Rattle.card.specs.declared.CardState.{CardState}
 use Rattle.card.specs.declared.CardState.the-variants.{Off, Idle, Ready, Active, Halt, Protocol}
 use Rattle.block.specs.declared.Told.{Told}
@@ -27,10 +31,6 @@ use Rattle.card_link.specs.declared.LinkCard.{LinkCard}
 use Rattle.card_link.specs.declared.CardTurn.{CardTurn}
 use Rattle.card_blocks.specs.CardRules.{cardOpen, owes}
 use Rattle.card_blocks.specs.CardFrames.{cardBlock, cardReply, cardWtx}
-
--- Each call that writes a row asks for room for the longest frame, 256 bytes with parity, whatever is heard
-abbrev pub rowRoom : ℕ
-rowRoom = 2304
 
 -- no link: a card outside Protocol carries nothing of an earlier one
 abbrev pub noLink : CardLink
@@ -56,6 +56,12 @@ leftBy (Refused e) c l = record { card = c; link = l }
 -- what comes of a call; sent is a row here
 abbrev pub withRow : Card → Out CardLink → Out LinkCard
 withRow c o = record { link = leftBy (o .told) c (o .link); sent = blockRow (o .sent); told = o .told; buffer = o .buffer }
+
+-- how many air bits an answer of crate card has
+abbrev pub bitsIn : CardAnswer → ℕ
+bitsIn (Sends n) = n
+bitsIn Silent = 0
+bitsIn (NotTaken e) = 0
 
 -- a frame outside Protocol
 unfoldable pub takesOutside : LinkCard → List ℕ → List ℕ → Out LinkCard
@@ -95,7 +101,7 @@ owing x = owesIn (x .card .state) (x .link)
 abbrev pub declined : LinkCard → List ℕ → Refusal → Out LinkCard
 declined x buffer e = record { link = x; sent = []; told = Refused e; buffer = buffer }
 
--- 11 and 1 around what is due
+-- 11 and 1 around what is due. Each call that writes a row asks for room for the longest frame, whatever is heard
 unfoldable pub called : Bool → LinkCard → List ℕ → ℕ → Out LinkCard → Out LinkCard
 called due x buffer room o = cond (not due) (declined x buffer NotDue) (cond (ltb room rowRoom) (declined x buffer Room) o)
 

@@ -17,7 +17,8 @@ use Rattle.card_blocks.specs.declared.CardLink.{CardLink}
 use Rattle.card_link.specs.declared.LinkCard.{LinkCard}
 use Rattle.card_blocks.specs.CardRules.{owes, cardTakes}
 use Rattle.card_blocks.specs.CardFrames.{cardOut, cardBlock, cardReply}
-use Rattle.card_link.specs.CardCalls.{rowRoom, withRow, called, takesInside, takesIn, owesIn, takeCall, replyCall}
+use Rattle.limits.specs.Limits.{rowRoom}
+use Rattle.card_link.specs.CardCalls.{withRow, called, takesInside, takesIn, owesIn, takeCall, replyCall}
 
 -- a card that owes its host's answer takes no frame
 pub owing-block : (c : CardLink) (v : Verdict) (m buffer : List ℕ) → owes (c .phase) ≡ true

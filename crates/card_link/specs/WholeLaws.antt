@@ -5,6 +5,7 @@ use mathlib.Core.Bool.{Bool, true, false, cond, not}
 use mathlib.Core.List.{List, [], _∷_}
 use lib.ListN.{length, take}
 use borrow.Author.Tests.{lt-ltb, le-ltb}
+use Rattle.limits.specs.Limits.{rowRoom}
 use Rattle.rows.specs.Rows.{overlay}
 use Rattle.rows.specs.RowLaws.{overlay-nil}
 use Rattle.frame.specs.Calls.{goodBytes}
@@ -12,8 +13,6 @@ use Rattle.refusal.specs.declared.Refusal.the-variants.{Room, NotDue}
 use Rattle.card.specs.Card.{rules, takes, answers}
 use Rattle.card.specs.Calls.{taken, answerOf}
 use Rattle.card.specs.declared.Card.{Card}
-use Rattle.card.specs.declared.CardAnswer.{CardAnswer}
-use Rattle.card.specs.declared.CardAnswer.the-variants.{Sends, Silent, NotTaken}
 use Rattle.card.specs.declared.CardState.{CardState}
 use Rattle.card.specs.declared.Taken.{Taken}
 use Rattle.block.specs.declared.BlockBytes.{BlockBytes}
@@ -29,13 +28,7 @@ use Rattle.card_link.specs.declared.CardTurn.{CardTurn}
 use Rattle.card_link.specs.declared.LinkCard.{LinkCard}
 use Rattle.card_blocks.specs.CardFrames.{cardHears, cardOut, cardBlock}
 use Rattle.card_blocks.specs.CardLaws.{block-bytes}
-use Rattle.card_link.specs.CardCalls.{withRow, linkIn, leftBy, takesOutside, takesInside, takesIn, owing, declined, called, takeCall, turnOf}
-
--- how many air bits an answer has
-abbrev pub bitsIn : CardAnswer → ℕ
-bitsIn (Sends n) = n
-bitsIn Silent = 0
-bitsIn (NotTaken e) = 0
+use Rattle.card_link.specs.CardCalls.{bitsIn, withRow, linkIn, leftBy, takesOutside, takesInside, takesIn, owing, declined, called, takeCall, turnOf}
 
 -- ---- a frame heard and a block sent
 
@@ -121,13 +114,13 @@ module _ (due : Bool) (x : LinkCard) (buffer : List ℕ) (room : ℕ) (o : Out L
   unfolding called
   call-not-due d = rw d
 
-  call-room : due ≡ true → room < 2304 → called due x buffer room o ≡ declined x buffer Room
+  call-room : due ≡ true → room < rowRoom → called due x buffer room o ≡ declined x buffer Room
   unfolding called
-  call-room d h = rw (d, lt-ltb room 2304 h)
+  call-room d h = rw (d, lt-ltb room rowRoom h)
 
-  call-due : due ≡ true → 2304 ≤ room → called due x buffer room o ≡ o
+  call-due : due ≡ true → rowRoom ≤ room → called due x buffer room o ≡ o
   unfolding called
-  call-due d h = rw (d, le-ltb room 2304 h)
+  call-due d h = rw (d, le-ltb room rowRoom h)
 
 -- a refused one of two rows changes neither
 module _ (due : Bool) (x : LinkCard) (o : Out LinkCard) (out : List ℕ) {r : CardTurn} where
@@ -135,11 +128,11 @@ module _ (due : Bool) (x : LinkCard) (o : Out LinkCard) (out : List ℕ) {r : Ca
       → (r ≡ turnOf (called due x [] (length out) o)) × (out ≡ overlay out 0 (called due x [] (length out) o .sent))
   two-not-due d h = two out (sym (call-not-due due x [] (length out) o d)) (h, sym (overlay-nil out 0))
 
-  pub two-room : due ≡ true → length out < 2304 → r ≡ turnOf (declined x [] Room)
+  pub two-room : due ≡ true → length out < rowRoom → r ≡ turnOf (declined x [] Room)
       → (r ≡ turnOf (called due x [] (length out) o)) × (out ≡ overlay out 0 (called due x [] (length out) o .sent))
   two-room d n h = two out (sym (call-room due x [] (length out) o d n)) (h, sym (overlay-nil out 0))
 
-  pub two-due : {out′ : List ℕ} → due ≡ true → 2304 ≤ length out → (r ≡ turnOf o) × (out′ ≡ overlay out 0 (o .sent))
+  pub two-due : {out′ : List ℕ} → due ≡ true → rowRoom ≤ length out → (r ≡ turnOf o) × (out′ ≡ overlay out 0 (o .sent))
       → (r ≡ turnOf (called due x [] (length out) o)) × (out′ ≡ overlay out 0 (called due x [] (length out) o .sent))
   two-due d n h = two out (sym (call-due due x [] (length out) o d n)) h
 
@@ -150,13 +143,13 @@ module _ (x : LinkCard) (f m buffer out : List ℕ) {r : CardTurn} where
   unfolding takeCall
   take-not-due w h = three out (sym (call-not-due (not (owing x)) x buffer (length out) _ (rw w))) (h, (refl, sym (overlay-nil out 0)))
 
-  pub take-room : owing x ≡ false → length out < 2304 → r ≡ turnOf (declined x [] Room)
+  pub take-room : owing x ≡ false → length out < rowRoom → r ≡ turnOf (declined x [] Room)
       → (r ≡ turnOf (takeCall x f m buffer (length out))) × ((buffer ≡ takeCall x f m buffer (length out) .buffer)
       × (out ≡ overlay out 0 (takeCall x f m buffer (length out) .sent)))
   unfolding takeCall
   take-room w n h = three out (sym (call-room (not (owing x)) x buffer (length out) _ (rw w) n)) (h, (refl, sym (overlay-nil out 0)))
 
-  pub take-due : {b′ out′ : List ℕ} → owing x ≡ false → 2304 ≤ length out
+  pub take-due : {b′ out′ : List ℕ} → owing x ≡ false → rowRoom ≤ length out
       → (r ≡ turnOf (takesIn (x .card .state) x f m buffer)) × ((b′ ≡ takesIn (x .card .state) x f m buffer .buffer)
       × (out′ ≡ overlay out 0 (takesIn (x .card .state) x f m buffer .sent)))
       → (r ≡ turnOf (takeCall x f m buffer (length out))) × ((b′ ≡ takeCall x f m buffer (length out) .buffer)

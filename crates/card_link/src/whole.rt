@@ -4,14 +4,16 @@ ghost use mathlib.Core.Bool.{cond};
 ghost use mathlib.Core.List.{[]};
 ghost use Prim.Native.Nat.{_≤_};
 ghost use lib.ListN.{length};
+ghost use Rattle.limits.specs.Limits.{rowRoom};
 ghost use Rattle.rows.specs.Rows.{overlay};
 ghost use Rattle.frame.specs.Calls.{goodBytes};
 ghost use Rattle.block.specs.Block.{behind};
 ghost use Rattle.block.specs.Row.{heardRow};
+ghost use Rattle.block.specs.Says.{toldSays};
 ghost use Rattle.card.specs.Calls.{newCard};
 ghost use Rattle.card_blocks.specs.CardFrames.{cardHears, cardOut};
-ghost use Rattle.card_link.specs.CardCalls.{noLink, linkIn, leftBy, withRow, takesOutside, takesInside, takesIn, owing, declined, takeCall, replyCall, askCall, poweredOn, poweredOff, turnOf};
-ghost use Rattle.card_link.specs.WholeLaws.{bitsIn};
+ghost use Rattle.card_link.specs.CardCalls.{noLink, bitsIn, linkIn, leftBy, withRow, takesOutside, takesInside, takesIn, owing, declined, takeCall, replyCall, askCall, poweredOn, poweredOff, turnOf};
+ghost use Rattle.card_link.specs.CardSays.{madeSays, newSays, takeSays, replySays, askSays};
 use crate::CardTurn;
 use crate::LinkCard;
 use block::Told;
@@ -34,6 +36,7 @@ pub fn new_card(bytes: &[u8], blocks: bool, index: u8) -> NewLinkCard
     ensures { λ r. ⌜ r .card .card ≡ newCard (now (bytes .entry)) blocks index .card ⌝ }
     ensures { λ r. ⌜ r .card .link ≡ noLink ⌝ }
     ensures { λ r. ⌜ r .made ≡ newCard (now (bytes .entry)) blocks index .made ⌝ }
+    ensures { λ r. ⌜ madeSays (r .made) ≡ newSays (now (bytes .entry)) index ⌝ }
 {
     let new = card::new_card(bytes, blocks, index);
     let card = new.card;
@@ -158,7 +161,7 @@ fn hear_row(c: CardLink, row: &[u8], answer: &[u8], buffer: &mut [u8]) -> CardSt
 
 // A step of the link handed back, and its block at the front of the lent row.
 fn finish(card: Card, step: CardStep, answer: &[u8], out: &mut [u8]) -> CardTurn
-    requires { ⌜ 2304 ≤ length (now out) ⌝ }
+    requires { ⌜ rowRoom ≤ length (now out) ⌝ }
     ensures { λ r. ⌜ r ≡ turnOf (withRow card (cardOut step (now (answer .entry)) [] 0 [])) ⌝ }
     ensures { λ _. ⌜ now (out .exit) ≡ overlay (now (out .entry)) 0 (withRow card (cardOut step (now (answer .entry)) [] 0 []) .sent) ⌝ }
 {
@@ -176,7 +179,7 @@ fn finish(card: Card, step: CardStep, answer: &[u8], out: &mut [u8]) -> CardTurn
 
 // A frame outside Protocol.
 fn take_outside(x: LinkCard, row: &[u8], out: &mut [u8]) -> CardTurn
-    requires { ⌜ 2304 ≤ length (now out) ⌝ }
+    requires { ⌜ rowRoom ≤ length (now out) ⌝ }
     ensures { λ r. ⌜ r ≡ turnOf (takesOutside x (now (row .entry)) []) ⌝ }
     ensures { λ _. ⌜ now (out .exit) ≡ overlay (now (out .entry)) 0 (takesOutside x (now (row .entry)) [] .sent) ⌝ }
 {
@@ -201,7 +204,7 @@ fn take_inside(
     buffer: &mut [u8],
     out: &mut [u8],
 ) -> CardTurn
-    requires { ⌜ 2304 ≤ length (now out) ⌝ }
+    requires { ⌜ rowRoom ≤ length (now out) ⌝ }
     ensures { λ r. ⌜ r ≡ turnOf (takesInside x (now (row .entry)) (now (answer .entry)) (now (buffer .entry))) ⌝ }
     ensures { λ _. ⌜ now (buffer .exit) ≡ takesInside x (now (row .entry)) (now (answer .entry)) (now (buffer .entry)) .buffer ⌝ }
     ensures { λ _. ⌜ now (out .exit) ≡ overlay (now (out .entry)) 0 (takesInside x (now (row .entry)) (now (answer .entry)) (now (buffer .entry)) .sent) ⌝ }
@@ -214,7 +217,7 @@ fn take_inside(
 
 // A frame that a card takes, by its state.
 fn take_due(x: LinkCard, row: &[u8], answer: &[u8], buffer: &mut [u8], out: &mut [u8]) -> CardTurn
-    requires { ⌜ 2304 ≤ length (now out) ⌝ }
+    requires { ⌜ rowRoom ≤ length (now out) ⌝ }
     ensures { λ r. ⌜ r ≡ turnOf (takesIn (x .card .state) x (now (row .entry)) (now (answer .entry)) (now (buffer .entry))) ⌝ }
     ensures { λ _. ⌜ now (buffer .exit) ≡ takesIn (x .card .state) x (now (row .entry)) (now (answer .entry)) (now (buffer .entry)) .buffer ⌝ }
     ensures { λ _. ⌜ now (out .exit) ≡ overlay (now (out .entry)) 0 (takesIn (x .card .state) x (now (row .entry)) (now (answer .entry)) (now (buffer .entry)) .sent) ⌝ }
@@ -237,11 +240,12 @@ pub fn take(x: LinkCard, row: &[u8], answer: &[u8], buffer: &mut [u8], out: &mut
     ensures { λ r. ⌜ r ≡ turnOf (takeCall x (now (row .entry)) (now (answer .entry)) (now (buffer .entry)) (length (now (out .entry)))) ⌝ }
     ensures { λ _. ⌜ now (buffer .exit) ≡ takeCall x (now (row .entry)) (now (answer .entry)) (now (buffer .entry)) (length (now (out .entry))) .buffer ⌝ }
     ensures { λ _. ⌜ now (out .exit) ≡ overlay (now (out .entry)) 0 (takeCall x (now (row .entry)) (now (answer .entry)) (now (buffer .entry)) (length (now (out .entry))) .sent) ⌝ }
+    ensures { λ r. ⌜ toldSays (r .told) ≡ takeSays x (now (row .entry)) (now (answer .entry)) (now (buffer .entry)) (length (now (out .entry))) ⌝ }
 {
     if is_owing(x) {
         return declines(x, Refusal::NotDue);
     }
-    if out.len() < 2304 {
+    if out.len() < limits::ROW_ROOM {
         return declines(x, Refusal::Room);
     }
     take_due(x, row, answer, buffer, out)
@@ -251,11 +255,12 @@ pub fn take(x: LinkCard, row: &[u8], answer: &[u8], buffer: &mut [u8], out: &mut
 pub fn reply(x: LinkCard, answer: &[u8], out: &mut [u8]) -> CardTurn
     ensures { λ r. ⌜ r ≡ turnOf (replyCall x (now (answer .entry)) (length (now (out .entry)))) ⌝ }
     ensures { λ _. ⌜ now (out .exit) ≡ overlay (now (out .entry)) 0 (replyCall x (now (answer .entry)) (length (now (out .entry))) .sent) ⌝ }
+    ensures { λ r. ⌜ toldSays (r .told) ≡ replySays x (now (answer .entry)) (length (now (out .entry))) ⌝ }
 {
     if !is_owing(x) {
         return declines(x, Refusal::NotDue);
     }
-    if out.len() < 2304 {
+    if out.len() < limits::ROW_ROOM {
         return declines(x, Refusal::Room);
     }
     let card = x.card;
@@ -268,11 +273,12 @@ pub fn reply(x: LinkCard, answer: &[u8], out: &mut [u8]) -> CardTurn
 pub fn ask(x: LinkCard, wtx: u8, out: &mut [u8]) -> CardTurn
     ensures { λ r. ⌜ r ≡ turnOf (askCall x wtx (length (now (out .entry)))) ⌝ }
     ensures { λ _. ⌜ now (out .exit) ≡ overlay (now (out .entry)) 0 (askCall x wtx (length (now (out .entry))) .sent) ⌝ }
+    ensures { λ r. ⌜ toldSays (r .told) ≡ askSays x wtx (length (now (out .entry))) ⌝ }
 {
     if !is_owing(x) {
         return declines(x, Refusal::NotDue);
     }
-    if out.len() < 2304 {
+    if out.len() < limits::ROW_ROOM {
         return declines(x, Refusal::Room);
     }
     let card = x.card;

@@ -11,9 +11,9 @@ use Rattle.rows.specs.Rows.{overlay}
 use Rattle.selection.specs.Selection.{size}
 use Rattle.block.specs.Cut.{payloadMax, follows, part, fits}
 use Rattle.block.specs.Block.{kind, wtxOk}
-use Rattle.card_blocks.specs.CardRules.{cardOpen, cardTakes, cardReplies, cardAsks, cardI, cardTakesI, cardTakesAck, cardTakesNak}
+use Rattle.card_blocks.specs.CardRules.{cardOpen, lentFor, cardTakes, cardReplies, cardAsks, cardI, cardTakesI, cardTakesAck, cardTakesNak}
 use Rattle.card_blocks.specs.CardFrames.{cardBlock, cardReply, cardWtx, cardOut}
-use Rattle.reader_blocks.specs.ReaderRules.{readerOpen, readerI, readerAgain, readerRepeats, readerEchoes, readerStarts, readerTakesI, readerTakesAck}
+use Rattle.reader_blocks.specs.ReaderRules.{readerOpen, readerI, readerAgain, readerRepeats, readerEchoes, readerStarts, readerTakesI, readerTakesAck, lentFor as messageFor}
 use Rattle.reader_blocks.specs.ReaderFrames.{readerBlock, readerSend, readerOut}
 use Rattle.exchange.specs.Exchange.{Fate, Arrives, Fails, Act, Answers, Asks, Waits, Round, clean, passes, Run, exchange, talk}
 
@@ -75,5 +75,5 @@ table :
     × (runs (from 0x30 3) (from 0x30 3) (clean ∷ clean ∷ clean ∷ clean ∷ clean ∷ clean ∷ clean ∷ clean ∷ []) 2 16 ≡ ([], Refused Forbidden, 6, unheld 2, unheld 16))
     -- a reader's: 10
     × (runs (from 0x30 3) (from 0x30 3) (clean ∷ clean ∷ []) 16 2 ≡ ((from 0x30 3) ∷ [], Refused TooLong, 1, held 0x30 3 13, unheld 2))
-unfolding from unheld held round runs seen talk exchange passes cardBlock cardReply cardWtx cardOut cardTakes cardTakesI cardTakesAck cardTakesNak cardReplies cardAsks cardI size payloadMax kind follows part fits wtxOk overlay readerBlock readerTakesI readerTakesAck readerSend readerOut readerI readerAgain readerRepeats readerEchoes readerStarts
+unfolding from unheld held round runs seen talk exchange passes cardBlock cardReply cardWtx cardOut lentFor cardTakes messageFor cardTakesI cardTakesAck cardTakesNak cardReplies cardAsks cardI size payloadMax kind follows part fits wtxOk overlay readerBlock readerTakesI readerTakesAck readerSend readerOut readerI readerAgain readerRepeats readerEchoes readerStarts
 table = (refl, refl, refl, refl, refl, refl, refl, refl, refl, refl, refl, refl, refl, refl, refl, refl, refl)

@@ -1,5 +1,5 @@
 -- Both ends joined over a channel: one message of the reader's host and the answer of the card's host.
-use Prim.Native.Nat.{ℕ, _+_, _≤_, _<_}
+use Prim.Native.Nat.{ℕ, _<_}
 use mathlib.Core.Path.{_≡_}
 use mathlib.Core.Bool.{Bool, true, false, cond, not}
 use mathlib.Core.List.{List, [], _∷_, _++_}
@@ -13,10 +13,10 @@ use Rattle.card_blocks.specs.declared.CardPhase.the-variants.{Receiving}
 use Rattle.card_blocks.specs.declared.CardLink.{CardLink}
 use Rattle.reader_blocks.specs.declared.ReaderLink.{ReaderLink}
 use Rattle.rows.specs.Rows.{overlay}
-use Rattle.frame.specs.Frame.{Verdict, Good, Fault}
-use Rattle.block.specs.Cut.{fewest}
+use Rattle.frame.specs.Frame.{Verdict, Fault}
+use Rattle.block.specs.Cut.{cut, lastNumber}
 use Rattle.block.specs.Out.{Out}
-use Rattle.block.specs.Block.{verdict, heardBlock}
+use Rattle.block.specs.Block.{blockOf, isI, verdict}
 use Rattle.card_blocks.specs.CardRules.{owes}
 use Rattle.card_blocks.specs.CardFrames.{cardBlock, cardReply, cardWtx}
 use Rattle.reader_blocks.specs.ReaderRules.{readerOpen}
@@ -127,19 +127,10 @@ handed e s = record { reader = s .link; card = e .card; down = e .down; up = s .
 unfoldable pub talk : List ℕ → List ℕ → List Round → Ends → Run
 talk m a xs e = let s : Out ReaderLink = readerSend (e .reader) m (e .up) in exchange m a xs (handed e s) (s .told) (s .sent)
 
-abbrev pub isI : Block → ℕ
-isI (I n chained) = 1
-isI (Ack n) = 0
-isI (Nak n) = 0
-isI Deselect = 0
-isI (Wtx v) = 0
-isI Unknown = 0
-isI Nothing = 0
-
--- how many of the frames are I blocks
-unfoldable pub countI : List (List ℕ) → ℕ
-countI [] = 0
-countI (f ∷ fs) = isI (heardBlock (Good f)) + countI fs
+-- those of the frames that are I blocks
+unfoldable pub iBlocks : List (List ℕ) → List (List ℕ)
+iBlocks [] = []
+iBlocks (f ∷ fs) = cond (isI (blockOf f)) (f ∷ iBlocks fs) (iBlocks fs)
 
 -- a block that a card in Protocol may have sent last: DESELECT's answer leaves Protocol, and WTX has one byte
 abbrev pub Fine : Block → Type 0
@@ -160,7 +151,6 @@ pub record Between (i j : ℕ) (e : Ends) : Type 0 where
   pub own : e .card .own ≡ j
   pub other : e .card .reader ≡ i
   pub last : Fine (e .card .last)
-  pub lent : e .card .at ≤ length (e .lent)
 
 -- the run r brings the message m, once and whole, to the card's host, and the answer a to the reader's, whose buffer was u; and the ends
 -- are ready for the next message
@@ -176,6 +166,7 @@ pub record Exchanged (i j : ℕ) (m a : List ℕ) (e : Ends) (r : Run) : Type 0 
   pub answered : Answered i j m a (e .up) r
   -- the card's buffer holds the message, and is untouched behind it
   pub down : r .ends .down ≡ overlay (e .down) 0 m
-  -- each went in the fewest blocks
-  pub downs : countI (r .downs) ≡ fewest j (length m)
-  pub ups : countI (r .ups) ≡ fewest i (length a)
+  -- the I blocks each way are just those into which the message and the answer are cut, the first with the reader's number; the answer goes on
+  -- with the number of the message's last block
+  pub downs : iBlocks (r .downs) ≡ cut j (e .reader .number) m
+  pub ups : iBlocks (r .ups) ≡ cut i (lastNumber j (e .reader .number) m) a

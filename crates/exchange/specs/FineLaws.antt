@@ -12,10 +12,11 @@ use Rattle.block.specs.declared.Block.{Block}
 use Rattle.block.specs.declared.Block.the-variants.{I, Ack, Nak, Deselect, Wtx, Unknown, Nothing}
 use Rattle.block.specs.declared.Told.{Told}
 use Rattle.block.specs.declared.Told.the-variants.{Quiet, Message, Granted, Deselected, Refused}
-use Rattle.block.specs.Cut.{payloadMax, part, fits, messageMax}
+use Rattle.limits.specs.Limits.{messageMax}
+use Rattle.block.specs.Cut.{payloadMax, part, fits}
 use Rattle.frame.specs.Frame.{Good, Fault}
 use Rattle.selection.specs.Selection.{size}
-use Rattle.refusal.specs.declared.Refusal.the-variants.{Length}
+use Rattle.refusal.specs.declared.Refusal.the-variants.{Room, Length, TooLong}
 use Rattle.block.specs.Block.{blockBytes, wtxOk, kind, heardBlock, verdict}
 use Rattle.card_blocks.specs.declared.CardPhase.{CardPhase}
 use Rattle.card_blocks.specs.declared.CardPhase.the-variants.{Receiving, Owing, Waiting, Answering}
@@ -29,6 +30,9 @@ use Rattle.reader_blocks.specs.declared.ReaderPhase.the-variants.{Open, Talking
 use Rattle.reader_blocks.specs.declared.ReaderLink.{ReaderLink}
 use Rattle.reader_blocks.specs.declared.ReaderStep.{ReaderStep}
 use Rattle.reader_blocks.specs.ReaderRules.{readerI, readerAgain, ackOwn, ackOther, readerJoins, asksAgain, awaitsI, readerRepeats, readerEchoes, readerTakesI, readerTakesAck, readerRules, readerTakes, isOpen, readerStarts}
+use Rattle.card_blocks.specs.CardLaws.{lent-either}
+use Rattle.card_blocks.specs.CaseLaws.{leaves}
+use Rattle.reader_blocks.specs.ReaderLaws.{lent-either as message-either}
 use Rattle.exchange.specs.Exchange.{isQuiet, Fine}
 
 -- the bytes of such a block are bytes
@@ -49,13 +53,6 @@ fine-bytes Nothing p f h = tt
 pub part-bytes : (i at : ℕ) (m : List ℕ) → Bytes m → Bytes (part i at m)
 unfolding part
 part-bytes i at m h = all-take (λ b. b < 256) (payloadMax i) _ (all-drop (λ b. b < 256) at m h)
-
-abbrev pub leaves : Told → Bool
-leaves Deselected = true
-leaves Quiet = false
-leaves (Message n) = false
-leaves Granted = false
-leaves (Refused e) = false
 
 -- ---- the card: what it sends and keeps as its last block is fine, and it stays in Protocol
 
@@ -105,7 +102,7 @@ pub takes-fine : (c : CardLink) (b : Block) (bytes room len : ℕ) → Fine b �
 unfolding cardTakes
 takes-fine c b bytes room len f l =
     card-either (owes (c .phase)) _ _ (record { sends = tt; keeps = l; stays = refl })
-    (card-either (ltb len (c .at)) _ _ (record { sends = tt; keeps = l; stays = refl }) (rules-fine c b bytes room len f l))
+    (lent-either FineCard c len (cardRules c b bytes room len) (silent-fine c (Refused Room) l refl) (silent-fine c (Refused TooLong) l refl) (rules-fine c b bytes room len f l))
 
 pub replies-fine : (c : CardLink) (len : ℕ) → Fine (c .last) → FineCard (cardReplies c len)
 unfolding cardReplies
@@ -176,7 +173,8 @@ reader-fine r t Unknown bytes room len = record { sends = tt; goes = tt }
 reader-fine r t Nothing bytes room len = reader-either (ltb (r .repeats) 2) _ _ (record { sends = asks-fine t (r .number); goes = refl }) (record { sends = tt; goes = tt })
 
 pub hears-fine : (r : ReaderLink) (ph : ReaderPhase) (b : Block) (bytes room len : ℕ) → talks ph ≡ true → FineReader (readerTakes r ph b bytes room len)
-hears-fine r (Talking t) b bytes room len e = reader-either (ltb len (r .at)) _ _ (record { sends = tt; goes = tt }) (reader-fine r t b bytes room len)
+hears-fine r (Talking t) b bytes room len e =
+    message-either FineReader r len (readerRules r t b bytes room len) (record { sends = tt; goes = tt }) (record { sends = tt; goes = tt }) (reader-fine r t b bytes room len)
 hears-fine r Open b bytes room len e = absurd (false≢true e)
 hears-fine r Leaving b bytes room len e = absurd (false≢true e)
 hears-fine r Finished b bytes room len e = absurd (false≢true e)

@@ -4,6 +4,8 @@ pub mod ExchangeLaws
 pub mod RowExchange
 pub mod FineLaws
 pub mod RowExchangeLaws
+pub mod Open
+pub mod OpenLaws
 pub mod MessageLaws
 pub mod Steps
 pub mod Promise

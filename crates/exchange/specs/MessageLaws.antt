@@ -6,6 +6,7 @@ use Prim.Native.Nat.{ℕ, _+_, _≤_}
 use native.Mathlib.Omega.{arith}
 use lib.ListN.{length}
 use lib.Dec.{eqb, ltb}
+use Rattle.limits.specs.Limits.{rowRoom}
 use Rattle.refusal.specs.declared.Refusal.the-variants.{NotDue, Room, TooLong}
 use Rattle.card.specs.declared.CardState.{CardState}
 use Rattle.card.specs.declared.CardState.the-variants.{Off, Idle, Ready, Active, Halt, Protocol}
@@ -24,6 +25,7 @@ use Rattle.card_blocks.specs.declared.CardStep.{CardStep}
 use Rattle.card_link.specs.declared.LinkCard.{LinkCard}
 use Rattle.card_blocks.specs.CardRules.{cardSilent, cardI, cardJoins, cardNext, cardGranted, cardTakesI, cardTakesAck, cardTakesNak, cardRules, owes, cardTakes}
 use Rattle.card_blocks.specs.CardFrames.{cardOut, cardBlock}
+use Rattle.card_blocks.specs.CardLaws.{lent-either}
 use Rattle.card_link.specs.CardCalls.{owing, declined, called, takesOutside, takesInside, takesIn, takeCall}
 
 -- how many bytes the message has that a host is told of
@@ -80,7 +82,7 @@ module _ (c : CardLink) (bytes room len : ℕ) where
 
   takes-hold : (b : Block) → Holds (cardTakes c b bytes room len)
   unfolding cardTakes
-  takes-hold b = either (owes (c .phase)) _ _ (omega arith) (either (ltb len (c .at)) _ _ (omega arith) (rules-hold b))
+  takes-hold b = either (owes (c .phase)) _ _ (omega arith) (lent-either Holds c len (cardRules c b bytes room len) (omega arith) (omega arith) (rules-hold b))
 
 module _ (x : LinkCard) (f m buffer : List ℕ) where
   takes-in : (s : CardState) → messageIn (takesIn s x f m buffer .told) ≤ length buffer
@@ -94,7 +96,7 @@ module _ (x : LinkCard) (f m buffer : List ℕ) where
 
   pub message-fits : (room : ℕ) → messageIn (takeCall x f m buffer room .told) ≤ length buffer
   unfolding takeCall called
-  message-fits room = go (not (owing x)) (ltb room 2304)
+  message-fits room = go (not (owing x)) (ltb room rowRoom)
     where
       go : (d r : Bool)
           → messageIn (cond (not d) (declined x buffer NotDue) (cond r (declined x buffer Room) (takesIn (x .card .state) x f m buffer)) .told) ≤ length buffer

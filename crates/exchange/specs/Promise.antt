@@ -7,7 +7,7 @@ use lib.ListN.{length}
 use Rattle.rows.specs.Rows.{overlay}
 use Rattle.block.specs.declared.Told.the-variants.{Message}
 use Rattle.card_link.specs.declared.LinkCard.{LinkCard}
-use Rattle.card_link.specs.CardCalls.{rowRoom}
+use Rattle.limits.specs.Limits.{rowRoom}
 use Rattle.reader_link.specs.declared.LinkReader.{LinkReader}
 use Rattle.exchange.specs.declared.Outcome.{Outcome}
 use Rattle.exchange.specs.RowExchange.{rowTalk, RowBetween, RowExchanged}

@@ -1,7 +1,7 @@
 -- Demand 2 on rows: the whole reader and the whole card joined by their calls over a channel without errors. One message of the reader's
 -- host and the answer of the card's host, who gives it as soon as it is owed.
 use Prim.Native.Nat.{ℕ, zero, suc, _+_, _≤_}
-use mathlib.Core.Bool.{cond}
+use mathlib.Core.Bool.{Bool, false, cond}
 use mathlib.Core.Path.{_≡_}
 use mathlib.Core.List.{List, [], _∷_, _++_, map}
 use lib.ListN.{length}
@@ -11,17 +11,19 @@ use Rattle.reader.specs.declared.Answer.{Answer}
 use Rattle.reader.specs.declared.Answer.the-variants.{Sends, Finds, Selects, Finishes, Declines}
 use Rattle.block.specs.declared.Told.{Told}
 use Rattle.block.specs.declared.Told.the-variants.{Quiet, Message, Refused}
-use Rattle.block.specs.Cut.{fewest, messageMax}
+use Rattle.limits.specs.Limits.{messageMax}
+use Rattle.block.specs.Cut.{fewest, cut, lastNumber}
 use Rattle.block.specs.Out.{Out}
 use Rattle.block.specs.Row.{blockRow}
 use Rattle.card_link.specs.declared.LinkCard.{LinkCard}
 use Rattle.card_link.specs.CardCalls.{owing, takeCall, replyCall}
 use Rattle.reader_link.specs.declared.LinkReader.{LinkReader}
-use Rattle.reader_link.specs.declared.Link.the-variants.{Linked}
+use Rattle.reader_link.specs.declared.Link.{Link}
+use Rattle.reader_link.specs.declared.Link.the-variants.{NoLink, RatsSent, Linked}
 use Rattle.reader_link.specs.declared.LinkAnswer.{LinkAnswer}
 use Rattle.reader_link.specs.declared.LinkAnswer.the-variants.{Selection, Opens, Blocks}
 use Rattle.reader_link.specs.ReaderCalls.{Called, hearCall, sendCall}
-use Rattle.exchange.specs.Exchange.{Ends, delivered, isQuiet, countI, Between}
+use Rattle.exchange.specs.Exchange.{Ends, delivered, isQuiet, iBlocks, Between}
 
 -- both ends, their message buffers (down is the card's, up the reader's), and the answer that the card's host lends
 pub record RowEnds : Type 0 where
@@ -99,10 +101,15 @@ pub record RowBetween (i j : ℕ) (e : RowEnds) : Type 0 where
   pub links : Ends
   pub reader : e .reader .link ≡ Linked (links .reader)
   pub card : e .card .link ≡ links .card
-  pub lent : e .lent ≡ links .lent
   pub index : ℕ
   pub protocol : e .card .card .state ≡ Protocol index
   pub between : Between i j links
+
+-- a linked reader's block number
+abbrev pub numberIn : Link → Bool
+numberIn (Linked l) = l .number
+numberIn NoLink = false
+numberIn (RatsSent i) = false
 
 -- the terms of demand 2: both ends between messages, message and answer of up to 4,096 bytes, buffers that hold them, rounds enough
 pub record Terms (i j : ℕ) (m a : List ℕ) (rounds : ℕ) (e : RowEnds) : Type 0 where
@@ -114,19 +121,19 @@ pub record Terms (i j : ℕ) (m a : List ℕ) (rounds : ℕ) (e : RowEnds) : Typ
   pub enough : fewest j (length m) + fewest i (length a) ≤ suc rounds
 
 -- what comes of it, from e to the end of the run r: each host has the other's message, once and whole, the buffers are untouched behind
--- it, each message went in the fewest blocks, and both ends are ready for the next message
+-- it, each message went in just the blocks into which it is cut, the fewest, and both ends are ready for the next message
 pub record RowExchanged (i j : ℕ) (m a : List ℕ) (e : RowEnds) (r : RowRun) : Type 0 where
   pub got : r .got ≡ m ∷ []
   pub told : r .told ≡ Message (length a)
   pub down : r .ends .down ≡ overlay (e .down) 0 m
   pub up : r .ends .up ≡ overlay (e .up) 0 a
-  -- the bytes of the frames, without CRC_A
+  -- the bytes of the frames, without CRC_A; the I blocks among them
   pub downBytes : List (List ℕ)
   pub upBytes : List (List ℕ)
   pub downs : r .downs ≡ map blockRow downBytes
   pub ups : r .ups ≡ map blockRow upBytes
-  pub downBlocks : countI downBytes ≡ fewest j (length m)
-  pub upBlocks : countI upBytes ≡ fewest i (length a)
+  pub downBlocks : iBlocks downBytes ≡ cut j (numberIn (e .reader .link)) m
+  pub upBlocks : iBlocks upBytes ≡ cut i (lastNumber j (numberIn (e .reader .link)) m) a
   pub ready : RowBetween i j (r .ends)
   pub lent : r .ends .lent ≡ a
   pub same-reader : r .ends .reader .reader ≡ e .reader .reader

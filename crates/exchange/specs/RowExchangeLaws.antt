@@ -14,7 +14,9 @@ use Rattle.refusal.specs.declared.Refusal.the-variants.{TooLong, NotDue}
 use Rattle.block.specs.declared.Block.{Block}
 use Rattle.block.specs.declared.Told.{Told}
 use Rattle.block.specs.declared.Told.the-variants.{Quiet, Message, Granted, Deselected, Refused}
-use Rattle.block.specs.Cut.{messageMax, fewest, part}
+use Rattle.limits.specs.Limits.{messageMax, rowRoom}
+use Rattle.block.specs.Cut.{fewest, part, cut, lastNumber}
+use Rattle.block.specs.CutBlockLaws.{cut-count}
 use Rattle.block.specs.Block.{verdict, heardBlock, payload, blockBytes}
 use Rattle.block.specs.Out.{Out}
 use Rattle.block.specs.Row.{blockRow}
@@ -22,7 +24,9 @@ use Rattle.card_blocks.specs.declared.CardLink.{CardLink}
 use Rattle.card_blocks.specs.declared.CardStep.{CardStep}
 use Rattle.card_blocks.specs.CardRules.{cardOpen, owes, cardSilent, cardI, cardTakes, cardReplies}
 use Rattle.card_blocks.specs.CardFrames.{cardOut, cardBlock, cardReply}
-use Rattle.card_link.specs.CardCalls.{rowRoom, leftBy, owing, takeCall, replyCall}
+use Rattle.card_blocks.specs.CaseLaws.{leaves}
+use Rattle.card_link.specs.CardCalls.{owing, takeCall, replyCall}
+use Rattle.card_link.specs.StayLaws.{left-stays}
 use Rattle.card_link.specs.CardRowLaws.{take-block, reply-block}
 use Rattle.reader_blocks.specs.declared.ReaderPhase.{ReaderPhase}
 use Rattle.reader_blocks.specs.declared.ReaderPhase.the-variants.{Open, Talking, Leaving, Finished, Stopped}
@@ -35,17 +39,10 @@ use Rattle.reader_blocks.specs.ReaderRules.{readerOpen, readerKeeps, readerI, r
 use Rattle.reader_blocks.specs.ReaderFrames.{readerOut, readerBlock, readerSend}
 use Rattle.reader_link.specs.ReaderCalls.{linked, linking, awaitsBlock, hearCall}
 use Rattle.reader_link.specs.ReaderRowLaws.{hear-block, send-block}
-use Rattle.exchange.specs.Exchange.{Ends, clean, Passed, passes, Run, isQuiet, exchange, talk, Fine, Between, Exchanged}
+use Rattle.exchange.specs.Exchange.{Ends, clean, Passed, passes, Run, isQuiet, exchange, talk, iBlocks, Fine, Between, Exchanged}
 use Rattle.exchange.specs.ExchangeLaws.{passed, exchanged-in, after-ats}
-use Rattle.exchange.specs.RowExchange.{RowEnds, RowPassed, rowPasses, RowRun, rowExchange, rowTalk, RowBetween, Terms, RowExchanged}
-use Rattle.exchange.specs.FineLaws.{fine-bytes, part-bytes, leaves, FineCard, takes-fine, replies-fine, talks, fine-heard, Goes, FineReader, hears-fine, starts-fine, quiet-talks}
-
-left-stays : (t : Told) (c : Card) (l : CardLink) → leaves t ≡ false → leftBy t c l ≡ record { card = c; link = l }
-left-stays Quiet c l e = refl
-left-stays (Message n) c l e = refl
-left-stays Granted c l e = refl
-left-stays Deselected c l e = absurd (false≢true (sym e))
-left-stays (Refused r) c l e = refl
+use Rattle.exchange.specs.RowExchange.{RowEnds, RowPassed, rowPasses, RowRun, rowExchange, rowTalk, RowBetween, numberIn, Terms, RowExchanged}
+use Rattle.exchange.specs.FineLaws.{fine-bytes, part-bytes, FineCard, takes-fine, replies-fine, talks, fine-heard, Goes, FineReader, hears-fine, starts-fine, quiet-talks}
 
 linked-talks : (r : Reader) (ph : ReaderPhase) (l : ReaderLink) → talks ph ≡ true → linked r ph l ≡ record { reader = r; link = Linked l }
 linked-talks r (Talking t) l e = refl
@@ -309,6 +306,7 @@ module _ (c : Card) (i : ℕ) (s : c .state ≡ Protocol i) (r : Reader) (room :
       let o′ : isOpen (y .ends .reader .phase) ≡ true = ap (λ z. isOpen (z .phase)) (z .reader) in
       let w = linked-open r (e .reader .phase) (e .reader) o in
       let w′ = linked-open r (y .ends .reader .phase) (y .ends .reader) o′ in
+      let number : numberIn (linked r (e .reader .phase) (e .reader) .link) ≡ e .reader .number = ap (λ x. numberIn (x .link)) w in
       rw (row-talk g e o (b .last) hl)
       (record {
         got = x .answered .got;
@@ -319,9 +317,9 @@ module _ (c : Card) (i : ℕ) (s : c .state ≡ Protocol i) (r : Reader) (room :
         upBytes = y .ups;
         downs = refl;
         ups = refl;
-        downBlocks = x .downs;
-        upBlocks = x .ups;
-        ready = record { links = y .ends; reader = ap (λ x. x .link) w′; card = refl; lent = refl; index = i; protocol = s; between = z };
+        downBlocks = x .downs ∙ ap (λ n. cut k n m) (sym number);
+        upBlocks = x .ups ∙ ap (λ n. cut j (lastNumber k n m) a) (sym number);
+        ready = record { links = y .ends; reader = ap (λ x. x .link) w′; card = refl; index = i; protocol = s; between = z };
         lent = x .answered .lent;
         same-reader = ap (λ x. x .reader) w′ ∙ sym (ap (λ x. x .reader) w);
         same-card = refl;
@@ -335,7 +333,7 @@ row-exchanged i j room m a rounds e h hm ha hl t =
     let b : Between i j k = t .ends .between in
     let l : Ends = record { reader = k .reader; card = k .card; down = e .down; up = e .up; lent = e .lent } in
     let y : Between i j l =
-    record { reader = b .reader; number = b .number; phase = b .phase; joined = b .joined; own = b .own; other = b .other; last = b .last; lent = rw (t .ends .lent) (b .lent) } in
+    record { reader = b .reader; number = b .number; phase = b .phase; joined = b .joined; own = b .own; other = b .other; last = b .last } in
     let w = linked-open (e .reader .reader) (k .reader .phase) (k .reader) (ap (λ z. isOpen (z .phase)) (b .reader)) in
     let x : wide (e .card .card) (e .reader .reader) l ≡ e =
     λ q. record {
@@ -347,14 +345,20 @@ row-exchanged i j room m a rounds e h hm ha hl t =
     } in
     rw x at (wide-exchanged (e .card .card) (t .ends .index) (t .ends .protocol) (e .reader .reader) room h m a hm ha i j rounds l (t .message) (t .answer) (t .down) (t .up) (t .enough) y hl)
 
+-- .. and each message went in the fewest blocks
+pub fewest-blocks : (i j : ℕ) (m a : List ℕ) (e : RowEnds) (r : RowRun) (x : RowExchanged i j m a e r)
+    → (length (iBlocks (x .downBytes)) ≡ fewest j (length m)) × (length (iBlocks (x .upBytes)) ≡ fewest i (length a))
+fewest-blocks i j m a e r x =
+    let n : Bool = numberIn (e .reader .link) in
+    (ap length (x .downBlocks) ∙ cut-count j n m, ap length (x .upBlocks) ∙ cut-count i (lastNumber j n m) a)
+
 -- right after RATS and ATS both ends are between messages: a reader of size index i, a card of size index j
-pub after-ats-between : (i j k : ℕ) (e : RowEnds) → e .reader .link ≡ Linked (readerOpen i j false) → e .card .link ≡ cardOpen j i → e .lent ≡ [] → e .card .card .state ≡ Protocol k → RowBetween i j e
-after-ats-between i j k e r c l s =
+pub after-ats-between : (i j k : ℕ) (e : RowEnds) → e .reader .link ≡ Linked (readerOpen i j false) → e .card .link ≡ cardOpen j i → e .card .card .state ≡ Protocol k → RowBetween i j e
+after-ats-between i j k e r c s =
     record {
       links = record { reader = readerOpen i j false; card = cardOpen j i; down = []; up = []; lent = [] };
       reader = r;
       card = c;
-      lent = l;
       index = k;
       protocol = s;
       between = after-ats i j [] [];

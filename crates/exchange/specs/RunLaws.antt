@@ -17,7 +17,8 @@ use Rattle.block.specs.Out.{Out}
 use Rattle.block.specs.AirLaws.{read-fits}
 use Rattle.card_link.specs.declared.LinkCard.{LinkCard}
 use Rattle.card_link.specs.declared.CardTurn.{CardTurn}
-use Rattle.card_link.specs.CardCalls.{rowRoom, owing, takeCall, turnOf, replyCall}
+use Rattle.limits.specs.Limits.{rowRoom}
+use Rattle.card_link.specs.CardCalls.{owing, takeCall, turnOf, replyCall}
 use Rattle.reader_link.specs.declared.LinkReader.{LinkReader}
 use Rattle.reader_link.specs.declared.LinkTurn.{LinkTurn}
 use Rattle.reader_link.specs.ReaderCalls.{Called, bitsBy, hearCall, sendCall}
@@ -74,17 +75,17 @@ pub record HostMade (c : Out LinkCard) (a before : List ℕ) (answered : Bool) (
   pub frame : take (h .bits) row ≡ acted c a (cond answered a before) .0 .sent
   pub fits : h .bits ≤ length row
 
-pub host-made : (c : Out LinkCard) (a before reply row row′ : List ℕ) (answered : Bool) (t : CardTurn) (h : Hosted) → t ≡ turnOf c → length row ≡ 2304 → row ≡ overlay reply 0 (c .sent)
+pub host-made : (c : Out LinkCard) (a before reply row row′ : List ℕ) (answered : Bool) (t : CardTurn) (h : Hosted) → t ≡ turnOf c → length row ≡ rowRoom → row ≡ overlay reply 0 (c .sent)
     → h ≡ hosted (t .card) (t .bits) answered a (length row) → row′ ≡ hostedRow (t .card) a row → HostMade c a before answered h row′
 unfolding hosted hostedRow
 host-made c a before reply row row′ answered t h et el er eh eo = rw (eo, eh, et, el) (go (owing (c .link)) refl)
   where
     go : (o : Bool) → owing (c .link) ≡ o
         → HostMade c a before answered
-        (cond o (record { card = replyCall (c .link) a 2304 .link; bits = length (replyCall (c .link) a 2304 .sent); answered = true }) (record { card = c .link; bits = length (c .sent); answered = answered }))
-        (cond o (overlay row 0 (replyCall (c .link) a 2304 .sent)) row)
+        (cond o (record { card = replyCall (c .link) a rowRoom .link; bits = length (replyCall (c .link) a rowRoom .sent); answered = true }) (record { card = c .link; bits = length (c .sent); answered = answered }))
+        (cond o (overlay row 0 (replyCall (c .link) a rowRoom .sent)) row)
     go true o =
-        let s : List ℕ = replyCall (c .link) a 2304 .sent in
+        let s : List ℕ = replyCall (c .link) a rowRoom .sent in
         record { card = rw o; lent = rw o; answers = rw o; frame = rw o (overlay-front row s); fits = read-fits (length s) row (overlay row 0 s) s refl refl }
     go false o = record { card = rw o; lent = rw o; answers = rw o; frame = rw (o, er) (overlay-front reply (c .sent)); fits = read-fits (length (c .sent)) reply row (c .sent) refl er }
 
@@ -94,19 +95,19 @@ module _ (p : Progress) (m before a down up row : List ℕ) where
   takenIn room = takeCall (p .card) (take (p .bits) row) (cond (p .answered) a before) down room
 
   abbrev actedOn : Out LinkCard × List ℕ
-  actedOn = acted (takenIn 2304) a (cond (p .answered) a before)
+  actedOn = acted (takenIn rowRoom) a (cond (p .answered) a before)
 
   abbrev heard : Called
-  heard = hearCall (p .reader) (actedOn .0 .sent) m up 2304
+  heard = hearCall (p .reader) (actedOn .0 .sent) m up rowRoom
 
   -- .. as the calls hand it back: the card's frame in a row of 2,304 zeros
-  module _ (zeros down′ reply reply′ : List ℕ) (t : CardTurn) (h : Hosted) (nz : length zeros ≡ 2304) (nr : length reply ≡ length zeros)
+  module _ (zeros down′ reply reply′ : List ℕ) (t : CardTurn) (h : Hosted) (nz : length zeros ≡ rowRoom) (nr : length reply ≡ length zeros)
       (et : (t ≡ turnOf (takenIn (length zeros))) × ((down′ ≡ takenIn (length zeros) .buffer) × (reply ≡ overlay zeros 0 (takenIn (length zeros) .sent))))
       (eh : (h ≡ hosted (t .card) (t .bits) (p .answered) a (length reply)) × (reply′ ≡ hostedRow (t .card) a reply)) where
-    pub host-of : HostMade (takenIn 2304) a before (p .answered) h reply′
-    host-of = let e = rw nz at et in host-made (takenIn 2304) a before zeros reply reply′ (p .answered) t h (e .0) (nr ∙ nz) (e .1 .1) (eh .0) (eh .1)
+    pub host-of : HostMade (takenIn rowRoom) a before (p .answered) h reply′
+    host-of = let e = rw nz at et in host-made (takenIn rowRoom) a before zeros reply reply′ (p .answered) t h (e .0) (nr ∙ nz) (e .1 .1) (eh .0) (eh .1)
 
-    module _ (up′ row′ : List ℕ) (turn : LinkTurn) (nd : length down′ ≡ length down) (nw : length row ≡ 2304) (nw′ : length row′ ≡ length row)
+    module _ (up′ row′ : List ℕ) (turn : LinkTurn) (nd : length down′ ≡ length down) (nw : length row ≡ rowRoom) (nw′ : length row′ ≡ length row)
         (en : (turn ≡ hearCall (p .reader) (take (h .bits) reply′) m up (length row) .turn) × ((up′ ≡ hearCall (p .reader) (take (h .bits) reply′) m up (length row) .buffer)
         × (row′ ≡ overlay row 0 (hearCall (p .reader) (take (h .bits) reply′) m up (length row) .sent)))) where
       pub round-made : (r : Progress) → r ≡ advanced p (t .told) h turn → Fit p
@@ -114,17 +115,17 @@ module _ (p : Progress) (m before a down up row : List ℕ) where
       unfolding stateOf roundOf rowPasses advanced
       round-made r er f =
           let k = host-of in
-          let c : Out LinkCard = takenIn 2304 in
+          let c : Out LinkCard = takenIn rowRoom in
           let e = rw nz at et in
           let q : hearCall (p .reader) (take (h .bits) reply′) m up (length row) ≡ heard = ap (λ z. hearCall (p .reader) z m up (length row)) (k .frame) ∙ ap (λ n. hearCall (p .reader) (actedOn .0 .sent) m up n) nw in
           let et′ : turn ≡ heard .turn = en .0 ∙ ap (λ z. z .turn) q in
           let eu : up′ ≡ heard .buffer = en .1 .0 ∙ ap (λ z. z .buffer) q in
           let ew : row′ ≡ overlay row 0 (heard .sent) = en .1 .1 ∙ ap (λ z. overlay row 0 (z .sent)) q in
-          let eb : bitsBy (turn .answer) ≡ length (heard .sent) = ap (λ z. bitsBy (z .answer)) et′ ∙ hear-counted (p .reader) (actedOn .0 .sent) m up 2304 in
+          let eb : bitsBy (turn .answer) ≡ length (heard .sent) = ap (λ z. bitsBy (z .answer)) et′ ∙ hear-counted (p .reader) (actedOn .0 .sent) m up rowRoom in
           let ef : take (bitsBy (turn .answer)) row′ ≡ heard .sent = rw (eb, ew) (overlay-front row (heard .sent)) in
-          let fits : bitsBy (turn .answer) ≤ 2304 = rw (nw′, nw) at (read-fits (bitsBy (turn .answer)) row row′ (heard .sent) eb ew) in
+          let fits : bitsBy (turn .answer) ≤ rowRoom = rw (nw′, nw) at (read-fits (bitsBy (turn .answer)) row row′ (heard .sent) eb ew) in
           let ec : countIn (t .told) ≡ length (delivered (c .told) (c .buffer)) = ap (λ z. countIn (z .told)) (e .0) ∙ count-delivered (c .told) (c .buffer) in
-          let hl : messageIn (c .told) ≤ length (c .buffer) = rw (← (e .1 .0), nd) (message-fits (p .card) (take (p .bits) row) (cond (p .answered) a before) down 2304) in
+          let hl : messageIn (c .told) ≤ length (c .buffer) = rw (← (e .1 .0), nd) (message-fits (p .card) (take (p .bits) row) (cond (p .answered) a before) down rowRoom) in
           let el : lastIn (t .told) (p .last) ≡ lastOf (p .last) (delivered (c .told) (c .buffer)) = ap (λ z. lastIn (z .told) (p .last)) (e .0) ∙ last-delivered (c .told) (c .buffer) (p .last) hl in (
             rw er (λ i. record {
               ends = record { reader = et′ i .reader; card = k .card i; down = e .1 .0 i; up = eu i; lent = k .lent i };
@@ -190,7 +191,7 @@ pub record Under (m before a : List ℕ) (rounds : ℕ) (down₀ up₀ : List �
   pub rest : restOf m a (rounds - p .rounds) (stateOf p before a down up row) ≡ all
   pub down-size : length down ≡ length down₀
   pub up-size : length up ≡ length up₀
-  pub row-size : length row ≡ 2304
+  pub row-size : length row ≡ rowRoom
 
 -- a round is left and the reader's host has been told nothing, or not
 pub goes-left : (p : Progress) (rounds : ℕ) → goesOn p rounds ≡ true → (p .rounds < rounds) × (isQuiet (p .told) ≡ true)
@@ -235,13 +236,13 @@ fewer p r m before a down up row down′ up′ row′ rounds g e =
     omega (arith, goes-left p rounds g .0)
 
 -- the first frame is out
-module _ (x : LinkReader) (y : LinkCard) (m before a : List ℕ) (rounds : ℕ) (down up zeros row : List ℕ) (turn : LinkTurn) (p : Progress) (nz : length zeros ≡ 2304) (nr : length row ≡ length zeros)
+module _ (x : LinkReader) (y : LinkCard) (m before a : List ℕ) (rounds : ℕ) (down up zeros row : List ℕ) (turn : LinkTurn) (p : Progress) (nz : length zeros ≡ rowRoom) (nr : length row ≡ length zeros)
     (et : (turn ≡ sendCall x m (length zeros) .turn) × (row ≡ overlay zeros 0 (sendCall x m (length zeros) .sent))) (ep : p ≡ begun turn y) where
   abbrev first : Called
-  first = sendCall x m 2304
+  first = sendCall x m rowRoom
 
   bits-first : bitsBy (turn .answer) ≡ length (first .sent)
-  bits-first = let e = rw nz at et in ap (λ z. bitsBy (z .answer)) (e .0) ∙ send-counted x m 2304
+  bits-first = let e = rw nz at et in ap (λ z. bitsBy (z .answer)) (e .0) ∙ send-counted x m rowRoom
 
   pub under-none : Under m before a rounds down up (restOf m a rounds (stateOf p before a down up row)) p down up row
   unfolding begun
@@ -285,7 +286,6 @@ exchanges x y m before a rounds down up down′ up′ o hm hb ha e i j t =
         links = b .links;
         reader = ap (λ s. s .ends .reader .link) e ∙ b .reader;
         card = ap (λ s. s .ends .card .link) e ∙ b .card;
-        lent = sym (z .lent) ∙ b .lent;
         index = b .index;
         protocol = ap (λ s. s .ends .card .card .state) e ∙ b .protocol;
         between = b .between;

@@ -8,7 +8,8 @@ use Rattle.rows.specs.Rows.{overlay}
 use Rattle.block.specs.declared.Told.{Told}
 use Rattle.block.specs.declared.Told.the-variants.{Quiet, Message, Granted, Deselected, Refused}
 use Rattle.card_link.specs.declared.LinkCard.{LinkCard}
-use Rattle.card_link.specs.CardCalls.{rowRoom, owing, takeCall, replyCall}
+use Rattle.limits.specs.Limits.{rowRoom}
+use Rattle.card_link.specs.CardCalls.{owing, takeCall, replyCall}
 use Rattle.reader_link.specs.declared.LinkReader.{LinkReader}
 use Rattle.reader_link.specs.declared.LinkTurn.{LinkTurn}
 use Rattle.reader_link.specs.ReaderCalls.{Called, bitsBy, sendCall}
@@ -62,7 +63,7 @@ advanced p told h turn =
 
 -- the reader's frame fits its row, and each round brings at most one message
 pub record Fit (p : Progress) : Type 0 where
-  pub bits : p .bits ≤ 2304
+  pub bits : p .bits ≤ rowRoom
   pub messages : p .messages ≤ p .rounds
 
 unfoldable pub begun : LinkTurn → LinkCard → Progress

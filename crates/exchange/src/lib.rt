@@ -7,6 +7,7 @@ ghost use mathlib.Core.Path.{_≡_};
 ghost use mathlib.Core.Bool.{true, false, cond};
 ghost use Prim.Native.Nat.{ℕ, _-_, _^_, _≤_, _<_};
 ghost use lib.ListN.{length, take};
+ghost use Rattle.limits.specs.Limits.{rowRoom};
 ghost use Rattle.rows.specs.Rows.{overlay};
 ghost use Rattle.card_link.specs.CardCalls.{owing, takeCall, turnOf, replyCall};
 ghost use Rattle.exchange.specs.Exchange.{isQuiet};
@@ -185,14 +186,14 @@ fn round(
     up: &mut [u8],
     row: &mut [u8],
 ) -> Progress
-    requires { ⌜ Fit p × (p .rounds < 2 ^ 64 - 1) × (length (now row) ≡ 2304) ⌝ }
+    requires { ⌜ Fit p × (p .rounds < 2 ^ 64 - 1) × (length (now row) ≡ rowRoom) ⌝ }
     ensures { λ r. ⌜ stateOf r (now (before .entry)) (now (answer .entry)) (now (down .exit)) (now (up .exit)) (now (row .exit)) ≡ roundOf (now (message .entry)) (now (answer .entry)) (stateOf p (now (before .entry)) (now (answer .entry)) (now (down .entry)) (now (up .entry)) (now (row .entry))) ⌝ }
     ensures { λ r. ⌜ Fit r ⌝ }
 {
     let y = p.card;
     let x = p.reader;
     let bits = p.bits;
-    let mut reply = [0u8; 2304];
+    let mut reply = [0u8; limits::ROW_ROOM];
     let t = card_turn(
         y,
         p.answered,
@@ -271,7 +272,7 @@ pub fn exchange(
     ensures { λ o. ⌜ outcomeOf o (now (before .entry)) (now (answer .entry)) (now (down .exit)) (now (up .exit)) ≡ exchangeOf reader card (now (message .entry)) (now (before .entry)) (now (answer .entry)) rounds (now (down .entry)) (now (up .entry)) ⌝ }
     ensures { λ o. ⌜ ((i j : ℕ) → Terms i j (now (message .entry)) (now (answer .entry)) rounds (endsOf reader card (now (down .entry)) (now (up .entry)) false (now (before .entry)) (now (answer .entry))) → Exchanges i j reader card (now (message .entry)) (now (before .entry)) (now (answer .entry)) rounds (now (down .entry)) (now (up .entry)) o (now (down .exit)) (now (up .exit))) ⌝ }
 {
-    let mut row = [0u8; 2304];
+    let mut row = [0u8; limits::ROW_ROOM];
     let turn = reader_link::whole::send(reader, message, &mut row);
     let mut p = begin(turn, card);
     while goes_on(p, rounds) {

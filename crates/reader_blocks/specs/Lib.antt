@@ -1,3 +1,4 @@
 pub mod ReaderRules
 pub mod ReaderFrames
 pub mod ReaderLaws
+pub mod CaseLaws

@@ -1,27 +1,29 @@
 -- Laws of the reader's steps. Assumes nothing.
-use mathlib.Core.Path.{_≡_, refl, _∙_}
-use Prim.Native.Nat.{ℕ, _+_, _-_, _%_, _<_}
+use mathlib.Core.Path.{_≡_, refl, sym, _∙_}
+use Prim.Native.Nat.{ℕ, _+_, _-_, _%_, _≤_, _<_}
 use native.Mathlib.Omega.{arith}
 use mathlib.Core.Bool.{Bool, true, false, cond, not, false≢true, Bool·beq as same}
 use mathlib.Core.List.{List, [], _∷_}
 use lib.ListN.{length, take, drop}
 use lib.Seq.{take-all}
 use lib.Dec.{ltb}
+use borrow.Author.Tests.{le-ltb, lt-ltb}
 use Rattle.rows.specs.Rows.{overlay}
 use Rattle.frame.specs.Frame.{Verdict, Good, Fault}
 use Rattle.frame.specs.Calls.{goodBytes}
 use Rattle.refusal.specs.declared.Refusal.the-variants.{Room, Forbidden, TooLong}
 use Rattle.block.specs.declared.Block.{Block}
 use Rattle.block.specs.declared.Block.the-variants.{I, Ack, Nak, Deselect, Wtx, Unknown, Nothing}
+use Rattle.limits.specs.Limits.{messageMax}
 use Rattle.block.specs.Cut.{fits}
-use Rattle.block.specs.Block.{blockOf, behind, wtxOk}
+use Rattle.block.specs.Block.{blockOf, behind, isI, wtxOk}
 use Rattle.reader_blocks.specs.declared.Turn.{Turn}
 use Rattle.reader_blocks.specs.declared.Turn.the-variants.{Sending, Awaiting, Joining}
 use Rattle.reader_blocks.specs.declared.ReaderPhase.{ReaderPhase}
 use Rattle.reader_blocks.specs.declared.ReaderPhase.the-variants.{Open, Talking, Leaving, Finished, Stopped}
 use Rattle.reader_blocks.specs.declared.ReaderLink.{ReaderLink}
 use Rattle.reader_blocks.specs.declared.ReaderStep.{ReaderStep}
-use Rattle.reader_blocks.specs.ReaderRules.{readerKeeps, stops, readerI, readerAgain, ackOwn, ackOther, readerJoins, awaitsI, readerRepeats, readerEchoes, readerTakesI, readerTakesAck, readerRules, readerLeaves, readerTakes}
+use Rattle.reader_blocks.specs.ReaderRules.{readerKeeps, stops, readerI, readerAgain, ackOwn, ackOther, readerJoins, awaitsI, readerRepeats, readerEchoes, readerTakesI, readerTakesAck, readerRules, readerLeaves, lentFor, readerTakes}
 use Rattle.reader_blocks.specs.ReaderFrames.{readerHears, readerOut, readerBlock}
 
 -- of two steps that join nothing either joins nothing
@@ -78,12 +80,53 @@ rules-join r t (Wtx v) bytes room len e = absurd (false≢true (rw (echo-joins r
 rules-join r t Unknown bytes room len e = absurd (false≢true e)
 rules-join r t Nothing bytes room len e = absurd (false≢true (rw repeats-join at e))
 
-pub takes-join : (r : ReaderLink) (ph : ReaderPhase) (b : Block) (bytes room len : ℕ) → (readerTakes r ph b bytes room len) .joins ≡ true → fits (r .joined + bytes) room ≡ true
-takes-join r (Talking t) b bytes room len e = go (ltb len (r .at)) e
+-- ---- the message that is lent
+
+-- what holds of a step, and of the reader that declines it, holds of the step with the message that is lent
+pub lent-either : (P : ReaderStep → Type 0) (r : ReaderLink) (len : ℕ) (s : ReaderStep)
+    → P (readerKeeps r Room) → P (readerKeeps r TooLong) → P s → P (lentFor r len s)
+unfolding lentFor
+lent-either P r len s x y z = go (isI (s .send)) (ltb len (s .link .at)) (ltb messageMax len)
   where
-    go : (s : Bool) → (cond s (readerKeeps r Room) (readerRules r t b bytes room len)) .joins ≡ true → fits (r .joined + bytes) room ≡ true
-    go true e = absurd (false≢true e)
-    go false e = rules-join r t b bytes room len e
+    go : (t u v : Bool) → P (cond t (cond u (readerKeeps r Room) (cond v (readerKeeps r TooLong) s)) s)
+    go true true v = x
+    go true false true = y
+    go true false false = z
+    go false u v = z
+
+-- a step that sends no I goes with any message
+pub lent-any : (r : ReaderLink) (len : ℕ) (s : ReaderStep) → isI (s .send) ≡ false → lentFor r len s ≡ s
+unfolding lentFor
+lent-any r len s e = rw e
+
+-- one that sends an I goes with a message of up to 4,096 bytes that does not end before the I
+pub lent-fits : (r : ReaderLink) (len : ℕ) (s : ReaderStep) → s .link .at ≤ len → len ≤ messageMax → lentFor r len s ≡ s
+unfolding lentFor
+lent-fits r len s h k = rw (le-ltb len (s .link .at) h, le-ltb messageMax len k) (both (isI (s .send)))
+  where
+    both : (t : Bool) → cond t s s ≡ s
+    both true = refl
+    both false = refl
+
+-- one whose message ends before it is declined with 1
+pub lent-short : (r : ReaderLink) (len : ℕ) (s : ReaderStep) → isI (s .send) ≡ true → len < s .link .at → lentFor r len s ≡ readerKeeps r Room
+unfolding lentFor
+lent-short r len s e h = rw (e, lt-ltb len (s .link .at) h)
+
+-- .. and with 10 where it is over 4,096 bytes
+pub lent-long : (r : ReaderLink) (len : ℕ) (s : ReaderStep) → isI (s .send) ≡ true → s .link .at ≤ len → messageMax < len → lentFor r len s ≡ readerKeeps r TooLong
+unfolding lentFor
+lent-long r len s e h k = rw (e, le-ltb len (s .link .at) h, lt-ltb messageMax len k)
+
+-- 1 of the next I, where the message ends before the last one
+pub next-short : (r : ReaderLink) (len : ℕ) → len < r .at → lentFor r len (readerKeeps r Room) ≡ lentFor r len (ackOwn r Sending len)
+unfolding readerI
+next-short r len h = lent-any r len (readerKeeps r Room) refl ∙ sym (lent-short r len (ackOwn r Sending len) refl (omega arith))
+
+pub takes-join : (r : ReaderLink) (ph : ReaderPhase) (b : Block) (bytes room len : ℕ) → (readerTakes r ph b bytes room len) .joins ≡ true → fits (r .joined + bytes) room ≡ true
+takes-join r (Talking t) b bytes room len e =
+    lent-either (λ s. s .joins ≡ true → fits (r .joined + bytes) room ≡ true) r len (readerRules r t b bytes room len)
+    (λ e. absurd (false≢true e)) (λ e. absurd (false≢true e)) (rules-join r t b bytes room len) e
 takes-join r Leaving b bytes room len e = absurd (false≢true (rw (leaves-joins r b) at e))
 takes-join r Open b bytes room len e = absurd (false≢true e)
 takes-join r Finished b bytes room len e = absurd (false≢true e)
@@ -91,7 +134,8 @@ takes-join r Stopped b bytes room len e = absurd (false≢true e)
 
 -- silence joins nothing
 pub nothing-joins : (r : ReaderLink) (ph : ReaderPhase) (bytes room len : ℕ) → (readerTakes r ph Nothing bytes room len) .joins ≡ false
-nothing-joins r (Talking t) bytes room len = neither (ltb len (r .at)) (readerKeeps r Room) (readerRules r t Nothing bytes room len) refl (repeats-join r (Talking t) _)
+nothing-joins r (Talking t) bytes room len =
+    lent-either (λ s. s .joins ≡ false) r len (readerRules r t Nothing bytes room len) refl refl (repeats-join r (Talking t) _)
 nothing-joins r Leaving bytes room len = repeats-join r Leaving Deselect
 nothing-joins r Open bytes room len = refl
 nothing-joins r Finished bytes room len = refl

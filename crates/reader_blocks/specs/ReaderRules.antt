@@ -2,7 +2,6 @@
 -- the message buffer and the lent message have.
 use Prim.Native.Nat.{ℕ, _+_, _%_}
 use mathlib.Core.Bool.{Bool, true, false, cond, not, _&&_, Bool·beq as same}
-use lib.ListN.{length}
 use lib.Dec.{leb, ltb}
 use Rattle.refusal.specs.declared.Refusal.{Refusal}
 use Rattle.refusal.specs.declared.Refusal.the-variants.{Room, Forbidden, TooLong, NotDue, Repeats}
@@ -15,8 +14,9 @@ use Rattle.reader_blocks.specs.declared.Turn.{Turn}
 use Rattle.reader_blocks.specs.declared.Turn.the-variants.{Sending, Awaiting, Joining}
 use Rattle.reader_blocks.specs.declared.ReaderLink.{ReaderLink}
 use Rattle.reader_blocks.specs.declared.ReaderStep.{ReaderStep}
-use Rattle.block.specs.Cut.{payloadMax, messageMax, follows, fits}
-use Rattle.block.specs.Block.{payload, wtxOk}
+use Rattle.limits.specs.Limits.{messageMax}
+use Rattle.block.specs.Cut.{payloadMax, follows, fits}
+use Rattle.block.specs.Block.{isI, wtxOk}
 
 -- between messages, with block number n
 abbrev pub readerOpen : ℕ → ℕ → Bool → ReaderLink
@@ -130,9 +130,15 @@ readerLeaves r (Nak n) = stops Forbidden
 readerLeaves r (Wtx v) = stops Forbidden
 readerLeaves r Unknown = stops Forbidden
 
--- a frame is due while a block or DESELECT's answer is awaited; 1: a message is lent that ends before the place of the last I
+-- A step that sends an I cuts it from the message that is lent, of len bytes. 1: the message ends before the place where that I begins; then 10:
+-- it is over 4,096 bytes. Nothing is sent and nothing changes. A step that sends no I looks at no message, so any may be lent
+unfoldable pub lentFor : ReaderLink → ℕ → ReaderStep → ReaderStep
+lentFor r len s =
+    cond (isI (s .send)) (cond (ltb len (s .link .at)) (readerKeeps r Room) (cond (ltb messageMax len) (readerKeeps r TooLong) s)) s
+
+-- a frame is due while a block or DESELECT's answer is awaited
 abbrev pub readerTakes : ReaderLink → ReaderPhase → Block → ℕ → ℕ → ℕ → ReaderStep
-readerTakes r (Talking t) b bytes room len = cond (ltb len (r .at)) (readerKeeps r Room) (readerRules r t b bytes room len)
+readerTakes r (Talking t) b bytes room len = lentFor r len (readerRules r t b bytes room len)
 readerTakes r Leaving b bytes room len = readerLeaves r b
 readerTakes r Open b bytes room len = readerKeeps r NotDue
 readerTakes r Finished b bytes room len = readerKeeps r NotDue

@@ -7,8 +7,8 @@ ghost use Rattle.rows.specs.Rows.{overlay};
 ghost use Rattle.block.specs.Cut.{part};
 ghost use Rattle.block.specs.Block.{behind, blockBytes, bytesIn};
 ghost use Rattle.reader_blocks.specs.ReaderFrames.{readerHears};
-ghost use Prim.Native.Nat.{_<_, _≤_, _^_};
-ghost use Rattle.reader_blocks.specs.ReaderRules.{readerOpen, readerDone, readerAt, readerKeeps, stops, readerSends, readerI, readerAgain, ackOwn, ackOther, readerJoins, lastIsOut, asksAgain, readerRepeats, readerEchoes, awaitsI, readerTakesI, readerTakesAck, readerRules, readerLeaves, readerTakes, isOpen, readerStarts, readerParts};
+ghost use Prim.Native.Nat.{_<_, _^_};
+ghost use Rattle.reader_blocks.specs.ReaderRules.{readerOpen, readerDone, readerAt, readerKeeps, stops, readerSends, readerI, readerAgain, ackOwn, ackOther, readerJoins, lastIsOut, asksAgain, readerRepeats, readerEchoes, awaitsI, readerTakesI, readerTakesAck, readerRules, readerLeaves, lentFor, readerTakes, isOpen, readerStarts, readerParts};
 use block::Block;
 use block::BlockBytes;
 use block::Told;
@@ -177,13 +177,24 @@ fn sends_again(l: ReaderLink, t: Turn, chained: bool) -> ReaderStep
     stop(Refusal::Forbidden)
 }
 
-// R(ACK) of the own number. A place lies in the message, which is lent as a slice, and so the sum fits.
+// The next I of its message. A message that ends before the last I ends before the next one too: 1, ahead of a sum that might not fit.
+fn next_i(l: ReaderLink, len: usize) -> ReaderStep
+    requires { ⌜ len < 2 ^ 63 ⌝ }
+    ensures { λ r. ⌜ lentFor l len r ≡ lentFor l len (ackOwn l Turn.Sending len) ⌝ }
+{
+    if len < l.at {
+        return keeps(l, Refusal::Room);
+    }
+    sends_i(l, !l.number, l.at + block::payload_max(l.card), len)
+}
+
+// R(ACK) of the own number. This and what calls it give the step of the rules as far as it goes with the message that is lent.
 fn ack_own(l: ReaderLink, t: Turn, len: usize) -> ReaderStep
-    requires { ⌜ (l .at ≤ len) × (len < 2 ^ 63) ⌝ }
-    ensures { λ r. ⌜ r ≡ ackOwn l t len ⌝ }
+    requires { ⌜ len < 2 ^ 63 ⌝ }
+    ensures { λ r. ⌜ lentFor l len r ≡ lentFor l len (ackOwn l t len) ⌝ }
 {
     match t {
-        Turn::Sending => sends_i(l, !l.number, l.at + block::payload_max(l.card), len),
+        Turn::Sending => next_i(l, len),
         Turn::Awaiting => stop(Refusal::Forbidden),
         Turn::Joining => stop(Refusal::Forbidden),
     }
@@ -201,8 +212,8 @@ fn ack_other(l: ReaderLink, t: Turn) -> ReaderStep
 }
 
 fn takes_ack(l: ReaderLink, t: Turn, n: bool, len: usize) -> ReaderStep
-    requires { ⌜ (l .at ≤ len) × (len < 2 ^ 63) ⌝ }
-    ensures { λ r. ⌜ r ≡ readerTakesAck l t n len ⌝ }
+    requires { ⌜ len < 2 ^ 63 ⌝ }
+    ensures { λ r. ⌜ lentFor l len r ≡ lentFor l len (readerTakesAck l t n len) ⌝ }
 {
     if n == l.number {
         return ack_own(l, t, len);
@@ -308,8 +319,8 @@ fn echoes(l: ReaderLink, t: Turn, v: u8) -> ReaderStep
 
 // What a reader that awaits a block does with it.
 fn rules(l: ReaderLink, t: Turn, b: Block, bytes: usize, room: usize, len: usize) -> ReaderStep
-    requires { ⌜ (l .at ≤ len) × (len < 2 ^ 63) ⌝ }
-    ensures { λ r. ⌜ r ≡ readerRules l t b bytes room len ⌝ }
+    requires { ⌜ len < 2 ^ 63 ⌝ }
+    ensures { λ r. ⌜ lentFor l len r ≡ lentFor l len (readerRules l t b bytes room len) ⌝ }
 {
     match b {
         Block::I(n, chained) => takes_i(l, t, n, chained, bytes, room),
@@ -345,6 +356,23 @@ fn leaves(l: ReaderLink, b: Block) -> ReaderStep
     }
 }
 
+// A step as far as it goes with a message of len bytes lent, from which an I is cut.
+fn lent_for(l: ReaderLink, len: usize, step: ReaderStep) -> ReaderStep
+    ensures { λ r. ⌜ r ≡ lentFor l len step ⌝ }
+{
+    let send = step.send;
+    if block::is_i(send) {
+        let link = step.link;
+        if len < link.at {
+            return keeps(l, Refusal::Room);
+        }
+        if limits::MESSAGE_MAX < len {
+            return keeps(l, Refusal::TooLong);
+        }
+    }
+    step
+}
+
 // What a reader does with a block whose payload has so many bytes, with a buffer of room bytes and a message of len bytes lent.
 fn takes(
     l: ReaderLink,
@@ -358,12 +386,7 @@ fn takes(
     ensures { λ r. ⌜ r ≡ readerTakes l phase b bytes room len ⌝ }
 {
     match phase {
-        ReaderPhase::Talking(t) => {
-            if len < l.at {
-                return keeps(l, Refusal::Room);
-            }
-            rules(l, t, b, bytes, room, len)
-        }
+        ReaderPhase::Talking(t) => lent_for(l, len, rules(l, t, b, bytes, room, len)),
         ReaderPhase::Leaving => leaves(l, b),
         ReaderPhase::Open => keeps(l, Refusal::NotDue),
         ReaderPhase::Finished => keeps(l, Refusal::NotDue),
@@ -389,7 +412,7 @@ pub fn starts(l: ReaderLink, len: usize) -> ReaderStep
 {
     let phase = l.phase;
     if is_open(phase) {
-        if len <= 4096 {
+        if len <= limits::MESSAGE_MAX {
             return sends_i(l, l.number, 0, len);
         }
         return keeps(l, Refusal::TooLong);

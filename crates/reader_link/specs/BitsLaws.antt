@@ -5,6 +5,7 @@ use mathlib.Core.List.{List, []}
 use Prim.Native.Nat.{ℕ}
 use lib.ListN.{length}
 use lib.Dec.{ltb}
+use Rattle.limits.specs.Limits.{rowRoom}
 use Rattle.rows.specs.Rows.{isNil}
 use Rattle.refusal.specs.declared.Refusal.{Refusal}
 use Rattle.refusal.specs.declared.Refusal.the-variants.{NotDue, Room}
@@ -100,7 +101,7 @@ declined-none (Linked l) e = refl
 
 tested-counted : (due : Bool) (x : LinkReader) (buffer : List ℕ) (room : ℕ) (o : Called) → Counted o → Counted (tested due x buffer room o)
 unfolding tested
-tested-counted due x buffer room o k = go due (ltb room 2304)
+tested-counted due x buffer room o k = go due (ltb room rowRoom)
   where
     go : (d r : Bool) → Counted (cond (not d) (called x (declinedBy (x .link) NotDue) [] buffer) (cond r (called x (declinedBy (x .link) Room) [] buffer) o))
     go false r = declined-none (x .link) NotDue

@@ -8,12 +8,13 @@
 --     deselect(x, out)                  deselectCall x (length out)
 --     hear(x, row, message, buffer, out) hearCall x row message buffer (length out)
 -- the answer is `t .turn`, out at exit `overlay out 0 (t .sent)` and, of hear, buffer at exit `t .buffer`. A call tests 11, 1, 6, 10; a
--- refused call sends nothing and changes nothing.
+-- refused call sends nothing and changes nothing. ReaderSays.antt says the answers in the table's numbers.
 use Prim.Native.Nat.{ℕ, _/_, _%_}
 use mathlib.Core.Bool.{Bool, true, false, cond, not, _&&_}
 use mathlib.Core.List.{List, []}
 use lib.ListN.{length}
 use lib.Dec.{eqb, ltb}
+use Rattle.limits.specs.Limits.{rowRoom}
 use Rattle.refusal.specs.declared.Refusal.{Refusal}
 use Rattle.refusal.specs.declared.Refusal.the-variants.{Room, Argument, NotDue}
 use Rattle.selection.specs.Selection.{rats}
@@ -70,17 +71,13 @@ bitsBy (Selection a) = bitsOf a
 bitsBy (Opens i) = 0
 bitsBy (Blocks n t) = n
 
--- Each call that writes a row asks for room for the longest frame, 256 bytes with parity, whatever is heard
-abbrev pub rowRoom : ℕ
-rowRoom = 2304
-
 -- declined before anything is looked at: "unchanged". While it selects, a reader says so as crate reader has it
 abbrev pub declinedBy : Link → Refusal → LinkAnswer
 declinedBy NoLink e = Selection (Declines e)
 declinedBy (RatsSent i) e = Blocks 0 (Refused e)
 declinedBy (Linked l) e = Blocks 0 (Refused e)
 
--- 11, 1 around what is due
+-- 11 and 1 around what is due. Each call that writes a row asks for room for the longest frame, whatever is heard
 unfoldable pub tested : Bool → LinkReader → List ℕ → ℕ → Called → Called
 tested due x buffer room t =
     cond (not due) (called x (declinedBy (x .link) NotDue) [] buffer)

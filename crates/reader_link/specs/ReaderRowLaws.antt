@@ -13,7 +13,8 @@ use Rattle.reader_link.specs.declared.Link.the-variants.{Linked}
 use Rattle.reader_link.specs.declared.LinkReader.{LinkReader}
 use Rattle.reader_blocks.specs.ReaderRules.{isOpen}
 use Rattle.reader_blocks.specs.ReaderFrames.{readerBlock, readerSend}
-use Rattle.reader_link.specs.ReaderCalls.{rowRoom, tested, linking, awaitsBlock, hearCall, sendCall}
+use Rattle.limits.specs.Limits.{rowRoom}
+use Rattle.reader_link.specs.ReaderCalls.{tested, linking, awaitsBlock, hearCall, sendCall}
 
 module _ (x : LinkReader) (r : ReaderLink) (room : ℕ) (s : x .link ≡ Linked r) (h : rowRoom ≤ room) where
   -- a block's row, where one is awaited

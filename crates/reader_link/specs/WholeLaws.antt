@@ -7,6 +7,7 @@ use mathlib.Core.List.{List, []}
 use lib.ListN.{length, take}
 use lib.Dec.{ltb}
 use borrow.Author.Tests.{lt-ltb, le-ltb}
+use Rattle.limits.specs.Limits.{rowRoom}
 use Rattle.rows.specs.Rows.{overlay}
 use Rattle.rows.specs.RowLaws.{overlay-nil}
 use Rattle.frame.specs.Calls.{goodBytes}
@@ -57,25 +58,25 @@ module _ (due : Bool) (x : LinkReader) (o : Called) (buffer out : List ℕ) {t :
   unfolding tested
   not-due d h = rw d (h, (refl, sym (overlay-nil out 0)))
 
-  pub no-room : due ≡ true → length out < 2304 → t ≡ called x (declinedBy (x .link) Room) [] [] .turn → Three (tested due x buffer (length out) o) t buffer out out
+  pub no-room : due ≡ true → length out < rowRoom → t ≡ called x (declinedBy (x .link) Room) [] [] .turn → Three (tested due x buffer (length out) o) t buffer out out
   unfolding tested
-  no-room d n h = rw (d, lt-ltb (length out) 2304 n) (h, (refl, sym (overlay-nil out 0)))
+  no-room d n h = rw (d, lt-ltb (length out) rowRoom n) (h, (refl, sym (overlay-nil out 0)))
 
-  pub is-due : {b′ out′ : List ℕ} → due ≡ true → 2304 ≤ length out → Three o t b′ out out′ → Three (tested due x buffer (length out) o) t b′ out out′
+  pub is-due : {b′ out′ : List ℕ} → due ≡ true → rowRoom ≤ length out → Three o t b′ out out′ → Three (tested due x buffer (length out) o) t b′ out out′
   unfolding tested
-  is-due d n h = rw (d, le-ltb (length out) 2304 n) h
+  is-due d n h = rw (d, le-ltb (length out) rowRoom n) h
 
 -- .. of a call that is lent no buffer
 module _ (due : Bool) (x : LinkReader) (o : Called) (out : List ℕ) {t : LinkTurn} where
   pub two-not-due : due ≡ false → t ≡ called x (declinedBy (x .link) NotDue) [] [] .turn → Two (tested due x [] (length out) o) t out out
   two-not-due d h = let k = not-due due x o [] out d h in (k .0, k .1 .1)
 
-  pub two-no-room : due ≡ true → length out < 2304 → t ≡ called x (declinedBy (x .link) Room) [] [] .turn → Two (tested due x [] (length out) o) t out out
+  pub two-no-room : due ≡ true → length out < rowRoom → t ≡ called x (declinedBy (x .link) Room) [] [] .turn → Two (tested due x [] (length out) o) t out out
   two-no-room d n h = let k = no-room due x o [] out d n h in (k .0, k .1 .1)
 
-  pub two-is-due : {out′ : List ℕ} → due ≡ true → 2304 ≤ length out → Two o t out out′ → Two (tested due x [] (length out) o) t out out′
+  pub two-is-due : {out′ : List ℕ} → due ≡ true → rowRoom ≤ length out → Two o t out out′ → Two (tested due x [] (length out) o) t out out′
   unfolding tested
-  two-is-due d n h = rw (d, le-ltb (length out) 2304 n) h
+  two-is-due d n h = rw (d, le-ltb (length out) rowRoom n) h
 
 -- by the link, what is not due with it
 pub declined-at : (g : Link → Called) (x : LinkReader) (k : Link) (out : List ℕ) {t : LinkTurn} → x .link ≡ k → g k ≡ called x (declinedBy k NotDue) [] []

@@ -4,6 +4,7 @@ ghost use mathlib.Core.Bool.{true, false, cond};
 ghost use mathlib.Core.List.{[]};
 ghost use Prim.Native.Nat.{_≤_};
 ghost use lib.ListN.{length};
+ghost use Rattle.limits.specs.Limits.{rowRoom};
 ghost use Rattle.rows.specs.Rows.{overlay};
 ghost use Rattle.frame.specs.Calls.{goodBytes};
 ghost use Rattle.selection.specs.Heard.{readAts};
@@ -12,6 +13,7 @@ ghost use Rattle.block.specs.Block.{behind};
 ghost use Rattle.block.specs.Row.{heardRow};
 ghost use Rattle.reader_blocks.specs.ReaderFrames.{readerHears, readerOut, readerBlock};
 ghost use Rattle.reader_link.specs.ReaderCalls.{newReader, bitsOf, bitsBy, called, declinedBy, selecting, linked, linking, afterAts, awaitsBlock, frameDue, hearsIn, hearCall, isNewIn, startCall, isSelected, b6, ratsDue, ratsCall, between, sendIn, sendCall, deselectIn, deselectCall};
+ghost use Rattle.reader_link.specs.ReaderSays.{linkSays, startSays, ratsSays, sendSays, deselectSays, hearSays};
 use crate::Link;
 use crate::LinkAnswer;
 use crate::LinkReader;
@@ -82,7 +84,7 @@ fn declines(x: LinkReader, e: Refusal) -> LinkTurn
 
 // A turn of a selection handed back, and its frame at the front of the lent row.
 fn select_turn(t: Turn, out: &mut [u8]) -> LinkTurn
-    requires { ⌜ 2304 ≤ length (now out) ⌝ }
+    requires { ⌜ rowRoom ≤ length (now out) ⌝ }
     ensures { λ r. ⌜ r ≡ selecting t [] .turn ⌝ }
     ensures { λ _. ⌜ now (out .exit) ≡ overlay (now (out .entry)) 0 (selecting t [] .sent) ⌝ }
 {
@@ -132,7 +134,7 @@ fn linked(r: Reader, phase: ReaderPhase, l: ReaderLink) -> LinkReader
 
 // A step of the link handed back, and its block at the front of the lent row.
 fn finish(r: Reader, step: ReaderStep, message: &[u8], out: &mut [u8]) -> LinkTurn
-    requires { ⌜ 2304 ≤ length (now out) ⌝ }
+    requires { ⌜ rowRoom ≤ length (now out) ⌝ }
     ensures { λ t. ⌜ t ≡ linking r (readerOut step (now (message .entry)) [] 0 []) .turn ⌝ }
     ensures { λ _. ⌜ now (out .exit) ≡ overlay (now (out .entry)) 0 (linking r (readerOut step (now (message .entry)) [] 0 []) .sent) ⌝ }
 {
@@ -167,7 +169,7 @@ fn hear_block(
     buffer: &mut [u8],
     out: &mut [u8],
 ) -> LinkTurn
-    requires { ⌜ 2304 ≤ length (now out) ⌝ }
+    requires { ⌜ rowRoom ≤ length (now out) ⌝ }
     ensures { λ t. ⌜ t ≡ linking r (readerBlock l (heardRow (l .own) (now (row .entry))) (now (message .entry)) (now (buffer .entry))) .turn ⌝ }
     ensures { λ _. ⌜ now (buffer .exit) ≡ linking r (readerBlock l (heardRow (l .own) (now (row .entry))) (now (message .entry)) (now (buffer .entry))) .buffer ⌝ }
     ensures { λ _. ⌜ now (out .exit) ≡ overlay (now (out .entry)) 0 (linking r (readerBlock l (heardRow (l .own) (now (row .entry))) (now (message .entry)) (now (buffer .entry))) .sent) ⌝ }
@@ -204,7 +206,7 @@ fn hear_ats(r: Reader, own: u8, row: &[u8]) -> LinkTurn
 
 // .. while it selects.
 fn hear_selecting(r: Reader, row: &[u8], out: &mut [u8]) -> LinkTurn
-    requires { ⌜ 2304 ≤ length (now out) ⌝ }
+    requires { ⌜ rowRoom ≤ length (now out) ⌝ }
     ensures { λ t. ⌜ t ≡ selecting (hear r (now (row .entry))) [] .turn ⌝ }
     ensures { λ _. ⌜ now (out .exit) ≡ overlay (now (out .entry)) 0 (selecting (hear r (now (row .entry))) [] .sent) ⌝ }
 {
@@ -220,7 +222,7 @@ fn hear_due(
     buffer: &mut [u8],
     out: &mut [u8],
 ) -> LinkTurn
-    requires { ⌜ 2304 ≤ length (now out) ⌝ }
+    requires { ⌜ rowRoom ≤ length (now out) ⌝ }
     ensures { λ t. ⌜ t ≡ hearsIn (x .link) (x .reader) (now (row .entry)) (now (message .entry)) (now (buffer .entry)) .turn ⌝ }
     ensures { λ _. ⌜ now (buffer .exit) ≡ hearsIn (x .link) (x .reader) (now (row .entry)) (now (message .entry)) (now (buffer .entry)) .buffer ⌝ }
     ensures { λ _. ⌜ now (out .exit) ≡ overlay (now (out .entry)) 0 (hearsIn (x .link) (x .reader) (now (row .entry)) (now (message .entry)) (now (buffer .entry)) .sent) ⌝ }
@@ -273,13 +275,14 @@ pub fn hear(
     ensures { λ t. ⌜ t ≡ hearCall x (now (row .entry)) (now (message .entry)) (now (buffer .entry)) (length (now (out .entry))) .turn ⌝ }
     ensures { λ _. ⌜ now (buffer .exit) ≡ hearCall x (now (row .entry)) (now (message .entry)) (now (buffer .entry)) (length (now (out .entry))) .buffer ⌝ }
     ensures { λ _. ⌜ now (out .exit) ≡ overlay (now (out .entry)) 0 (hearCall x (now (row .entry)) (now (message .entry)) (now (buffer .entry)) (length (now (out .entry))) .sent) ⌝ }
+    ensures { λ t. ⌜ linkSays (t .answer) ≡ hearSays x (now (row .entry)) (now (message .entry)) (now (buffer .entry)) (length (now (out .entry))) ⌝ }
 {
     let r = x.reader;
     let link = x.link;
     if !frame_due(link, r) {
         return declines(x, Refusal::NotDue);
     }
-    if out.len() < 2304 {
+    if out.len() < limits::ROW_ROOM {
         return declines(x, Refusal::Room);
     }
     hear_due(x, row, message, buffer, out)
@@ -299,13 +302,14 @@ fn is_new(link: Link, r: Reader) -> bool
 fn start(sweeps: bool, x: LinkReader, out: &mut [u8]) -> LinkTurn
     ensures { λ t. ⌜ t ≡ startCall sweeps x (length (now (out .entry))) .turn ⌝ }
     ensures { λ _. ⌜ now (out .exit) ≡ overlay (now (out .entry)) 0 (startCall sweeps x (length (now (out .entry))) .sent) ⌝ }
+    ensures { λ t. ⌜ linkSays (t .answer) ≡ startSays x (length (now (out .entry))) ⌝ }
 {
     let r = x.reader;
     let link = x.link;
     if !is_new(link, r) {
         return declines(x, Refusal::NotDue);
     }
-    if out.len() < 2304 {
+    if out.len() < limits::ROW_ROOM {
         return declines(x, Refusal::Room);
     }
     let t = reader::within::sends(reader::within::blank(Phase::ReqaSent, sweeps));
@@ -316,6 +320,7 @@ fn start(sweeps: bool, x: LinkReader, out: &mut [u8]) -> LinkTurn
 pub fn select(x: LinkReader, out: &mut [u8]) -> LinkTurn
     ensures { λ t. ⌜ t ≡ startCall false x (length (now (out .entry))) .turn ⌝ }
     ensures { λ _. ⌜ now (out .exit) ≡ overlay (now (out .entry)) 0 (startCall false x (length (now (out .entry))) .sent) ⌝ }
+    ensures { λ t. ⌜ linkSays (t .answer) ≡ startSays x (length (now (out .entry))) ⌝ }
 {
     start(false, x, out)
 }
@@ -324,6 +329,7 @@ pub fn select(x: LinkReader, out: &mut [u8]) -> LinkTurn
 pub fn start_sweep(x: LinkReader, out: &mut [u8]) -> LinkTurn
     ensures { λ t. ⌜ t ≡ startCall true x (length (now (out .entry))) .turn ⌝ }
     ensures { λ _. ⌜ now (out .exit) ≡ overlay (now (out .entry)) 0 (startCall true x (length (now (out .entry))) .sent) ⌝ }
+    ensures { λ t. ⌜ linkSays (t .answer) ≡ startSays x (length (now (out .entry))) ⌝ }
 {
     start(true, x, out)
 }
@@ -368,13 +374,14 @@ fn rats_due(link: Link, r: Reader) -> bool
 pub fn rats(x: LinkReader, index: u8, out: &mut [u8]) -> LinkTurn
     ensures { λ t. ⌜ t ≡ ratsCall x index (length (now (out .entry))) .turn ⌝ }
     ensures { λ _. ⌜ now (out .exit) ≡ overlay (now (out .entry)) 0 (ratsCall x index (length (now (out .entry))) .sent) ⌝ }
+    ensures { λ t. ⌜ linkSays (t .answer) ≡ ratsSays x index (length (now (out .entry))) ⌝ }
 {
     let r = x.reader;
     let link = x.link;
     if !rats_due(link, r) {
         return declines(x, Refusal::NotDue);
     }
-    if out.len() < 2304 {
+    if out.len() < limits::ROW_ROOM {
         return declines(x, Refusal::Room);
     }
     if index > 8 {
@@ -406,7 +413,7 @@ fn is_between(link: Link) -> bool
 }
 
 fn send_due(x: LinkReader, message: &[u8], out: &mut [u8]) -> LinkTurn
-    requires { ⌜ 2304 ≤ length (now out) ⌝ }
+    requires { ⌜ rowRoom ≤ length (now out) ⌝ }
     ensures { λ t. ⌜ t ≡ sendIn (x .link) x (now (message .entry)) .turn ⌝ }
     ensures { λ _. ⌜ now (out .exit) ≡ overlay (now (out .entry)) 0 (sendIn (x .link) x (now (message .entry)) .sent) ⌝ }
 {
@@ -426,19 +433,20 @@ fn send_due(x: LinkReader, message: &[u8], out: &mut [u8]) -> LinkTurn
 pub fn send(x: LinkReader, message: &[u8], out: &mut [u8]) -> LinkTurn
     ensures { λ t. ⌜ t ≡ sendCall x (now (message .entry)) (length (now (out .entry))) .turn ⌝ }
     ensures { λ _. ⌜ now (out .exit) ≡ overlay (now (out .entry)) 0 (sendCall x (now (message .entry)) (length (now (out .entry))) .sent) ⌝ }
+    ensures { λ t. ⌜ linkSays (t .answer) ≡ sendSays x (now (message .entry)) (length (now (out .entry))) ⌝ }
 {
     let link = x.link;
     if !is_between(link) {
         return declines(x, Refusal::NotDue);
     }
-    if out.len() < 2304 {
+    if out.len() < limits::ROW_ROOM {
         return declines(x, Refusal::Room);
     }
     send_due(x, message, out)
 }
 
 fn deselect_due(x: LinkReader, out: &mut [u8]) -> LinkTurn
-    requires { ⌜ 2304 ≤ length (now out) ⌝ }
+    requires { ⌜ rowRoom ≤ length (now out) ⌝ }
     ensures { λ t. ⌜ t ≡ deselectIn (x .link) x .turn ⌝ }
     ensures { λ _. ⌜ now (out .exit) ≡ overlay (now (out .entry)) 0 (deselectIn (x .link) x .sent) ⌝ }
 {
@@ -459,12 +467,13 @@ fn deselect_due(x: LinkReader, out: &mut [u8]) -> LinkTurn
 pub fn deselect(x: LinkReader, out: &mut [u8]) -> LinkTurn
     ensures { λ t. ⌜ t ≡ deselectCall x (length (now (out .entry))) .turn ⌝ }
     ensures { λ _. ⌜ now (out .exit) ≡ overlay (now (out .entry)) 0 (deselectCall x (length (now (out .entry))) .sent) ⌝ }
+    ensures { λ t. ⌜ linkSays (t .answer) ≡ deselectSays x (length (now (out .entry))) ⌝ }
 {
     let link = x.link;
     if !is_between(link) {
         return declines(x, Refusal::NotDue);
     }
-    if out.len() < 2304 {
+    if out.len() < limits::ROW_ROOM {
         return declines(x, Refusal::Room);
     }
     deselect_due(x, out)

@@ -1,20 +1,12 @@
-use native.Mathlib.Omega.{arith}
 use borrow.Author.Needs.{needs}
-use Rattle.block.specs.CutLaws.{payload-most}
 use Rattle.card_blocks.proofs.next.Statement.{statement}
 use Rattle.card_blocks.proofs.next.Tie as tie
 
 enum-told : tie.Need-enum-told
 enum-told c = search needs
 
-payload-max-requires : tie.Need-payload-max-requires
-payload-max-requires c κs = search needs
-
-add-sends-i : tie.Need-add-sends-i
-add-sends-i c = omega (arith, c .before .payload-max .ensures, payload-most (c .before .before .before .before .before .args .c .reader))
-
-sends-i-requires : tie.Need-sends-i-requires
-sends-i-requires c κs = search needs
+next-i-requires : tie.Need-next-i-requires
+next-i-requires c κs = search needs
 
 enum-told-2 : tie.Need-enum-told-2
 enum-told-2 c = search needs
@@ -35,7 +27,7 @@ silent-requires-3 : tie.Need-silent-requires-3
 silent-requires-3 c κs = search needs
 
 returns : tie.Need-returns
-returns c = rw (c .sends-i .ensures, c .before .before .payload-max .ensures, c .before .before .before .before .enum-told .given .1)
+returns c = rw (c .before .enum-told .given .1) (c .next-i .ensures)
 
 returns-2 : tie.Need-returns-2
 returns-2 c = rw (c .silent .ensures, c .before .enum-told2 .given .1)
@@ -51,9 +43,7 @@ next-spec =
     tie.close
     (tie.spec
     enum-told
-    payload-max-requires
-    add-sends-i
-    sends-i-requires
+    next-i-requires
     enum-told-2
     silent-requires
     enum-told-3

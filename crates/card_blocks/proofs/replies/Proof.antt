@@ -2,6 +2,7 @@ use borrow.Author.Tests.{lt-leb, le-leb}
 use native.Mathlib.Omega.{arith}
 use mathlib.Core.Path.{sym, _∙_}
 use borrow.Author.Needs.{needs}
+use Rattle.limits.specs.Limits.{messageMax}
 use Rattle.card_blocks.specs.CardRules.{cardReplies}
 use Rattle.card_blocks.proofs.replies.Statement.{statement}
 use Rattle.card_blocks.proofs.replies.Tie as tie
@@ -14,14 +15,14 @@ sends-i-requires c κs = search needs
 
 returns : tie.Need-returns
 unfolding cardReplies
-returns c = rw (c .sends-i .ensures, sym (c .before .before .before .owes-answer .ensures) ∙ c .before .before .if1 .taken, le-leb (c .before .before .before .before .args .len) 4096 (omega arith))
+returns c = rw (c .sends-i .ensures, sym (c .before .before .before .owes-answer .ensures) ∙ c .before .before .if1 .taken, le-leb (c .before .before .before .before .args .len) messageMax (omega arith))
 
 silent-requires : tie.Need-silent-requires
 silent-requires c κs = search needs
 
 returns-2 : tie.Need-returns-2
 unfolding cardReplies
-returns-2 c = rw (c .silent .ensures, sym (c .before .before .before .owes-answer .ensures) ∙ c .before .before .if1 .taken, lt-leb (c .before .before .before .before .args .len) 4096 (omega arith))
+returns-2 c = rw (c .silent .ensures, sym (c .before .before .before .owes-answer .ensures) ∙ c .before .before .if1 .taken, lt-leb (c .before .before .before .before .args .len) messageMax (omega arith))
 
 silent-requires-2 : tie.Need-silent-requires-2
 silent-requires-2 c κs = search needs

@@ -48,7 +48,7 @@ returns : tie.Need-returns
 returns c = rw (c .takes-i .ensures, c .before .before .b .given .1)
 
 returns-2 : tie.Need-returns-2
-returns-2 c = rw (c .takes-ack .ensures, c .before .before .b2 .given .1)
+returns-2 c = rw (c .before .before .b2 .given .1) (c .takes-ack .ensures)
 
 returns-3 : tie.Need-returns-3
 returns-3 c = rw (c .takes-nak .ensures, c .before .before .b3 .given .1)

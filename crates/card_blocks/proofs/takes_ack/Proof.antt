@@ -15,7 +15,7 @@ next-requires c κs = search needs
 
 returns-2 : tie.Need-returns-2
 unfolding cardTakesAck
-returns-2 c = rw (c .next .ensures, c .before .if1 .left)
+returns-2 c = rw (c .before .if1 .left) (c .next .ensures)
 
 pub takes-ack-spec : {M : Type 1} → statement M
 takes-ack-spec = tie.close (tie.spec sends-requires returns next-requires returns-2)

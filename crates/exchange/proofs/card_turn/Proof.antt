@@ -13,7 +13,7 @@ same-length-2 : tie.Need-same-length-2
 same-length-2 c = search needs
 
 returns : tie.Need-returns
-returns c = rw (c .before .before .before .before .before .before .before .if1 .taken) (c .before .before .before .before .take .ensures)
+returns c = rw (c .before .before .before .before .before .before .before .if1 .taken) (let e = c .before .before .before .before .take .ensures in (e .0, (e .1 .0, e .1 .1 .0)))
 
 take-requires-2 : tie.Need-take-requires-2
 take-requires-2 c κs = search needs
@@ -25,7 +25,7 @@ same-length-4 : tie.Need-same-length-4
 same-length-4 c = search needs
 
 returns-2 : tie.Need-returns-2
-returns-2 c = rw (c .before .before .before .before .before .before .before .if1 .left) (c .before .before .before .before .take2 .ensures)
+returns-2 c = rw (c .before .before .before .before .before .before .before .if1 .left) (let e = c .before .before .before .before .take2 .ensures in (e .0, (e .1 .0, e .1 .1 .0)))
 
 pub card-turn-spec : {M : Type 1} → statement M
 card-turn-spec =

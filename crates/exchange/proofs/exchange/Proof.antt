@@ -29,7 +29,8 @@ begin-requires c κs = tt
 loop-holds : tie.Need-loop-holds Inv-loop μ-loop
 loop-holds c =
     let a = c .before .before .before .before .before .before .before .before .before .args in
-    under-none (a .reader) (a .card) (now (a .message)) (now (a .before)) (now (a .answer)) (a .rounds) (now (a .down)) (now (a .up)) _ _ (c .before .before .send .result) (c .begin .result) (search needs) (c .before .before .send .kept .1 .1 .0) (c .before .before .send .ensures) (c .begin .ensures)
+    let s = c .before .before .send .ensures in
+    under-none (a .reader) (a .card) (now (a .message)) (now (a .before)) (now (a .answer)) (a .rounds) (now (a .down)) (now (a .up)) _ _ (c .before .before .send .result) (c .begin .result) (search needs) (c .before .before .send .kept .1 .1 .0) (s .0, s .1 .0) (c .begin .ensures)
 
 goes-on-requires : tie.Need-goes-on-requires Inv-loop μ-loop
 goes-on-requires c κs = tt
@@ -68,10 +69,11 @@ returns c =
     let l = c .before .before .before .loop in
     let a = c .before .before .before .before .before .before .before .before .before .before .before .before .before .args in
     let o = c .done .result in
+    let s = c .before .before .before .before .before .before .send .ensures in
     let e : outcomeOf o (now (a .before)) (now (a .answer)) (l .down) (l .up) ≡ exchangeOf (a .reader) (a .card) (now (a .message)) (now (a .before)) (now (a .answer)) (a .rounds) (now (a .down)) (now (a .up)) =
     ap (λ o. outcomeOf o (now (a .before)) (now (a .answer)) (l .down) (l .up)) (c .done .ensures)
     ∙ under-done (now (a .message)) (now (a .before)) (now (a .answer)) (a .rounds) (now (a .down)) (now (a .up)) _ (l .p) (l .down) (l .up) (l .row) (l .inv) (sym (c .before .before .goes-on .ensures) ∙ c .before .if1 .left)
-    ∙ rest-first (a .reader) (a .card) (now (a .message)) (now (a .before)) (now (a .answer)) (a .rounds) (now (a .down)) (now (a .up)) _ _ (c .before .before .before .before .before .before .send .result) (c .before .before .before .before .begin .result) (search needs) (c .before .before .before .before .before .before .send .kept .1 .1 .0) (c .before .before .before .before .before .before .send .ensures) (c .before .before .before .before .begin .ensures) in
+    ∙ rest-first (a .reader) (a .card) (now (a .message)) (now (a .before)) (now (a .answer)) (a .rounds) (now (a .down)) (now (a .up)) _ _ (c .before .before .before .before .before .before .send .result) (c .before .before .before .before .begin .result) (search needs) (c .before .before .before .before .before .before .send .kept .1 .1 .0) (s .0, s .1 .0) (c .before .before .before .before .begin .ensures) in
     (e, exchanges (a .reader) (a .card) (now (a .message)) (now (a .before)) (now (a .answer)) (a .rounds) (now (a .down)) (now (a .up)) (l .down) (l .up) o (bytes-at (now (a .message)) (c .before .before .before .before .before .before .before .before .before .before .before .before .shared-slice-known .given)) (bytes-at (now (a .before)) (c .before .before .before .before .before .before .before .before .before .before .before .shared-slice-known2 .given)) (bytes-at (now (a .answer)) (c .before .before .before .before .before .before .before .before .before .before .shared-slice-known3 .given)) e)
 
 pub exchange-spec : {M : Type 1} → statement M

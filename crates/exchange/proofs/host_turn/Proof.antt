@@ -20,7 +20,7 @@ returns : tie.Need-returns
 unfolding hosted hostedRow
 returns c =
     let o : owing (c .before .before .before .before .before .before .before .before .before .args .y) ≡ true = sym (c .before .before .before .before .before .before .is-owing .ensures) ∙ c .before .before .before .before .before .if1 .taken in
-    rw (o, c .before .before .before .reply .ensures .0) (refl, c .before .before .before .reply .ensures .1)
+    rw (o, c .before .before .before .reply .ensures .0) (refl, c .before .before .before .reply .ensures .1 .0)
 
 returns-2 : tie.Need-returns-2
 unfolding hosted hostedRow

@@ -56,7 +56,8 @@ same-length-3 c = search needs
 returns : tie.Need-returns
 returns c =
     let a = c .before .before .before .before .before .before .before .before .before .before .before .before .before .before .before .before .before .before .before .before .before .before .before .before .before .before .before .before .args in
-    round-made (a .p) (now (a .message)) (now (a .before)) (now (a .answer)) (now (a .down)) (now (a .up)) (now (a .row)) _ _ _ _ _ _ (search needs) (c .before .before .before .before .before .before .before .before .before .before .before .before .before .before .before .before .card-turn .kept .1 .1 .1 .1 .1 .1 .0) (c .before .before .before .before .before .before .before .before .before .before .before .before .before .before .before .before .card-turn .ensures) (c .before .before .before .before .before .before .before .before .before .before .host-turn .ensures) _ _ _ (c .before .before .before .before .before .before .before .before .before .before .before .before .before .before .before .before .card-turn .kept .1 .1 .1 .1 .1 .0) (c .before .before .before .before .before .before .before .before .before .before .before .before .before .before .before .before .before .before .before .before .before .before .before .before .before .before .before .before .pre .2) (c .before .before .before .before .before .hear .kept .1 .1 .1 .1 .0) (c .before .before .before .before .before .hear .ensures) (c .advance .result) (c .advance .ensures) (c .before .before .before .before .before .before .before .before .before .before .before .before .before .before .before .before .before .before .before .before .before .before .before .before .before .before .before .before .pre .0)
+    let e = c .before .before .before .before .before .hear .ensures in
+    round-made (a .p) (now (a .message)) (now (a .before)) (now (a .answer)) (now (a .down)) (now (a .up)) (now (a .row)) _ _ _ _ _ _ (search needs) (c .before .before .before .before .before .before .before .before .before .before .before .before .before .before .before .before .card-turn .kept .1 .1 .1 .1 .1 .1 .0) (c .before .before .before .before .before .before .before .before .before .before .before .before .before .before .before .before .card-turn .ensures) (c .before .before .before .before .before .before .before .before .before .before .host-turn .ensures) _ _ _ (c .before .before .before .before .before .before .before .before .before .before .before .before .before .before .before .before .card-turn .kept .1 .1 .1 .1 .1 .0) (c .before .before .before .before .before .before .before .before .before .before .before .before .before .before .before .before .before .before .before .before .before .before .before .before .before .before .before .before .pre .2) (c .before .before .before .before .before .hear .kept .1 .1 .1 .1 .0) (e .0, (e .1 .0, e .1 .1 .0)) (c .advance .result) (c .advance .ensures) (c .before .before .before .before .before .before .before .before .before .before .before .before .before .before .before .before .before .before .before .before .before .before .before .before .before .before .before .before .pre .0)
 
 pub round-spec : {M : Type 1} → statement M
 round-spec =

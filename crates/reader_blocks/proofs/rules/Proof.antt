@@ -51,7 +51,7 @@ returns : tie.Need-returns
 returns c = rw (c .takes-i .ensures, c .before .before .b .given .1)
 
 returns-2 : tie.Need-returns-2
-returns-2 c = rw (c .takes-ack .ensures, c .before .before .b2 .given .1)
+returns-2 c = rw (c .before .before .b2 .given .1) (c .takes-ack .ensures)
 
 returns-3 : tie.Need-returns-3
 returns-3 c = rw (c .stop .ensures, c .before .enum-told .given .1)

@@ -2,6 +2,7 @@ use borrow.Author.Tests.{lt-leb, le-leb}
 use native.Mathlib.Omega.{arith}
 use mathlib.Core.Path.{sym, _∙_}
 use borrow.Author.Needs.{needs}
+use Rattle.limits.specs.Limits.{messageMax}
 use Rattle.reader_blocks.specs.ReaderRules.{readerStarts}
 use Rattle.reader_blocks.proofs.starts.Statement.{statement}
 use Rattle.reader_blocks.proofs.starts.Tie as tie
@@ -14,14 +15,14 @@ sends-i-requires c κs = search needs
 
 returns : tie.Need-returns
 unfolding readerStarts
-returns c = rw (c .sends-i .ensures, sym (c .before .before .before .is-open .ensures) ∙ c .before .before .if1 .taken, le-leb (c .before .before .before .before .args .len) 4096 (omega arith))
+returns c = rw (c .sends-i .ensures, sym (c .before .before .before .is-open .ensures) ∙ c .before .before .if1 .taken, le-leb (c .before .before .before .before .args .len) messageMax (omega arith))
 
 keeps-requires : tie.Need-keeps-requires
 keeps-requires c κs = search needs
 
 returns-2 : tie.Need-returns-2
 unfolding readerStarts
-returns-2 c = rw (c .keeps .ensures, sym (c .before .before .before .is-open .ensures) ∙ c .before .before .if1 .taken, lt-leb (c .before .before .before .before .args .len) 4096 (omega arith))
+returns-2 c = rw (c .keeps .ensures, sym (c .before .before .before .is-open .ensures) ∙ c .before .before .if1 .taken, lt-leb (c .before .before .before .before .args .len) messageMax (omega arith))
 
 keeps-requires-2 : tie.Need-keeps-requires-2
 keeps-requires-2 c κs = search needs

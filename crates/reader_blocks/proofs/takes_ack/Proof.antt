@@ -8,7 +8,7 @@ ack-own-requires c κs = search needs
 
 returns : tie.Need-returns
 unfolding readerTakesAck
-returns c = rw (c .ack-own .ensures, c .before .if1 .taken)
+returns c = rw (c .before .if1 .taken) (c .ack-own .ensures)
 
 ack-other-requires : tie.Need-ack-other-requires
 ack-other-requires c κs = search needs

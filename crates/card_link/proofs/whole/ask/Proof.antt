@@ -6,6 +6,7 @@ use borrow.Author.Tests.{not-true, not-false}
 use Rattle.card_blocks.specs.CardFrames.{cardOut, cardWtx}
 use Rattle.card_link.specs.CardCalls.{withRow, owing, askCall}
 use Rattle.card_link.specs.WholeLaws.{two, two-not-due, two-room, two-due}
+use Rattle.card_link.specs.SaysLaws.{ask-said}
 use borrow.Author.Needs.{needs}
 use Rattle.card_link.proofs.whole.ask.Statement.{statement}
 use Rattle.card_link.proofs.whole.ask.Tie as tie
@@ -20,7 +21,8 @@ returns : tie.Need-returns
 unfolding askCall
 returns c =
     let a = c .before .before .before .before .args in
-    two-not-due (owing (a .x)) (a .x) _ (now (a .out)) (sym (c .before .before .is-owing .ensures) ∙ not-true _ (c .before .if1 .taken)) (c .declines .ensures)
+    ask-said (a .x) (a .wtx) (now (a .out))
+    (two-not-due (owing (a .x)) (a .x) _ (now (a .out)) (sym (c .before .before .is-owing .ensures) ∙ not-true _ (c .before .if1 .taken)) (c .declines .ensures))
 
 declines-requires-2 : tie.Need-declines-requires-2
 declines-requires-2 c κs = search needs
@@ -29,7 +31,8 @@ returns-2 : tie.Need-returns-2
 unfolding askCall
 returns-2 c =
     let a = c .before .before .before .before .before .args in
-    two-room (owing (a .x)) (a .x) _ (now (a .out)) (sym (c .before .before .before .is-owing .ensures) ∙ not-false _ (c .before .before .if1 .left)) (c .before .if2 .taken) (c .declines2 .ensures)
+    ask-said (a .x) (a .wtx) (now (a .out))
+    (two-room (owing (a .x)) (a .x) _ (now (a .out)) (sym (c .before .before .before .is-owing .ensures) ∙ not-false _ (c .before .before .if1 .left)) (c .before .if2 .taken) (c .declines2 .ensures))
 
 asks-requires : tie.Need-asks-requires
 asks-requires c κs = search needs
@@ -47,7 +50,8 @@ returns-3 : tie.Need-returns-3
 unfolding askCall cardWtx
 returns-3 c =
     let a = c .before .before .before .before .before .before .before .before .before .before .before .before .args in
-    two-due (owing (a .x)) (a .x) _ (now (a .out)) (sym (c .before .before .before .before .before .before .before .before .before .before .is-owing .ensures) ∙ not-false _ (c .before .before .before .before .before .before .before .before .before .if1 .left)) (c .before .before .before .before .before .before .before .before .if2 .left) (two (now (a .out)) (ap (λ s. withRow (a .x .card) (cardOut s [] [] 0 [])) (c .before .before .before .before .before .asks .ensures)) (c .before .before .finish .ensures))
+    ask-said (a .x) (a .wtx) (now (a .out))
+    (two-due (owing (a .x)) (a .x) _ (now (a .out)) (sym (c .before .before .before .before .before .before .before .before .before .before .is-owing .ensures) ∙ not-false _ (c .before .before .before .before .before .before .before .before .before .if1 .left)) (c .before .before .before .before .before .before .before .before .if2 .left) (two (now (a .out)) (ap (λ s. withRow (a .x .card) (cardOut s [] [] 0 [])) (c .before .before .before .before .before .asks .ensures)) (c .before .before .finish .ensures)))
 
 pub ask-spec : {M : Type 1} → statement M
 ask-spec =

@@ -1,4 +1,7 @@
-use mathlib.Core.Path.{ap}
+use mathlib.Core.Path.{ap, _∙_}
+use denote.Ref.{now}
+use Rattle.card_link.specs.CardSays.{madeSays}
+use Rattle.card_link.specs.SaysLaws.{new-says}
 use borrow.Author.Needs.{needs}
 use Rattle.card_link.proofs.whole.new_card.Statement.{statement}
 use Rattle.card_link.proofs.whole.new_card.Tie as tie
@@ -10,7 +13,10 @@ open-requires : tie.Need-open-requires
 open-requires c κs = search needs
 
 returns : tie.Need-returns
-returns c = (ap (λ n. n .card) (c .before .before .new-card .ensures), (c .open .ensures, ap (λ n. n .made) (c .before .before .new-card .ensures)))
+returns c =
+    let a = c .before .before .before .before .args in
+    let e = c .before .before .new-card .ensures in
+    (ap (λ n. n .card) e, (c .open .ensures, (ap (λ n. n .made) e, ap (λ n. madeSays (n .made)) e ∙ new-says (now (a .bytes)) (a .blocks) (a .index))))
 
 pub new-card-spec : {M : Type 1} → statement M
 new-card-spec = tie.close (tie.spec new-card-requires open-requires returns)

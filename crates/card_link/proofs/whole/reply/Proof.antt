@@ -6,6 +6,7 @@ use borrow.Author.Tests.{not-true, not-false}
 use Rattle.card_blocks.specs.CardFrames.{cardOut, cardReply}
 use Rattle.card_link.specs.CardCalls.{withRow, owing, replyCall}
 use Rattle.card_link.specs.WholeLaws.{two, two-not-due, two-room, two-due}
+use Rattle.card_link.specs.SaysLaws.{reply-said}
 use borrow.Author.Needs.{needs}
 use Rattle.card_link.proofs.whole.reply.Statement.{statement}
 use Rattle.card_link.proofs.whole.reply.Tie as tie
@@ -20,7 +21,8 @@ returns : tie.Need-returns
 unfolding replyCall
 returns c =
     let a = c .before .before .before .before .before .args in
-    two-not-due (owing (a .x)) (a .x) _ (now (a .out)) (sym (c .before .before .is-owing .ensures) ∙ not-true _ (c .before .if1 .taken)) (c .declines .ensures)
+    reply-said (a .x) (now (a .answer)) (now (a .out))
+    (two-not-due (owing (a .x)) (a .x) _ (now (a .out)) (sym (c .before .before .is-owing .ensures) ∙ not-true _ (c .before .if1 .taken)) (c .declines .ensures))
 
 declines-requires-2 : tie.Need-declines-requires-2
 declines-requires-2 c κs = search needs
@@ -29,7 +31,8 @@ returns-2 : tie.Need-returns-2
 unfolding replyCall
 returns-2 c =
     let a = c .before .before .before .before .before .before .args in
-    two-room (owing (a .x)) (a .x) _ (now (a .out)) (sym (c .before .before .before .is-owing .ensures) ∙ not-false _ (c .before .before .if1 .left)) (c .before .if2 .taken) (c .declines2 .ensures)
+    reply-said (a .x) (now (a .answer)) (now (a .out))
+    (two-room (owing (a .x)) (a .x) _ (now (a .out)) (sym (c .before .before .before .is-owing .ensures) ∙ not-false _ (c .before .before .if1 .left)) (c .before .if2 .taken) (c .declines2 .ensures))
 
 replies-requires : tie.Need-replies-requires
 replies-requires c κs = search needs
@@ -44,7 +47,8 @@ returns-3 : tie.Need-returns-3
 unfolding replyCall cardReply
 returns-3 c =
     let a = c .before .before .before .before .before .before .before .before .before .before .before .before .args in
-    two-due (owing (a .x)) (a .x) _ (now (a .out)) (sym (c .before .before .before .before .before .before .before .before .before .is-owing .ensures) ∙ not-false _ (c .before .before .before .before .before .before .before .before .if1 .left)) (c .before .before .before .before .before .before .before .if2 .left) (two (now (a .out)) (ap (λ s. withRow (a .x .card) (cardOut s (now (a .answer)) [] 0 [])) (c .before .before .before .before .replies .ensures)) (c .before .before .finish .ensures))
+    reply-said (a .x) (now (a .answer)) (now (a .out))
+    (two-due (owing (a .x)) (a .x) _ (now (a .out)) (sym (c .before .before .before .before .before .before .before .before .before .is-owing .ensures) ∙ not-false _ (c .before .before .before .before .before .before .before .before .if1 .left)) (c .before .before .before .before .before .before .before .if2 .left) (two (now (a .out)) (ap (λ s. withRow (a .x .card) (cardOut s (now (a .answer)) [] 0 [])) (c .before .before .before .before .replies .ensures)) (c .before .before .finish .ensures)))
 
 pub reply-spec : {M : Type 1} → statement M
 reply-spec =

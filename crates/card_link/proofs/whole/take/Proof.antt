@@ -2,6 +2,7 @@
 use mathlib.Core.Path.{sym, _∙_}
 use denote.Ref.{now}
 use Rattle.card_link.specs.WholeLaws.{take-not-due, take-room, take-due}
+use Rattle.card_link.specs.SaysLaws.{take-said}
 use borrow.Author.Needs.{needs}
 use Rattle.card_link.proofs.whole.take.Statement.{statement}
 use Rattle.card_link.proofs.whole.take.Tie as tie
@@ -15,7 +16,8 @@ declines-requires c κs = search needs
 returns : tie.Need-returns
 returns c =
     let a = c .before .before .before .before .before .before .before .args in
-    take-not-due (a .x) (now (a .row)) (now (a .answer)) (now (a .buffer)) (now (a .out)) (sym (c .before .before .is-owing .ensures) ∙ c .before .if1 .taken) (c .declines .ensures)
+    take-said (a .x) (now (a .row)) (now (a .answer)) (now (a .buffer)) (now (a .out))
+    (take-not-due (a .x) (now (a .row)) (now (a .answer)) (now (a .buffer)) (now (a .out)) (sym (c .before .before .is-owing .ensures) ∙ c .before .if1 .taken) (c .declines .ensures))
 
 declines-requires-2 : tie.Need-declines-requires-2
 declines-requires-2 c κs = search needs
@@ -23,7 +25,8 @@ declines-requires-2 c κs = search needs
 returns-2 : tie.Need-returns-2
 returns-2 c =
     let a = c .before .before .before .before .before .before .before .before .args in
-    take-room (a .x) (now (a .row)) (now (a .answer)) (now (a .buffer)) (now (a .out)) (sym (c .before .before .before .is-owing .ensures) ∙ c .before .before .if1 .left) (c .before .if2 .taken) (c .declines2 .ensures)
+    take-said (a .x) (now (a .row)) (now (a .answer)) (now (a .buffer)) (now (a .out))
+    (take-room (a .x) (now (a .row)) (now (a .answer)) (now (a .buffer)) (now (a .out)) (sym (c .before .before .before .is-owing .ensures) ∙ c .before .before .if1 .left) (c .before .if2 .taken) (c .declines2 .ensures))
 
 take-due-requires : tie.Need-take-due-requires
 take-due-requires c κs = search needs
@@ -37,7 +40,8 @@ same-length-2 c = search needs
 returns-3 : tie.Need-returns-3
 returns-3 c =
     let a = c .before .before .before .before .before .before .before .before .before .before .before .before .before .before .args in
-    take-due (a .x) (now (a .row)) (now (a .answer)) (now (a .buffer)) (now (a .out)) (sym (c .before .before .before .before .before .before .before .before .before .is-owing .ensures) ∙ c .before .before .before .before .before .before .before .before .if1 .left) (c .before .before .before .before .before .before .before .if2 .left) (c .before .before .before .before .take-due .ensures)
+    take-said (a .x) (now (a .row)) (now (a .answer)) (now (a .buffer)) (now (a .out))
+    (take-due (a .x) (now (a .row)) (now (a .answer)) (now (a .buffer)) (now (a .out)) (sym (c .before .before .before .before .before .before .before .before .before .is-owing .ensures) ∙ c .before .before .before .before .before .before .before .before .if1 .left) (c .before .before .before .before .before .before .before .if2 .left) (c .before .before .before .before .take-due .ensures))
 
 pub take-spec : {M : Type 1} → statement M
 take-spec =

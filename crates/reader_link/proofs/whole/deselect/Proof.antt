@@ -4,6 +4,7 @@ use denote.Ref.{now}
 use borrow.Author.Tests.{not-true, not-false}
 use Rattle.reader_link.specs.ReaderCalls.{between, deselectCall}
 use Rattle.reader_link.specs.WholeLaws.{two-not-due, two-no-room, two-is-due}
+use Rattle.reader_link.specs.SaysLaws.{deselect-said}
 use borrow.Author.Needs.{needs}
 use Rattle.reader_link.proofs.whole.deselect.Statement.{statement}
 use Rattle.reader_link.proofs.whole.deselect.Tie as tie
@@ -18,7 +19,8 @@ returns : tie.Need-returns
 unfolding deselectCall
 returns c =
     let a = c .before .before .before .before .args in
-    two-not-due (between (a .x .link)) (a .x) _ (now (a .out)) (sym (c .before .before .is-between .ensures) ∙ not-true _ (c .before .if1 .taken)) (c .declines .ensures)
+    deselect-said (a .x) (now (a .out))
+    (two-not-due (between (a .x .link)) (a .x) _ (now (a .out)) (sym (c .before .before .is-between .ensures) ∙ not-true _ (c .before .if1 .taken)) (c .declines .ensures))
 
 declines-requires-2 : tie.Need-declines-requires-2
 declines-requires-2 c κs = search needs
@@ -27,7 +29,8 @@ returns-2 : tie.Need-returns-2
 unfolding deselectCall
 returns-2 c =
     let a = c .before .before .before .before .before .args in
-    two-no-room (between (a .x .link)) (a .x) _ (now (a .out)) (sym (c .before .before .before .is-between .ensures) ∙ not-false _ (c .before .before .if1 .left)) (c .before .if2 .taken) (c .declines2 .ensures)
+    deselect-said (a .x) (now (a .out))
+    (two-no-room (between (a .x .link)) (a .x) _ (now (a .out)) (sym (c .before .before .before .is-between .ensures) ∙ not-false _ (c .before .before .if1 .left)) (c .before .if2 .taken) (c .declines2 .ensures))
 
 deselect-due-requires : tie.Need-deselect-due-requires
 deselect-due-requires c κs = search needs
@@ -39,7 +42,8 @@ returns-3 : tie.Need-returns-3
 unfolding deselectCall
 returns-3 c =
     let a = c .before .before .before .before .before .before .before .before .args in
-    two-is-due (between (a .x .link)) (a .x) _ (now (a .out)) (sym (c .before .before .before .before .before .before .is-between .ensures) ∙ not-false _ (c .before .before .before .before .before .if1 .left)) (c .before .before .before .before .if2 .left) (c .before .before .deselect-due .ensures)
+    deselect-said (a .x) (now (a .out))
+    (two-is-due (between (a .x .link)) (a .x) _ (now (a .out)) (sym (c .before .before .before .before .before .before .is-between .ensures) ∙ not-false _ (c .before .before .before .before .before .if1 .left)) (c .before .before .before .before .if2 .left) (c .before .before .deselect-due .ensures))
 
 pub deselect-spec : {M : Type 1} → statement M
 deselect-spec =

@@ -4,6 +4,7 @@ use denote.Ref.{now}
 use borrow.Author.Tests.{not-true, not-false}
 use Rattle.reader_link.specs.ReaderCalls.{between, sendCall}
 use Rattle.reader_link.specs.WholeLaws.{two-not-due, two-no-room, two-is-due}
+use Rattle.reader_link.specs.SaysLaws.{send-said}
 use borrow.Author.Needs.{needs}
 use Rattle.reader_link.proofs.whole.send.Statement.{statement}
 use Rattle.reader_link.proofs.whole.send.Tie as tie
@@ -18,7 +19,8 @@ returns : tie.Need-returns
 unfolding sendCall
 returns c =
     let a = c .before .before .before .before .before .args in
-    two-not-due (between (a .x .link)) (a .x) _ (now (a .out)) (sym (c .before .before .is-between .ensures) ∙ not-true _ (c .before .if1 .taken)) (c .declines .ensures)
+    send-said (a .x) (now (a .out)) (now (a .message))
+    (two-not-due (between (a .x .link)) (a .x) _ (now (a .out)) (sym (c .before .before .is-between .ensures) ∙ not-true _ (c .before .if1 .taken)) (c .declines .ensures))
 
 declines-requires-2 : tie.Need-declines-requires-2
 declines-requires-2 c κs = search needs
@@ -27,7 +29,8 @@ returns-2 : tie.Need-returns-2
 unfolding sendCall
 returns-2 c =
     let a = c .before .before .before .before .before .before .args in
-    two-no-room (between (a .x .link)) (a .x) _ (now (a .out)) (sym (c .before .before .before .is-between .ensures) ∙ not-false _ (c .before .before .if1 .left)) (c .before .if2 .taken) (c .declines2 .ensures)
+    send-said (a .x) (now (a .out)) (now (a .message))
+    (two-no-room (between (a .x .link)) (a .x) _ (now (a .out)) (sym (c .before .before .before .is-between .ensures) ∙ not-false _ (c .before .before .if1 .left)) (c .before .if2 .taken) (c .declines2 .ensures))
 
 send-due-requires : tie.Need-send-due-requires
 send-due-requires c κs = search needs
@@ -39,7 +42,8 @@ returns-3 : tie.Need-returns-3
 unfolding sendCall
 returns-3 c =
     let a = c .before .before .before .before .before .before .before .before .before .args in
-    two-is-due (between (a .x .link)) (a .x) _ (now (a .out)) (sym (c .before .before .before .before .before .before .is-between .ensures) ∙ not-false _ (c .before .before .before .before .before .if1 .left)) (c .before .before .before .before .if2 .left) (c .before .before .send-due .ensures)
+    send-said (a .x) (now (a .out)) (now (a .message))
+    (two-is-due (between (a .x .link)) (a .x) _ (now (a .out)) (sym (c .before .before .before .before .before .before .is-between .ensures) ∙ not-false _ (c .before .before .before .before .before .if1 .left)) (c .before .before .before .before .if2 .left) (c .before .before .send-due .ensures))
 
 pub send-spec : {M : Type 1} → statement M
 send-spec =

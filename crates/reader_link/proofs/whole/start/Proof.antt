@@ -7,6 +7,7 @@ use Rattle.reader.specs.Reader.{sends}
 use Rattle.reader.specs.StepLaws.{begin-new}
 use Rattle.reader_link.specs.ReaderCalls.{isNewIn, selecting, startCall}
 use Rattle.reader_link.specs.WholeLaws.{two, two-not-due, two-no-room, two-is-due, new-begins}
+use Rattle.reader_link.specs.SaysLaws.{start-said}
 use borrow.Author.Needs.{needs}
 use Rattle.reader_link.proofs.whole.start.Statement.{statement}
 use Rattle.reader_link.proofs.whole.start.Tie as tie
@@ -21,7 +22,8 @@ returns : tie.Need-returns
 unfolding startCall
 returns c =
     let a = c .before .before .before .before .before .args in
-    two-not-due (isNewIn (a .x .link) (a .x .reader)) (a .x) _ (now (a .out)) (sym (c .before .before .is-new .ensures) ∙ not-true _ (c .before .if1 .taken)) (c .declines .ensures)
+    start-said (a .x) (now (a .out)) (a .sweeps)
+    (two-not-due (isNewIn (a .x .link) (a .x .reader)) (a .x) _ (now (a .out)) (sym (c .before .before .is-new .ensures) ∙ not-true _ (c .before .if1 .taken)) (c .declines .ensures))
 
 declines-requires-2 : tie.Need-declines-requires-2
 declines-requires-2 c κs = search needs
@@ -30,7 +32,8 @@ returns-2 : tie.Need-returns-2
 unfolding startCall
 returns-2 c =
     let a = c .before .before .before .before .before .before .args in
-    two-no-room (isNewIn (a .x .link) (a .x .reader)) (a .x) _ (now (a .out)) (sym (c .before .before .before .is-new .ensures) ∙ not-false _ (c .before .before .if1 .left)) (c .before .if2 .taken) (c .declines2 .ensures)
+    start-said (a .x) (now (a .out)) (a .sweeps)
+    (two-no-room (isNewIn (a .x .link) (a .x .reader)) (a .x) _ (now (a .out)) (sym (c .before .before .before .is-new .ensures) ∙ not-false _ (c .before .before .if1 .left)) (c .before .if2 .taken) (c .declines2 .ensures))
 
 blank-requires : tie.Need-blank-requires
 blank-requires c κs = search needs
@@ -49,8 +52,9 @@ unfolding startCall
 returns-3 c =
     let a = c .before .before .before .before .before .before .before .before .before .before .before .args in
     let n = sym (c .before .before .before .before .before .before .before .before .is-new .ensures) ∙ not-false _ (c .before .before .before .before .before .before .before .if1 .left) in
-    two-is-due (isNewIn (a .x .link) (a .x .reader)) (a .x) _ (now (a .out)) n (c .before .before .before .before .before .before .if2 .left)
-    (two (now (a .out)) (ap (λ t. selecting t []) (c .before .before .before .before .sends .ensures ∙ ap sends (c .before .before .before .before .before .blank .ensures) ∙ sym (begin-new (a .sweeps) (a .x .reader) (new-begins (a .x .link) (a .x .reader) n)))) (c .before .before .select-turn .ensures))
+    start-said (a .x) (now (a .out)) (a .sweeps)
+    (two-is-due (isNewIn (a .x .link) (a .x .reader)) (a .x) _ (now (a .out)) n (c .before .before .before .before .before .before .if2 .left)
+    (two (now (a .out)) (ap (λ t. selecting t []) (c .before .before .before .before .sends .ensures ∙ ap sends (c .before .before .before .before .before .blank .ensures) ∙ sym (begin-new (a .sweeps) (a .x .reader) (new-begins (a .x .link) (a .x .reader) n)))) (c .before .before .select-turn .ensures)))
 
 pub start-spec : {M : Type 1} → statement M
 start-spec =
