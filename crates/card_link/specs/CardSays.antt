@@ -6,22 +6,11 @@ use mathlib.Core.List.{List, []}
 use lib.ListN.{length}
 use lib.Dec.{ltb}
 use Rattle.limits.specs.Limits.{rowRoom, messageMax}
-use Rattle.refusal.specs.Refusal.{Said, giving, refusalSays, declineIf}
-use Rattle.uid.specs.Calls.{newUid}
-use Rattle.uid.specs.declared.Made.{Made}
-use Rattle.uid.specs.declared.Made.the-variants.{Good, NotMade}
+use Rattle.refusal.specs.Refusal.{Said, giving, declineIf}
 use Rattle.block.specs.Block.{wtxOk}
 use Rattle.block.specs.Says.{toldSays}
 use Rattle.card_link.specs.declared.LinkCard.{LinkCard}
 use Rattle.card_link.specs.CardCalls.{takesIn, owing}
-
-abbrev pub madeSays : Made → Said
-madeSays Good = giving []
-madeSays (NotMade e) = refusalSays e
-
--- a new card: 6 for an index over 8, and for a UID that is not valid
-abbrev pub newSays : List ℕ → ℕ → Said
-newSays l index = declineIf (ltb 8 index) 6 (madeSays (newUid l .made))
 
 -- a frame f: 11 while the card owes its host's answer, 1, then what its host is told
 abbrev pub takeSays : LinkCard → List ℕ → List ℕ → List ℕ → ℕ → Said

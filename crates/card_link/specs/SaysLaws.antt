@@ -4,17 +4,12 @@ use Prim.Native.Nat.{ℕ}
 use mathlib.Core.Bool.{Bool, true, false, cond, not, false≢true}
 use mathlib.Core.List.{List, []}
 use lib.ListN.{length}
-use lib.Dec.{eqb, leb, ltb}
+use lib.Dec.{leb, ltb}
 use borrow.Author.Tests.{le-ltb, lt-ltb, leb-true, leb-false}
 use Rattle.limits.specs.Limits.{rowRoom, messageMax}
 use Rattle.refusal.specs.Refusal.{Said, giving, declineIf}
 use Rattle.refusal.specs.declared.Refusal.the-variants.{Room, Argument, NotDue}
 use Rattle.rows.specs.Rows.{overlay}
-use Rattle.uid.specs.Uid.{valid}
-use Rattle.uid.specs.Calls.{checked, newUid}
-use Rattle.uid.specs.declared.Uid.{Uid}
-use Rattle.uid.specs.declared.NewUid.{NewUid}
-use Rattle.card.specs.Calls.{newCard, refusedCard, cardOf}
 use Rattle.card.specs.declared.CardState.{CardState}
 use Rattle.card.specs.declared.CardState.the-variants.{Off, Idle, Ready, Active, Halt, Protocol}
 use Rattle.block.specs.Block.{wtxOk}
@@ -29,35 +24,7 @@ use Rattle.card_blocks.specs.CardFrames.{cardOut, cardReply, cardWtx}
 use Rattle.card_link.specs.declared.LinkCard.{LinkCard}
 use Rattle.card_link.specs.declared.CardTurn.{CardTurn}
 use Rattle.card_link.specs.CardCalls.{withRow, takesIn, owesIn, owing, declined, called, takeCall, replyCall, askCall, turnOf}
-use Rattle.card_link.specs.CardSays.{madeSays, newSays, takeSays, replySays, askSays}
-
--- ---- a new card
-
--- a UID is made or refused with 6, and a card from it says the same
-abbrev Says : NewUid → Type 0
-Says u = (blocks : Bool) (index : ℕ) → madeSays (cardOf u (u .made) blocks index .made) ≡ madeSays (u .made)
-
-either : (t : Bool) (u v : NewUid) → Says u → Says v → Says (cond t u v)
-either true u v x y = x
-either false u v x y = y
-
-checked-says : (u : Uid) → Says (checked u)
-unfolding checked
-checked-says u = either (valid u) _ _ (λ b i. refl) (λ b i. refl)
-
-uid-says : (l : List ℕ) → Says (newUid l)
-unfolding newUid
-uid-says l =
-    either (eqb (length l) 4) _ _ (checked-says _)
-    (either (eqb (length l) 7) _ _ (checked-says _) (either (eqb (length l) 10) _ _ (checked-says _) (λ b i. refl)))
-
-pub new-says : (l : List ℕ) (blocks : Bool) (index : ℕ) → madeSays (newCard l blocks index .made) ≡ newSays l index
-unfolding newCard
-new-says l blocks index = go (ltb 8 index)
-  where
-    go : (t : Bool) → madeSays (cond t refusedCard (cardOf (newUid l) (newUid l .made) blocks index) .made) ≡ declineIf t 6 (madeSays (newUid l .made))
-    go true = refl
-    go false = uid-says l blocks index
+use Rattle.card_link.specs.CardSays.{takeSays, replySays, askSays}
 
 -- ---- the calls
 

@@ -10,10 +10,11 @@ ghost use Rattle.frame.specs.Calls.{goodBytes};
 ghost use Rattle.block.specs.Block.{behind};
 ghost use Rattle.block.specs.Row.{heardRow};
 ghost use Rattle.block.specs.Says.{toldSays};
-ghost use Rattle.card.specs.Calls.{newCard};
+ghost use Rattle.uid.specs.Calls.{madeSays};
+ghost use Rattle.card.specs.Calls.{newCard, newCardSays};
 ghost use Rattle.card_blocks.specs.CardFrames.{cardHears, cardOut};
 ghost use Rattle.card_link.specs.CardCalls.{noLink, bitsIn, linkIn, leftBy, withRow, takesOutside, takesInside, takesIn, owing, declined, takeCall, replyCall, askCall, poweredOn, poweredOff, turnOf};
-ghost use Rattle.card_link.specs.CardSays.{madeSays, newSays, takeSays, replySays, askSays};
+ghost use Rattle.card_link.specs.CardSays.{takeSays, replySays, askSays};
 use crate::CardTurn;
 use crate::LinkCard;
 use block::Told;
@@ -36,7 +37,7 @@ pub fn new_card(bytes: &[u8], blocks: bool, index: u8) -> NewLinkCard
     ensures { λ r. ⌜ r .card .card ≡ newCard (now (bytes .entry)) blocks index .card ⌝ }
     ensures { λ r. ⌜ r .card .link ≡ noLink ⌝ }
     ensures { λ r. ⌜ r .made ≡ newCard (now (bytes .entry)) blocks index .made ⌝ }
-    ensures { λ r. ⌜ madeSays (r .made) ≡ newSays (now (bytes .entry)) index ⌝ }
+    ensures { λ r. ⌜ madeSays (r .made) ≡ newCardSays (now (bytes .entry)) index ⌝ }
 {
     let new = card::new_card(bytes, blocks, index);
     let card = new.card;

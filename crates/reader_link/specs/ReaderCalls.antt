@@ -139,7 +139,7 @@ isNewIn (Linked l) r = false
 
 -- a selection (s false) or a sweep (s true) begins
 unfoldable pub startCall : Bool → LinkReader → ℕ → Called
-startCall s x room = tested (isNewIn (x .link) (x .reader)) x [] room (selecting (begin s (x .reader)) [])
+startCall s x room = tested (isNewIn (x .link) (x .reader)) x [] room (selecting (begin s) [])
 
 abbrev pub isSelected : Phase → Bool
 isSelected phase.New = false

@@ -16,7 +16,6 @@ use Rattle.crc.specs.Crc.{withCrc, crcBytes}
 use Rattle.frame.specs.Frame.{airByte, standard, short}
 use Rattle.selection.specs.Selection.{reqa, rats}
 use Rattle.reader.specs.Reader.{blank, frame, sends, begin}
-use Rattle.reader.specs.StepLaws.{begin-new}
 use Rattle.reader.specs.declared.Phase.the-variants.{ReqaSent}
 use Rattle.reader.specs.declared.Reader.{Reader}
 use Rattle.block.specs.declared.Told.the-variants.{Quiet}
@@ -30,7 +29,7 @@ use Rattle.reader_link.specs.declared.LinkAnswer.the-variants.{Blocks}
 use Rattle.reader_link.specs.declared.LinkTurn.{LinkTurn}
 use Rattle.reader_link.specs.ReaderCalls.{Called, called, declinedBy, tested, selecting, linking, frameDue, hearsIn, hearCall, isNewIn, startCall, ratsDue, ratsCall, between, sendIn, sendCall, deselectIn, deselectCall}
 use Rattle.reader_link.specs.ReaderSays.{linkSays, startSays, ratsSays, sendSays, deselectSays, hearSays}
-use Rattle.reader_link.specs.WholeLaws.{Two, Three, new-begins}
+use Rattle.reader_link.specs.WholeLaws.{Two, Three}
 
 abbrev answered : Called → Said
 answered o = linkSays (o .turn .answer)
@@ -63,8 +62,8 @@ begins s = refl
 start-says : (s : Bool) (x : LinkReader) (room : ℕ) → answered (startCall s x room) ≡ startSays x room
 unfolding startCall
 start-says s x room =
-    tested-says (isNewIn (x .link) (x .reader)) x [] room (selecting (begin s (x .reader)) []) (giving (7 ∷ []))
-    (λ e. rw (begin-new s (x .reader) (new-begins (x .link) (x .reader) e)) (begins s))
+    tested-says (isNewIn (x .link) (x .reader)) x [] room (selecting (begin s) []) (giving (7 ∷ []))
+    (λ e. begins s)
 
 -- ---- RATS
 

@@ -145,16 +145,7 @@ module _ (x : LinkReader) (index : ℕ) (out : List ℕ) where
   pub rats-index : {t : LinkTurn} → 8 < index → t ≡ called x (declinedBy (x .link) Argument) [] [] .turn → Two sentOrNot t out out
   rats-index h q = rw (lt-ltb 8 index h) (q, sym (overlay-nil out 0))
 
-  pub rats-sent : (row out′ : List ℕ) → index ≤ 8 → length row ≡ 36 → row ≡ rats (index % 16) → out′ ≡ overlay out 0 row
+  pub rats-sent : (row out′ : List ℕ) → index ≤ 8 → length row ≡ 36 → row ≡ rats index → out′ ≡ overlay out 0 row
       → Two sentOrNot (record { reader = record { reader = x .reader; link = RatsSent index }; answer = Blocks 36 Quiet }) out out′
-  rats-sent row out′ h n e q =
-      let i : index % 16 ≡ index = omega arith in
-      let s : row ≡ rats index = e ∙ ap rats i in
+  rats-sent row out′ h n s q =
       rw (le-ltb 8 index h) (ap (λ n. record { reader = record { reader = x .reader; link = RatsSent index }; answer = Blocks n Quiet }) (sym n ∙ ap length s), q ∙ ap (overlay out 0) s)
-
--- ---- a selection begins
-
-pub new-begins : (k : Link) (r : Reader) → isNewIn k r ≡ true → isNew (r .phase) ≡ true
-new-begins NoLink r e = e
-new-begins (RatsSent i) r e = absurd (false≢true e)
-new-begins (Linked l) r e = absurd (false≢true e)

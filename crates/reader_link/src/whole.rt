@@ -387,7 +387,7 @@ pub fn rats(x: LinkReader, index: u8, out: &mut [u8]) -> LinkTurn
     if index > 8 {
         return declines(x, Refusal::Argument);
     }
-    let row = selection::sent::rats(index);
+    let row = selection::within::rats(index);
     rows::within::put(out, 0, &row);
     LinkTurn {
         reader: LinkReader {

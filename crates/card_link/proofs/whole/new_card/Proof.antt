@@ -1,7 +1,4 @@
-use mathlib.Core.Path.{ap, _∙_}
-use denote.Ref.{now}
-use Rattle.card_link.specs.CardSays.{madeSays}
-use Rattle.card_link.specs.SaysLaws.{new-says}
+use mathlib.Core.Path.{ap}
 use borrow.Author.Needs.{needs}
 use Rattle.card_link.proofs.whole.new_card.Statement.{statement}
 use Rattle.card_link.proofs.whole.new_card.Tie as tie
@@ -14,9 +11,8 @@ open-requires c κs = search needs
 
 returns : tie.Need-returns
 returns c =
-    let a = c .before .before .before .before .args in
     let e = c .before .before .new-card .ensures in
-    (ap (λ n. n .card) e, (c .open .ensures, (ap (λ n. n .made) e, ap (λ n. madeSays (n .made)) e ∙ new-says (now (a .bytes)) (a .blocks) (a .index))))
+    (ap (λ n. n .card) (e .0), (c .open .ensures, (ap (λ n. n .made) (e .0), e .1)))
 
 pub new-card-spec : {M : Type 1} → statement M
 new-card-spec = tie.close (tie.spec new-card-requires open-requires returns)

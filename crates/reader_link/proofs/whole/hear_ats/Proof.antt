@@ -20,10 +20,10 @@ over-requires : tie.Need-over-requires
 over-requires c κs = search needs
 
 returns : tie.Need-returns
-returns c = rw (c.«open».ensures, sym (c .before .before .before .before .read-ats .ensures) ∙ c .before .before .a .given .1)
+returns c = rw (c.«open».ensures, sym (c .before .before .before .before .read-ats .ensures .0) ∙ c .before .before .a .given .1)
 
 returns-2 : tie.Need-returns-2
-returns-2 c = rw (c .over .ensures, sym (c .before .before .before .before .read-ats .ensures) ∙ c .before .before .a2 .given .1)
+returns-2 c = rw (c .over .ensures, sym (c .before .before .before .before .read-ats .ensures .0) ∙ c .before .before .a2 .given .1)
 
 pub hear-ats-spec : {M : Type 1} → statement M
 hear-ats-spec =

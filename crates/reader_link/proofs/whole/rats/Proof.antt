@@ -1,4 +1,4 @@
--- `reader_link::whole::rats` meets its contract, by that of `selection::sent::rats`. Assumes nothing.
+-- `reader_link::whole::rats` meets its contract, by that of `selection::within::rats`. Assumes nothing.
 use mathlib.Core.Path.{_≡_, sym, _∙_}
 use denote.Ref.{now}
 use lib.ListN.{length}

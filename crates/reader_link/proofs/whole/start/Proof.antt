@@ -4,9 +4,8 @@ use mathlib.Core.List.{[]}
 use denote.Ref.{now}
 use borrow.Author.Tests.{not-true, not-false}
 use Rattle.reader.specs.Reader.{sends}
-use Rattle.reader.specs.StepLaws.{begin-new}
 use Rattle.reader_link.specs.ReaderCalls.{isNewIn, selecting, startCall}
-use Rattle.reader_link.specs.WholeLaws.{two, two-not-due, two-no-room, two-is-due, new-begins}
+use Rattle.reader_link.specs.WholeLaws.{two, two-not-due, two-no-room, two-is-due}
 use Rattle.reader_link.specs.SaysLaws.{start-said}
 use borrow.Author.Needs.{needs}
 use Rattle.reader_link.proofs.whole.start.Statement.{statement}
@@ -54,7 +53,7 @@ returns-3 c =
     let n = sym (c .before .before .before .before .before .before .before .before .is-new .ensures) ∙ not-false _ (c .before .before .before .before .before .before .before .if1 .left) in
     start-said (a .x) (now (a .out)) (a .sweeps)
     (two-is-due (isNewIn (a .x .link) (a .x .reader)) (a .x) _ (now (a .out)) n (c .before .before .before .before .before .before .if2 .left)
-    (two (now (a .out)) (ap (λ t. selecting t []) (c .before .before .before .before .sends .ensures ∙ ap sends (c .before .before .before .before .before .blank .ensures) ∙ sym (begin-new (a .sweeps) (a .x .reader) (new-begins (a .x .link) (a .x .reader) n)))) (c .before .before .select-turn .ensures)))
+    (two (now (a .out)) (ap (λ t. selecting t []) (c .before .before .before .before .sends .ensures ∙ ap sends (c .before .before .before .before .before .blank .ensures))) (c .before .before .select-turn .ensures)))
 
 pub start-spec : {M : Type 1} → statement M
 start-spec =
