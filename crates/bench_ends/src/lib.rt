@@ -1,16 +1,20 @@
 // A card and a reader that speak to each other, frame by frame: from new ends to open ones.
+use block::Told;
 use card_link::LinkCard;
 use reader::Answer;
 use reader_link::LinkAnswer;
 use reader_link::LinkReader;
 use reader_link::LinkTurn;
 
-// Both ends, what the reader answered last, and its frame at the front of row.
+// Both ends, and what the reader's last turn was, in plain numbers: so many bits of its frame at the front of row; the card's frame size, where it
+// has opened; the refusal's number. 0 where there is none.
 pub struct Ends {
     pub reader: LinkReader,
     pub card: LinkCard,
-    pub answer: LinkAnswer,
     pub row: [u8; 2304],
+    pub bits: usize,
+    pub size: usize,
+    pub refused: u8,
 }
 
 // A card, and what it sends: so many bits at the front of row.
@@ -30,25 +34,30 @@ pub fn selected(card: LinkCard) -> Ends {
 // .. and then sends RATS with its size index.
 pub fn opened(card: LinkCard, index: u8) -> Ends {
     let s = selected(card);
-    let a = s.answer;
-    if !is_selected(a) {
+    if s.refused > 0 {
         return s;
     }
     let reader = s.reader;
-    let mut row = s.row;
+    let after = s.card;
+    asks(reader, after, index)
+}
+
+fn asks(reader: LinkReader, card: LinkCard, index: u8) -> Ends {
+    let mut row = [0u8; 2304];
     let t = reader_link::whole::rats(reader, index, &mut row);
-    let other = s.card;
-    speak(turned(t, other, row))
+    speak(turned(t, card, row))
 }
 
 fn turned(t: LinkTurn, card: LinkCard, row: [u8; 2304]) -> Ends {
     let reader = t.reader;
-    let answer = t.answer;
+    let a = t.answer;
     Ends {
         reader,
         card,
-        answer,
         row,
+        bits: reader_link::whole::bits_of(a),
+        size: size_in(a),
+        refused: refused_in(a),
     }
 }
 
@@ -58,7 +67,7 @@ fn speak(s: Ends) -> Ends {
     let mut left: usize = 40;
     while left > 0 {
         left -= 1;
-        if bits(e) == 0 {
+        if e.bits == 0 {
             return e;
         }
         e = frame(e);
@@ -66,24 +75,18 @@ fn speak(s: Ends) -> Ends {
     e
 }
 
-// How many air bits the reader sends.
-fn bits(e: Ends) -> usize {
-    let a = e.answer;
-    reader_link::whole::bits_of(a)
-}
-
 // The card takes the reader's frame, and the reader hears what the card sends.
 fn frame(e: Ends) -> Ends {
-    let reader = e.reader;
-    heard(reader, taken(e))
-}
-
-fn taken(e: Ends) -> Said {
     let row = e.row;
     let card = e.card;
+    let reader = e.reader;
+    heard(reader, taken(card, bench::front(&row, e.bits)))
+}
+
+fn taken(card: LinkCard, row: &[u8]) -> Said {
     let mut none = [0u8; 1];
     let mut sent = [0u8; 2304];
-    let t = card_link::whole::take(card, bench::front(&row, bits(e)), b"", &mut none, &mut sent);
+    let t = card_link::whole::take(card, row, b"", &mut none, &mut sent);
     let after = t.card;
     Said {
         card: after,
@@ -94,6 +97,7 @@ fn taken(e: Ends) -> Said {
 
 fn heard(reader: LinkReader, s: Said) -> Ends {
     let row = s.row;
+    let card = s.card;
     let mut none = [0u8; 1];
     let mut sent = [0u8; 2304];
     let t = reader_link::whole::hear(
@@ -103,23 +107,38 @@ fn heard(reader: LinkReader, s: Said) -> Ends {
         &mut none,
         &mut sent,
     );
-    let card = s.card;
     turned(t, card, sent)
 }
 
-fn is_selected(a: LinkAnswer) -> bool {
-    let LinkAnswer::Selection(s) = a else {
-        return false;
+// The card's frame size in a reader's answer, where it opens.
+fn size_in(a: LinkAnswer) -> usize {
+    let LinkAnswer::Opens(index) = a else {
+        return 0;
     };
-    selects(s)
+    selection::numbers::size_of(index)
 }
 
-fn selects(a: Answer) -> bool {
+// The number of a refusal in an answer.
+pub fn refused_in(a: LinkAnswer) -> u8 {
     match a {
-        Answer::Sends(_) => false,
-        Answer::Finds(_) => false,
-        Answer::Selects => true,
-        Answer::Finishes => false,
-        Answer::Declines(_) => false,
+        LinkAnswer::Selection(s) => declined_in(s),
+        LinkAnswer::Opens(_) => 0,
+        LinkAnswer::Blocks(_, t) => told_in(t),
     }
+}
+
+// .. in what is told to a host
+pub fn told_in(t: Told) -> u8 {
+    let Told::Refused(e) = t else {
+        return 0;
+    };
+    refusal::number(e)
+}
+
+// .. in an answer of a selection
+pub fn declined_in(a: Answer) -> u8 {
+    let Answer::Declines(e) = a else {
+        return 0;
+    };
+    refusal::number(e)
 }

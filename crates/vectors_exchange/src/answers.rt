@@ -2,8 +2,6 @@
 use bench_talk::Answer;
 use block::Told;
 use exchange::Outcome;
-use reader_link::LinkAnswer;
-use refusal::Refusal;
 
 // The words of the answers, by their numbers in the list of said.
 const OPEN: usize = 0;
@@ -34,35 +32,9 @@ fn said(a: Answer, k: usize) -> Answer {
     )
 }
 
-// `open SIZE`, the card's frame size, or `refused N`. None where the talk came to neither; no pair of ends does that.
-pub fn opened(a: LinkAnswer) -> Answer {
-    match a {
-        LinkAnswer::Selection(s) => selected(s),
-        LinkAnswer::Opens(index) => numbered(
-            bench_talk::none(),
-            OPEN,
-            selection::numbers::size_of(index),
-        ),
-        LinkAnswer::Blocks(_, t) => declined(t),
-    }
-}
-
-fn selected(a: reader::Answer) -> Answer {
-    let reader::Answer::Declines(e) = a else {
-        return bench_talk::none();
-    };
-    refused(e)
-}
-
-fn declined(t: Told) -> Answer {
-    let Told::Refused(e) = t else {
-        return bench_talk::none();
-    };
-    refused(e)
-}
-
-fn refused(e: Refusal) -> Answer {
-    bench_talk::refused(refusal::number(e))
+// `open SIZE`, the card's frame size.
+pub fn opened(size: usize) -> Answer {
+    numbered(bench_talk::none(), OPEN, size)
 }
 
 // `TOLD rounds R messages M last L down CRC up CRC`, with both whole buffers.
@@ -81,7 +53,7 @@ fn told(t: Told) -> Answer {
         Told::Message(n) => numbered(none, MESSAGE, n),
         Told::Granted => said(none, GRANTED),
         Told::Deselected => said(none, DESELECTED),
-        Told::Refused(e) => refused(e),
+        Told::Refused(e) => bench_talk::refused(refusal::number(e)),
     }
 }
 

@@ -6,7 +6,6 @@ use crate::exchanges;
 use crate::exchanges::Given;
 use bench_ends::Ends;
 use card_link::LinkCard;
-use reader_link::LinkAnswer;
 use uid::Made;
 
 pub fn script(bench: Bench, text: &[u8]) -> Reply {
@@ -55,20 +54,15 @@ fn new_ends(bench: Bench, text: &[u8]) -> Reply {
 // The card is powered, and a new reader with this size index opens it.
 fn opened(bench: Bench, card: LinkCard, index: u8) -> Reply {
     let e = bench_ends::opened(card_link::whole::power_on(card), index);
-    let a = e.answer;
-    match a {
-        LinkAnswer::Selection(_) => Reply {
+    if e.size == 0 {
+        return Reply {
             bench,
-            answer: answers::opened(a),
-        },
-        LinkAnswer::Opens(_) => Reply {
-            bench: with_ends(e),
-            answer: answers::opened(a),
-        },
-        LinkAnswer::Blocks(_, _) => Reply {
-            bench,
-            answer: answers::opened(a),
-        },
+            answer: bench_talk::refused(e.refused),
+        };
+    }
+    Reply {
+        bench: with_ends(e),
+        answer: answers::opened(e.size),
     }
 }
 

@@ -15,9 +15,6 @@ loop-holds c = tt
 sub-left : tie.Need-sub-left Inv-loop μ-loop
 sub-left c = omega arith
 
-bits-requires : tie.Need-bits-requires Inv-loop μ-loop
-bits-requires c κs = tt
-
 returns : tie.Need-returns Inv-loop μ-loop
 returns c = tt
 
@@ -41,7 +38,6 @@ speak-spec =
     μ-loop
     loop-holds
     sub-left
-    bits-requires
     returns
     frame-requires
     loop-less
