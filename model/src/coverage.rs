@@ -182,9 +182,13 @@ fn expected_of_calls() -> Vec<Key> {
     for off in ["none", "index", "uid", "ready", "off", "twice", "used"] {
         add("call off", off, &["sweep", "sweep_row"]);
     }
-    add("card block", "answer lent too short", &["receiving", "answering"]);
+    for table in ["card lent", "reader lent"] {
+        for number in ["1", "10"] {
+            add(table, number, &["I again", "next I"]);
+        }
+    }
     for phase in ["more to send", "last I out"] {
-        add("reader refusal", phase, &["1"]);
+        add("reader refusal", phase, &["1", "10"]);
     }
     keys
 }

@@ -1,5 +1,6 @@
 //! The script of `vectors_calls`: every refusal of every public call, each beside its last good neighbour.
 
+use crate::card::State;
 use crate::language::Script;
 use crate::reader::Phase;
 use crate::vectors_calls::VectorsCalls;
@@ -41,8 +42,12 @@ fn frames(s: &mut S) {
     refused(s, "write_short 0", 1);
     beside(s, "write 8 1", 1, "write 9 1");
     beside(s, "write 2303 256", 1, "write 2304 256");
+    beside(s, "write 2312 257", 1, "write 2313 257");
+    say_all(s, &["write 0 0", "write 9 0"]);
     beside(s, "write_crc 26 1", 1, "write_crc 27 1");
     beside(s, "write_crc 2303 254", 1, "write_crc 2304 254");
+    beside(s, "write_crc 2312 255", 1, "write_crc 2313 255");
+    beside(s, "write_crc 17 0", 1, "write_crc 18 0");
     beside(s, "read 255", 1, "read 256");
     beside(s, "read_crc 255", 1, "read_crc 256");
     beside(s, "air_row 119", 1, "air_row 120");
@@ -144,35 +149,67 @@ fn owing_card(s: &mut S) {
     refused(s, "take 2304 0 0 C2", 11);
 }
 
-/// The blocks of both numbers, so that whichever the card or the reader has, one of them is its own.
-fn both(s: &mut S, line: &str, first: u8) -> [String; 2] {
-    [0, 1].map(|number| s.say(&format!("{line} {:02X}", first | number)))
-}
-
+/// The card is asked for its last I again and, where it is chaining, for the next, with a lent answer that just reaches the I's place or does not,
+/// and with the longest one and a longer one. Frames that bring no I look at no answer.
 fn lent_answer(s: &mut S) {
-    s.remark("the answer lent while a card is chaining: its place is 0, 13, 26");
-    for (rounds, lengths) in [(1, &[0, 30, 4096][..]), (2, &[12, 13, 30]), (3, &[25, 26, 30])] {
+    for (rounds, place, is_chaining) in [(1, 0, true), (2, 13, true), (3, 26, false)] {
+        s.remark(&format!("the answer lent to a card whose last I began at {place}"));
         say_all(s, &["open 0 0", &format!("talk 1 30 {rounds}")]);
-        for length in lengths {
-            both(s, &format!("take 2304 {length} 5000"), 0xB2);
+        let own = card_number(s);
+        cut_at(s, "take", place, 0xB2 | own);
+        cut_at(s, "take", place, 0xA2 | own);
+        if is_chaining {
+            cut_at(s, "take", place + 13, 0xA2 | (1 - own));
+        }
+        for lent in [0, 5000] {
+            for frame in ["C2".to_string(), "F201".to_string(), "-".to_string(), "00".to_string(), format!("{:02X}", 0xB2 | (1 - own)), "02".to_string()] {
+                assert!(s.say(&format!("take 2304 {lent} 5000 {frame}")).starts_with("sent"));
+            }
         }
     }
 }
 
+/// A frame that brings the I that begins at this place.
+fn cut_at(s: &mut S, call: &str, place: usize, block: u8) {
+    let with = |lent: usize| format!("{call} 2304 {lent} 5000 {block:02X}");
+    if place > 0 {
+        beside(s, &with(place - 1), 1, &with(place));
+    }
+    beside(s, &with(4097), 10, &with(4096));
+    refused(s, &with(5000), 10);
+}
+
+/// The same at the reader, which has more to send, or whose last I is out.
 fn lent_message(s: &mut S) {
-    s.remark("the message lent while a reader has more to send, and after its last I: its place is 0, 13, 26");
-    for (rounds, lengths) in [(0, &[0, 30, 4096][..]), (1, &[12, 13, 30]), (2, &[25, 26, 30])] {
+    for (rounds, place, has_more) in [(0, 0, true), (1, 13, true), (2, 26, false)] {
+        s.remark(&format!("the message lent to a reader whose last I began at {place}"));
         say_all(s, &["open 0 0", &format!("talk 30 1 {rounds}")]);
-        let other = 0xA2 | (1 - number(s));
-        for length in lengths {
-            s.say(&format!("hear 2304 {length} 5000 {other:02X}"));
+        let own = number(s);
+        cut_at(s, "hear", place, 0xA2 | (1 - own));
+        if has_more {
+            cut_at(s, "hear", place + 13, 0xA2 | own);
+        }
+        for lent in [0, 5000] {
+            for frame in ["F201", "-", "0011"] {
+                s.say(&format!("hear 2304 {lent} 5000 {frame}"));
+            }
         }
     }
+    s.remark("a message is lent in vain while an answer is joined, and after DESELECT");
+    say_all(s, &["open 0 0", "talk 1 30 1", "hear 2304 5000 5000 -", "hear 2304 0 5000 F201"]);
     s.remark("an I that is both too early and too long is 9");
     say_all(s, &["open 0 0", "talk 30 1 0"]);
     let own = number(s);
     refused(s, &format!("hear 2304 30 0 {:02X}AABB", 0x02 | own), 9);
     refused(s, &format!("hear 2304 30 5000 {:02X}AABB", 0x02 | own), 9);
+}
+
+/// The card's block number.
+fn card_number(s: &S) -> u8 {
+    match &s.program.card.state {
+        State::Protocol(link) => link.number,
+        other => panic!("{other:?}"),
+    }
 }
 
 /// The reader's block number.
