@@ -8,7 +8,7 @@ use crate::language::{read_byte, read_hex, read_number, read_row, show_hex, show
 
 pub struct BenchCard {
     pub card: Option<Card>,
-    /// The message of the latest `reply`, lent at each call.
+    /// The message of the latest `reply` that was not refused, lent at each call.
     pub message: Vec<u8>,
     buffer: Vec<u8>,
     pub room: usize,
@@ -90,8 +90,12 @@ impl Program for BenchCard {
                 return Some(vec![format!("ok ; {}", self.state())]);
             }
             ["reply", message] => {
-                self.message = read_hex(message)?;
-                card.reply(&self.message)
+                let message = read_hex(message)?;
+                let outcome = card.reply(&message);
+                if !matches!(outcome, Outcome::Refused(_)) {
+                    self.message = message;
+                }
+                outcome
             }
             ["wtx", value] => card.wtx(read_number(value, 255)? as u8),
             _ => card.take(&row_line(words)?, &self.message, &mut self.buffer[..self.room]),

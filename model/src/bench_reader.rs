@@ -7,7 +7,7 @@ use crate::reader::{Answer, Reader};
 
 pub struct BenchReader {
     pub reader: Reader,
-    /// The message of the latest `send`, lent at each call.
+    /// The message of the latest `send` that was not refused, lent at each call.
     pub message: Vec<u8>,
     buffer: Vec<u8>,
     pub room: usize,
@@ -46,8 +46,12 @@ impl Program for BenchReader {
             ["sweep"] => self.reader.sweep(),
             ["rats", index] => self.reader.rats(read_number(index, 255)? as u8),
             ["send", message] => {
-                self.message = read_hex(message)?;
-                self.reader.send(&self.message)
+                let message = read_hex(message)?;
+                let answer = self.reader.send(&message);
+                if !matches!(answer, Answer::Refused(_)) {
+                    self.message = message;
+                }
+                answer
             }
             ["deselect"] => self.reader.deselect(),
             ["silence"] => self.reader.hear(&[], &self.message, &mut self.buffer[..self.room]),

@@ -74,8 +74,16 @@ pub fn more_behind(message: &[u8], place: usize, size: usize) -> bool {
     message.len() > place + full_payload(size)
 }
 
+/// Why no I can be cut from a lent message at this place: 1 if it ends before the place, then 10 if it is too long. A block that is no I looks
+/// at no message.
+pub fn unfit(message: &[u8], place: usize) -> Option<Refusal> {
+    if message.len() < place {
+        return Some(refusal::ROOM);
+    }
+    (message.len() > LONGEST_MESSAGE).then_some(refusal::MESSAGE)
+}
+
 /// The I block that begins at this place of the message, as full as the other end's size allows, chained if more is left.
-/// Nothing is left at a place behind the message's end.
 pub fn i_block(message: &[u8], place: usize, size: usize, number: u8) -> Row {
     i_again(message, place, size, number, more_behind(message, place, size))
 }

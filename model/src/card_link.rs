@@ -65,17 +65,13 @@ impl Link {
         self.number ^= 1;
     }
 
-    /// A frame. 11 while the host owes its answer; 1 if the lent answer ends before the place of the last I; then the rules.
+    /// A frame. 11 while the host owes its answer; then the rules.
     pub fn take(&mut self, row: &[u8], message: &[u8], buffer: &mut [u8], own_size: usize) -> Outcome {
         let column = self.mode_name();
         if self.mode == Mode::Owing {
             let damaged = blocks::read_frame(row, own_size).is_err();
             note("card block", if damaged { "damage" } else { "any good block" }, column);
             return Outcome::Refused(refusal::NOT_DUE);
-        }
-        if message.len() < self.place {
-            note("card block", "answer lent too short", column);
-            return Outcome::Refused(refusal::ROOM);
         }
         // A damaged frame gets silence and changes nothing.
         let bytes = match blocks::read_frame(row, own_size) {
@@ -94,8 +90,12 @@ impl Link {
             }
             Block::Ack(_) if self.mode == Mode::Answering => {
                 note("card block", "R(ACK) other", column);
-                self.toggle();
                 let next = self.place + blocks::full_payload(self.reader_size);
+                if let Some(number) = blocks::unfit(message, next) {
+                    note("card lent", &number.to_string(), "next I");
+                    return Outcome::Refused(number);
+                }
+                self.toggle();
                 self.send_i(message, next)
             }
             Block::Ack(_) => {
@@ -176,7 +176,13 @@ impl Link {
         note("card block", &format!("{kind} own, last was {what}"), self.mode_name());
         match self.last {
             Last::Nothing => Outcome::Silent,
-            Last::I(chained) => Outcome::Answer(blocks::i_again(message, self.place, self.reader_size, self.number, chained)),
+            Last::I(chained) => match blocks::unfit(message, self.place) {
+                Some(number) => {
+                    note("card lent", &number.to_string(), "I again");
+                    Outcome::Refused(number)
+                }
+                None => Outcome::Answer(blocks::i_again(message, self.place, self.reader_size, self.number, chained)),
+            },
             Last::Ack => Outcome::Answer(blocks::ack(self.number)),
             Last::Wtx(value) => Outcome::Answer(blocks::wtx(value)),
         }
@@ -245,6 +251,8 @@ mod tests {
         assert_eq!(block(&mut link, &[0xA3], &answer, &mut buffer), Outcome::Silent);
         assert_eq!(block(&mut link, &[0xA2], &answer, &mut buffer), Outcome::Answer(blocks::i_block(&answer, 13, 16, 0)));
         assert_eq!(block(&mut link, &[0xA2], &answer[..12], &mut buffer), Outcome::Refused(1));
+        assert_eq!(block(&mut link, &[0xA2], &[0; 4097], &mut buffer), Outcome::Refused(10));
+        assert_eq!(block(&mut link, &[0xA3], &[], &mut buffer), Outcome::Silent);
     }
 
     #[test]

@@ -44,8 +44,8 @@ fn expected() -> Vec<Key> {
         ("selected", &["6", "11"]),
         ("RATS sent", &["2", "3", "4", "7", "8", "9", "11"]),
         ("open", &["10", "11"]),
-        ("more to send", &["1", "9", "11", "12"]),
-        ("last I out", &["1", "9", "10", "11", "12"]),
+        ("more to send", &["9", "11", "12"]),
+        ("last I out", &["9", "10", "11", "12"]),
         ("joining", &["9", "10", "11", "12"]),
         ("DESELECT sent", &["9", "11", "12"]),
         ("finished", &["11"]),
@@ -126,7 +126,6 @@ fn expected() -> Vec<Key> {
         add("card block", &[&own("I"), &own("R(ACK)")], &["answering"]);
     }
     add("card block", &["WTX asked for"], &["WTX asked"]);
-    add("card block", &["answer lent too short"], &["receiving", "answering"]);
     add("card block", &["any good block", "damage", "answer", "answer over 4096", "WTX", "WTX outside 1 to 59"], &["owing"]);
 
     // Exchanges: how each ends, by the phase of the reader; the ends; their sizes.
@@ -150,44 +149,96 @@ fn expected() -> Vec<Key> {
     keys
 }
 
+/// The places that `vectors_calls` must reach: every refusal of every call, and what a bench cannot lend.
+fn expected_of_calls() -> Vec<Key> {
+    let mut keys = Vec::new();
+    let mut add = |table: &str, row: &str, columns: &[&str]| {
+        keys.extend(columns.iter().map(|column| (table.to_string(), row.to_string(), column.to_string())));
+    };
+    for (call, columns) in [
+        ("write", &["1", "taken"][..]),
+        ("write_crc", &["1", "taken"]),
+        ("write_short", &["1", "taken"]),
+        ("read", &["1", "taken"]),
+        ("read_crc", &["1", "taken"]),
+        ("air_row", &["1", "taken"]),
+        ("reader_select", &["1", "11", "taken"]),
+        ("reader_start_sweep", &["1", "11", "taken"]),
+        ("reader_hear", &["1", "11", "taken"]),
+        ("sweep", &["1", "6", "11", "taken"]),
+        ("sweep_row", &["1", "6", "11", "taken"]),
+        ("take", &["1", "10", "11", "taken"]),
+        ("reply", &["1", "10", "11", "taken"]),
+        ("ask", &["1", "6", "11", "taken"]),
+        ("hear", &["1", "9", "10", "11", "taken"]),
+        ("select", &["1", "11", "taken"]),
+        ("start_sweep", &["1", "11", "taken"]),
+        ("rats", &["1", "6", "11", "taken"]),
+        ("send", &["1", "10", "11", "taken"]),
+        ("deselect", &["1", "11", "taken"]),
+    ] {
+        add("call", call, columns);
+    }
+    for off in ["none", "index", "uid", "ready", "off", "twice", "used"] {
+        add("call off", off, &["sweep", "sweep_row"]);
+    }
+    for table in ["card lent", "reader lent"] {
+        for number in ["1", "10"] {
+            add(table, number, &["I again", "next I"]);
+        }
+    }
+    for phase in ["more to send", "last I out"] {
+        add("reader refusal", phase, &["1", "10"]);
+    }
+    keys
+}
+
 /// Plays the stored scripts and prints what they reached; an error names what they did not.
 pub fn report() -> Result<(), String> {
-    // Only what the two bench scripts and the exchanges reach counts; the fields of `vectors_sweep` and the cards with which the
-    // random reader scripts were drawn up do not. The tables of the card and of the reader must be reached by the bench scripts alone.
+    // Each table is to be reached by its own scripts: those of the card and of the reader by the two benches, the exchanges by theirs, the
+    // calls by theirs. The fields of `vectors_sweep` and the cards with which the random reader scripts were drawn up do not count.
     crate::write::bench_scripts();
-    let benches = COUNTS.with(|counts| counts.borrow().clone());
+    let benches = reached();
     crate::write::exchange_script();
-    let exchanges = COUNTS.with(|counts| counts.borrow().clone());
-    let mut counts = benches.clone();
-    for (key, count) in &exchanges {
-        *counts.entry(key.clone()).or_insert(0) += count;
-    }
+    let exchanges = reached();
+    crate::write::calls_script();
+    let calls = reached();
     let expected = expected();
+    let of_calls = expected_of_calls();
     let mut missing = Vec::new();
     let mut table = String::new();
-    for key in &expected {
+    for (key, is_call) in expected.iter().map(|key| (key, false)).chain(of_calls.iter().map(|key| (key, true))) {
+        let from = match is_call {
+            true => &calls,
+            false if key.0.starts_with("exchange") => &exchanges,
+            false => &benches,
+        };
         if *key.0 != table {
             table = key.0.clone();
             println!("{table}");
         }
-        let count = counts.get(key).copied().unwrap_or(0);
+        let count = from.get(key).copied().unwrap_or(0);
         println!("  {:<48} {:<20} {count:>7}", key.1, key.2);
-        if count == 0 || !(key.0.starts_with("exchange") || benches.contains_key(key)) {
+        if count == 0 {
             missing.push(format!("not reached: {} / {} / {}", key.0, key.1, key.2));
         }
     }
-    for (key, count) in &counts {
-        if !expected.contains(key) {
+    for (key, count) in benches.iter().chain(&exchanges).chain(calls.iter().filter(|(key, _)| key.0.starts_with("call"))) {
+        if !expected.contains(key) && !of_calls.contains(key) {
             missing.push(format!("reached {count} times but not in the list: {} / {} / {}", key.0, key.1, key.2));
         }
     }
-    println!("{} places, {} reached", expected.len(), expected.iter().filter(|k| counts.contains_key(k)).count());
+    println!("{} places, {} not reached or not in the list", expected.len() + of_calls.len(), missing.len());
     if missing.is_empty() {
-        println!("not reached: none");
         Ok(())
     } else {
         Err(missing.join("\n"))
     }
+}
+
+/// What was reached since the counts were started anew.
+fn reached() -> BTreeMap<Key, usize> {
+    COUNTS.with(|counts| counts.borrow().clone())
 }
 
 #[cfg(test)]

@@ -43,8 +43,8 @@ fn blocks_for(length: usize, size: usize) -> usize {
 }
 
 impl Ends {
-    /// A new card with power, and a new reader with its own size index that selects it and sends RATS. With them the card's frame size.
-    pub fn open(uid: &[u8], own: u8, index: u8) -> Result<(Ends, usize), Refusal> {
+    /// A new card with power, and a new reader that has selected it.
+    pub fn selected(uid: &[u8], index: u8) -> Result<(Reader, Card), Refusal> {
         let mut card = [Card::new(uid, true, index)?];
         card[0].power_on();
         let mut reader = Reader::new();
@@ -54,16 +54,35 @@ impl Ends {
                 Answer::Send(frame) => reader.hear(&field_takes(&mut card, &frame), &[], &mut []),
                 Answer::Selected { uid: found, sak } => {
                     assert_eq!((&found[..], sak), (uid, 0x20));
-                    reader.rats(own)
-                }
-                Answer::Open(size) => {
                     let [card] = card;
-                    return Ok((Ends { reader, card, own, lent: Vec::new() }, size));
+                    return Ok((reader, card));
                 }
-                Answer::Refused(number) => return Err(number),
                 other => panic!("{other:?}"),
             }
         }
+    }
+
+    /// .. and then sends RATS with its own size index. With them the card's frame size.
+    pub fn open(uid: &[u8], own: u8, index: u8) -> Result<(Ends, usize), Refusal> {
+        let (mut reader, card) = Ends::selected(uid, index)?;
+        let mut card = [card];
+        let rats = match reader.rats(own) {
+            Answer::Send(frame) => frame,
+            Answer::Refused(number) => return Err(number),
+            other => panic!("{other:?}"),
+        };
+        match reader.hear(&field_takes(&mut card, &rats), &[], &mut []) {
+            Answer::Open(size) => {
+                let [card] = card;
+                Ok((Ends::joined(reader, card, own), size))
+            }
+            other => panic!("{other:?}"),
+        }
+    }
+
+    /// Ends that stand somewhere, and a card's host that has answered nothing yet.
+    pub fn joined(reader: Reader, card: Card, own: u8) -> Ends {
+        Ends { reader, card, own, lent: Vec::new() }
     }
 
     /// One message, which the card's host answers as soon as it owes. At most so many rounds: a frame of the reader, and what the card says to it.

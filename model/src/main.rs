@@ -20,12 +20,13 @@ mod refusal;
 mod scripts;
 mod sweep;
 mod uid;
+mod vectors_calls;
 mod vectors_exchange;
 mod vectors_frame;
 mod write;
 
 const USAGE: &str = "\
-model vectors_frame | vectors_sweep | vectors_exchange | bench_sweep | bench_card | bench_reader
+model vectors_frame | vectors_sweep | vectors_exchange | vectors_calls | bench_sweep | bench_card | bench_reader
                                          play a script from standard input
 model write DIR                          write the stored scripts and their answers
 model check DIR                          compare the stored ones with what would be written
@@ -60,6 +61,7 @@ fn main() {
         ["vectors_frame"] => language::play(vectors_frame::VectorsFrame),
         ["vectors_sweep"] => language::play(bench_sweep::VectorsSweep::default()),
         ["vectors_exchange"] => language::play(vectors_exchange::VectorsExchange::default()),
+        ["vectors_calls"] => language::play(vectors_calls::VectorsCalls::new()),
         ["bench_sweep"] => language::play(bench_sweep::BenchSweep::default()),
         ["bench_card"] => language::play(bench_card::BenchCard::new()),
         ["bench_reader"] => language::play(bench_reader::BenchReader::new()),

@@ -196,9 +196,11 @@ impl Reader {
                 Err(number) => self.stop(number),
             },
             Phase::Linked(mut link) => {
+                if let Some(number) = link.declines(row, message) {
+                    return self.decline(number);
+                }
                 let outcome = link.hear(row, message, buffer);
                 match outcome {
-                    Answer::Refused(number @ (refusal::NOT_DUE | refusal::ROOM)) => self.decline(number),
                     Answer::Refused(number) => self.stop(number),
                     Answer::Finished => self.finish(),
                     _ => {

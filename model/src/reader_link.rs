@@ -103,14 +103,27 @@ impl Link {
         blocks::i_block(message, place, self.card_size, self.number)
     }
 
-    /// A row. 11 between messages; 1 if the lent message ends before the place of the last I; then the rules.
-    pub fn hear(&mut self, row: &[u8], message: &[u8], buffer: &mut [u8]) -> Answer {
+    /// Why a row is declined with everything unchanged: 11 between messages; 1 or 10 where an I would have to be cut from a lent message that
+    /// does not reach its place or is too long.
+    pub fn declines(&self, row: &[u8], message: &[u8]) -> Option<Refusal> {
         if self.stage == Stage::Open {
-            return Answer::Refused(refusal::NOT_DUE);
+            return Some(refusal::NOT_DUE);
         }
-        if message.len() < self.place {
-            return Answer::Refused(refusal::ROOM);
-        }
+        let block = read_block(&blocks::read_frame(row, self.own_size).ok()?);
+        let (place, what) = match (block, self.stage) {
+            (Block::Ack(number), Stage::More) if number == self.number => {
+                (self.place + blocks::full_payload(self.card_size), "next I")
+            }
+            (Block::Ack(number), Stage::More | Stage::Last) if number != self.number && self.sent_again < 2 => (self.place, "I again"),
+            _ => return None,
+        };
+        let number = blocks::unfit(message, place)?;
+        note("reader lent", &number.to_string(), what);
+        Some(number)
+    }
+
+    /// A row that is not declined: the rules.
+    pub fn hear(&mut self, row: &[u8], message: &[u8], buffer: &mut [u8]) -> Answer {
         let column = self.stage_name();
         let bytes = match blocks::read_frame(row, self.own_size) {
             Ok(bytes) => bytes,
@@ -292,7 +305,11 @@ mod tests {
         assert_eq!(hear(&mut link, "F2FB", &message, &mut buffer), Answer::Send(blocks::wtx(0x3B)));
         assert_eq!(link.hear(&[], &message, &mut buffer), Answer::Send(blocks::nak(1)));
         assert_eq!(link.hear(&[1], &message, &mut buffer), Answer::Send(blocks::nak(1)));
-        assert_eq!(link.hear(&[1], &message[..12], &mut buffer), Answer::Refused(1));
+        let again = standard_with_crc(&hex("A2"));
+        assert_eq!(link.declines(&again, &message[..12]), Some(1));
+        assert_eq!(link.declines(&again, &message[..13]), None);
+        assert_eq!(link.declines(&again, &[0; 4097]), Some(10));
+        assert_eq!(link.declines(&[1], &[]), None);
         assert_eq!(hear(&mut link, "1301", &message, &mut buffer), Answer::Send(blocks::ack(0)));
         assert_eq!(link.hear(&[], &message, &mut buffer), Answer::Send(blocks::ack(0)));
         assert_eq!(hear(&mut link, "0202", &message, &mut buffer), Answer::Answered(vec![1, 2]));

@@ -24,22 +24,6 @@ fn told(answer: Result<String, Refusal>) -> String {
     answer.unwrap_or_else(|number| format!("refused {number}"))
 }
 
-/// A standard frame has 1 to 256 bytes.
-fn standard(bytes: &[u8]) -> Result<String, Refusal> {
-    if bytes.is_empty() || bytes.len() > frames::MOST_BYTES {
-        return Err(refusal::LENGTH);
-    }
-    Ok(format!("row {}", show_row(&frames::standard(bytes))))
-}
-
-/// With CRC_A it has 3 to 256 bytes, so 1 to 254 are given.
-fn standard_with_crc(bytes: &[u8]) -> Result<String, Refusal> {
-    if bytes.is_empty() || bytes.len() > frames::MOST_BYTES - 2 {
-        return Err(refusal::LENGTH);
-    }
-    Ok(format!("row {}", show_row(&frames::standard_with_crc(bytes))))
-}
-
 fn levels(bytes: &[u8]) -> Result<String, Refusal> {
     if !uid::valid(bytes) {
         return Err(refusal::ARGUMENT);
@@ -59,8 +43,9 @@ impl Program for VectorsFrame {
     fn words(&mut self, words: &[&str]) -> Option<Vec<String>> {
         let answer = match *words {
             ["short", value] => format!("row {}", show_row(&frames::short(read_byte(value)?))),
-            ["bytes", bytes] => told(standard(&bytes_word(bytes)?)),
-            ["crc", bytes] => told(standard_with_crc(&bytes_word(bytes)?)),
+            // Any number of bytes is written, also one that no frame has; reading it back is 2.
+            ["bytes", bytes] => format!("row {}", show_row(&frames::standard(&bytes_word(bytes)?))),
+            ["crc", bytes] => format!("row {}", show_row(&frames::standard_with_crc(&bytes_word(bytes)?))),
             ["crca", bytes] => format!("crc {}", show_hex(&crc_a(&bytes_word(bytes)?))),
             ["read", row] => {
                 let row = row_word(row)?;
@@ -93,9 +78,10 @@ mod tests {
         assert_eq!(ask("short 26"), "row 0110010");
         assert_eq!(ask("short 52"), "row 0100101");
         assert_eq!(ask("bytes 0400"), "row 001000000000000001");
-        assert_eq!(ask("bytes -"), "refused 2");
-        assert_eq!(ask(&format!("bytes {}", "00".repeat(257))), "refused 2");
-        assert_eq!(ask(&format!("crc {}", "00".repeat(255))), "refused 2");
+        assert_eq!(ask("bytes -"), "row -");
+        assert_eq!(ask("crc -"), "row 110001101110001101");
+        assert_eq!(ask(&format!("bytes {}", "00".repeat(257))), format!("row {}", "000000001".repeat(257)));
+        assert!(ask(&format!("crc {}", "00".repeat(255))).starts_with("row 0000"));
         assert_eq!(ask(&format!("bytes {}", "00".repeat(513))), "line 1: not understood");
         assert_eq!(ask("crca 5000"), "crc 57CD");
         assert_eq!(ask("crca -"), "crc 6363");

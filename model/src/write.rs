@@ -26,6 +26,7 @@ pub fn all() -> Vec<Stored> {
         stored("vectors_frame", scripts::frame::script(SEED + 1)),
         stored("vectors_sweep", scripts::field::script(SEED + 2)),
         stored("vectors_exchange", exchange()),
+        stored("vectors_calls", scripts::calls::script()),
         stored("bench_card", card),
         stored("bench_reader", reader),
         stored("bench_sweep", scripts::field::locker()),
@@ -62,6 +63,14 @@ pub fn exchange_script() {
     let input = exchange().input;
     crate::coverage::forget();
     let mut replayed = Script::new(crate::vectors_exchange::VectorsExchange::default());
+    input.lines().for_each(|line| drop(replayed.say(line)));
+}
+
+/// Plays the script of the calls again, for what it reaches.
+pub fn calls_script() {
+    let input = scripts::calls::script().input;
+    crate::coverage::forget();
+    let mut replayed = Script::new(crate::vectors_calls::VectorsCalls::new());
     input.lines().for_each(|line| drop(replayed.say(line)));
 }
 

@@ -1,89 +1,103 @@
-// The answers: a result at the front of out, then ` ; ` and the state after it. Each function answers how many bytes are written.
+// The answers: a result, then ` ; ` and the state after it.
+use bench_talk::Answer;
 use block::Told;
 use card::CardState;
 use card_link::LinkCard;
 use refusal::Refusal;
-use uid::Level;
 
-// A result of words alone.
-pub fn words(text: &[u8], out: &mut [u8]) -> usize {
-    bench_text::put(out, 0, text)
+// The words of the results, by their numbers in the list of said.
+pub const OK: usize = 0;
+
+pub const REFUSED: usize = 1;
+
+pub const ROOM: usize = 2;
+
+pub const SILENT: usize = 3;
+
+pub const ANSWER: usize = 4;
+
+pub const DELIVERED: usize = 5;
+
+pub const AGAIN: usize = 6;
+
+pub const TOLD: usize = 7;
+
+// A result of one word.
+pub fn plain(k: usize) -> Answer {
+    bench_talk::word(
+        bench_talk::none(),
+        b"ok refused room silent answer delivered again told",
+        k,
+    )
 }
 
-pub fn refused(e: Refusal, out: &mut [u8]) -> usize {
-    bench_io::put_refused(out, 0, refusal::number(e))
+// A word and a number: `room N`, `refused N`, `told N`.
+pub fn numbered(k: usize, n: usize) -> Answer {
+    bench_talk::number(plain(k), n)
 }
 
-// `room N`
-pub fn room(n: usize, out: &mut [u8]) -> usize {
-    let p = words(b"room ", out);
-    bench_text::put_decimal(out, p, n)
+pub fn refused(e: Refusal) -> Answer {
+    bench_talk::refused(refusal::number(e))
 }
 
 // What comes of a frame: the row that the card sends, and what its host is told; a whole message stands at the front of message.
-pub fn taken(told: Told, row: &[u8], message: &[u8], out: &mut [u8]) -> usize {
+pub fn taken(told: Told, row: &[u8], message: &[u8; 4096]) -> Answer {
     match told {
-        Told::Quiet => answer(row, out),
-        Told::Message(n) => delivered(bench::front(message, n), out),
-        Told::Granted => words(b"again", out),
-        Told::Deselected => answer(row, out),
-        Told::Refused(e) => declined(e, out),
+        Told::Quiet => answer(row),
+        Told::Message(n) => bench_talk::hex(plain(DELIVERED), bench::front(message, n)),
+        Told::Granted => plain(AGAIN),
+        Told::Deselected => answer(row),
+        Told::Refused(e) => declined(e),
     }
 }
 
 // What comes of a host's call: it sends, or it is refused.
-pub fn called(told: Told, row: &[u8], out: &mut [u8]) -> usize {
+pub fn called(told: Told, row: &[u8]) -> Answer {
     let Told::Refused(e) = told else {
-        return answer(row, out);
+        return answer(row);
     };
-    refused(e, out)
+    refused(e)
 }
 
 // ` ; ` and the state, behind a result.
-pub fn put_state(has_card: bool, x: LinkCard, out: &mut [u8], at: usize) -> usize {
-    let p = bench_text::put(out, at, b" ; ");
+pub fn with_state(a: Answer, has_card: bool, x: LinkCard) -> Answer {
+    let b = bench_talk::word(a, b";", 0);
     if !has_card {
-        return bench_text::put(out, p, b"none");
+        return state(b, 6);
     }
     let card = x.card;
     let s = card.state;
     match s {
-        CardState::Off => bench_text::put(out, p, b"off"),
-        CardState::Idle => bench_text::put(out, p, b"idle"),
-        CardState::Ready(l) => put_ready(out, p, l),
-        CardState::Active => bench_text::put(out, p, b"active"),
-        CardState::Halt => bench_text::put(out, p, b"halt"),
-        CardState::Protocol(_) => bench_text::put(out, p, b"protocol"),
+        CardState::Off => state(b, 0),
+        CardState::Idle => state(b, 1),
+        CardState::Ready(l) => bench_talk::word(
+            state(b, 2),
+            b"1 2 3",
+            selection::numbers::place(l),
+        ),
+        CardState::Active => state(b, 3),
+        CardState::Halt => state(b, 4),
+        CardState::Protocol(_) => state(b, 5),
     }
 }
 
-fn put_ready(out: &mut [u8], at: usize, l: Level) -> usize {
-    match l {
-        Level::One => bench_text::put(out, at, b"ready 1"),
-        Level::Two => bench_text::put(out, at, b"ready 2"),
-        Level::Three => bench_text::put(out, at, b"ready 3"),
-    }
+fn state(a: Answer, k: usize) -> Answer {
+    bench_talk::word(a, b"off idle ready active halt protocol none", k)
 }
 
 // A frame that is declined. An I that does not fit is silence on the air, and its host is told 10.
-fn declined(e: Refusal, out: &mut [u8]) -> usize {
-    if refusal::number(e) == 10 {
-        return words(b"told 10", out);
+fn declined(e: Refusal) -> Answer {
+    let n = refusal::number(e) as usize;
+    if n == 10 {
+        return numbered(TOLD, n);
     }
-    refused(e, out)
+    numbered(REFUSED, n)
 }
 
 // `answer ROW`, or `silent` where it is empty.
-fn answer(row: &[u8], out: &mut [u8]) -> usize {
+fn answer(row: &[u8]) -> Answer {
     if row.len() == 0 {
-        return words(b"silent", out);
+        return plain(SILENT);
     }
-    let p = words(b"answer ", out);
-    bench_text::put_row(out, p, row)
-}
-
-// `delivered HEX`
-fn delivered(message: &[u8], out: &mut [u8]) -> usize {
-    let p = words(b"delivered ", out);
-    bench_text::put_hex(out, p, message)
+    bench_talk::row(plain(ANSWER), row)
 }

@@ -2,45 +2,40 @@
 mod answers;
 mod lines;
 
+use bench_talk::Answer;
+use bench_talk::Talk;
 use card_link::LinkCard;
 
-// The card, if there is one; the message buffer's room; and how many bytes the host's answer has.
+// The card, if there is one; the message buffer and its room; and the host's answer, so many bytes at the front. A line holds fewer than
+// 8,192 bytes: a host's answer that is too long for the core reaches it all the same.
 pub struct Bench {
     pub has_card: bool,
     pub card: LinkCard,
+    pub message: [u8; 4096],
     pub room: usize,
-    pub answer: usize,
-}
-
-// The bench after a line, and how many bytes its answer has: 0 where the line is not understood.
-pub struct Reply {
-    pub bench: Bench,
+    pub answer: [u8; 8192],
     pub length: usize,
 }
 
-// A line holds fewer than 8,192 bytes: a host's answer that is too long for the core reaches it all the same.
-fn main() {
-    let mut buffer = io::buffer();
-    let mut line = [0u8; 16385];
-    let mut answer = [0u8; 8192];
-    let mut message = [0u8; 4096];
-    let mut out = [0u8; 16384];
-    play(&mut buffer, &mut line, &mut answer, &mut message, &mut out);
+// The bench after a line, and the answer to it.
+pub struct Reply {
+    pub bench: Bench,
+    pub answer: Answer,
 }
 
 // Answers every line. A proved loop has to end, and nothing says that the input does: it counts its turns down from a number that no run
 // uses up.
-fn play(buffer: &mut [u8], line: &mut [u8], answer: &mut [u8], message: &mut [u8], out: &mut [u8]) {
+fn main() {
     let mut bench = start();
-    let mut input = bench_io::start();
+    let mut talk = bench_talk::start();
     let mut turns = u64::MAX;
     while turns > 0 {
         turns -= 1;
-        input = bench_io::next_line(input, buffer, line);
-        if !bench_io::has_line(input) {
+        talk = bench_talk::next(talk);
+        if !bench_talk::has_line(talk) {
             return;
         }
-        bench = answer_line(bench, input, line, answer, message, out);
+        bench = answer_line(bench, talk);
     }
 }
 
@@ -51,24 +46,21 @@ fn start() -> Bench {
     Bench {
         has_card: false,
         card,
+        message: [0; 4096],
         room: 4096,
-        answer: 0,
+        answer: [0; 8192],
+        length: 0,
     }
 }
 
-fn answer_line(
-    bench: Bench,
-    input: bench_io::Input,
-    line: &[u8],
-    answer: &mut [u8],
-    message: &mut [u8],
-    out: &mut [u8],
-) -> Bench {
-    let text = bench_io::text(input, line);
-    if !bench_io::is_script(input, text, out) {
+fn answer_line(bench: Bench, talk: Talk) -> Bench {
+    if !bench_talk::is_script(talk) {
         return bench;
     }
-    let r = lines::script(bench, text, answer, message, out);
-    bench_io::answer(input, r.length, out);
+    let line = talk.line;
+    let bytes = talk.bytes;
+    let r = lines::script(bench, bench_talk::text(line, &bytes));
+    let a = r.answer;
+    bench_talk::say(talk, a);
     r.bench
 }

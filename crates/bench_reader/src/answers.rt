@@ -1,78 +1,92 @@
-// The answers, each at the front of out. Each function answers how many bytes are written.
+// The answers.
+use bench_talk::Answer;
 use block::Told;
-use reader::Answer;
 use reader::Reader;
 use reader_link::LinkAnswer;
 use refusal::Refusal;
 
-pub fn words(text: &[u8], out: &mut [u8]) -> usize {
-    bench_text::put(out, 0, text)
+// The words of the answers, by their numbers in the list of with_word.
+pub const NEW: usize = 0;
+
+pub const ROOM: usize = 1;
+
+pub const OPEN: usize = 2;
+
+pub const FOUND: usize = 3;
+
+pub const SEND: usize = 4;
+
+pub const SELECTED: usize = 5;
+
+pub const FINISHED: usize = 6;
+
+pub const REFUSED: usize = 7;
+
+pub const ANSWERED: usize = 8;
+
+fn with_word(a: Answer, k: usize) -> Answer {
+    bench_talk::word(
+        a,
+        b"new room open found send selected finished refused answered",
+        k,
+    )
 }
 
-// Words and a number: `room N`, `open SIZE`.
-pub fn number(text: &[u8], n: usize, out: &mut [u8]) -> usize {
-    let p = words(text, out);
-    bench_text::put_decimal(out, p, n)
+// One word.
+pub fn plain(k: usize) -> Answer {
+    with_word(bench_talk::none(), k)
+}
+
+// A word and a number: `room N`, `open SIZE`, `refused N`.
+pub fn numbered(k: usize, n: usize) -> Answer {
+    bench_talk::number(plain(k), n)
 }
 
 // What comes of a call or a row; the bits that the reader sends stand at the front of sent, a whole answer at the front of answer.
-pub fn turned(r: Reader, a: LinkAnswer, sent: &[u8], answer: &[u8], out: &mut [u8]) -> usize {
+pub fn turned(r: Reader, a: LinkAnswer, sent: &[u8], answer: &[u8; 4096]) -> Answer {
     match a {
-        LinkAnswer::Selection(s) => selected(r, s, sent, out),
-        LinkAnswer::Opens(index) => number(b"open ", selection::numbers::size_of(index), out),
-        LinkAnswer::Blocks(n, told) => linked(told, bench::front(sent, n), answer, out),
+        LinkAnswer::Selection(s) => selected(r, s, sent),
+        LinkAnswer::Opens(index) => numbered(OPEN, selection::numbers::size_of(index)),
+        LinkAnswer::Blocks(n, told) => linked(told, bench::front(sent, n), answer),
     }
 }
 
 // .. of a selection
-fn selected(r: Reader, a: Answer, sent: &[u8], out: &mut [u8]) -> usize {
+fn selected(r: Reader, a: reader::Answer, sent: &[u8]) -> Answer {
     match a {
-        Answer::Sends(n) => send(bench::front(sent, n), out, 0),
-        Answer::Finds(n) => {
-            let p = card(r, b"found ", out);
-            let q = bench_text::put(out, p, b" ");
-            send(bench::front(sent, n), out, q)
-        }
-        Answer::Selects => card(r, b"selected ", out),
-        Answer::Finishes => words(b"finished", out),
-        Answer::Declines(e) => refused(e, out),
+        reader::Answer::Sends(n) => send(bench_talk::none(), bench::front(sent, n)),
+        reader::Answer::Finds(n) => send(card(FOUND, r), bench::front(sent, n)),
+        reader::Answer::Selects => card(SELECTED, r),
+        reader::Answer::Finishes => plain(FINISHED),
+        reader::Answer::Declines(e) => refused(e),
     }
 }
 
 // .. of the block protocol: the row that the reader sends, and what its host is told
-fn linked(told: Told, row: &[u8], answer: &[u8], out: &mut [u8]) -> usize {
+fn linked(told: Told, row: &[u8], answer: &[u8]) -> Answer {
     match told {
-        Told::Quiet => send(row, out, 0),
-        Told::Message(n) => answered(bench::front(answer, n), out),
-        Told::Granted => send(row, out, 0),
-        Told::Deselected => words(b"finished", out),
-        Told::Refused(e) => refused(e, out),
+        Told::Quiet => send(bench_talk::none(), row),
+        Told::Message(n) => bench_talk::hex(plain(ANSWERED), bench::front(answer, n)),
+        Told::Granted => send(bench_talk::none(), row),
+        Told::Deselected => plain(FINISHED),
+        Told::Refused(e) => refused(e),
     }
 }
 
-fn refused(e: Refusal, out: &mut [u8]) -> usize {
-    bench_io::put_refused(out, 0, refusal::number(e))
+fn refused(e: Refusal) -> Answer {
+    bench_talk::refused(refusal::number(e))
 }
 
 // `send ROW`, behind what stands there.
-fn send(row: &[u8], out: &mut [u8], at: usize) -> usize {
-    let p = bench_text::put(out, at, b"send ");
-    bench_text::put_row(out, p, row)
-}
-
-// `answered HEX`
-fn answered(answer: &[u8], out: &mut [u8]) -> usize {
-    let p = words(b"answered ", out);
-    bench_text::put_hex(out, p, answer)
+fn send(a: Answer, row: &[u8]) -> Answer {
+    bench_talk::row(with_word(a, SEND), row)
 }
 
 // A word, and the UID and the last SAK that the reader has.
-fn card(r: Reader, word: &[u8], out: &mut [u8]) -> usize {
+fn card(k: usize, r: Reader) -> Answer {
     let u = r.uid;
     let size = u.size;
     let b = u.bytes;
-    let p = words(word, out);
-    let q = bench_text::put_hex(out, p, bench::front(&b, uid::byte_count(size)));
-    let s = bench_text::put(out, q, b" ");
-    bench_text::put_hex(out, s, &[r.sak])
+    let a = bench_talk::hex(plain(k), bench::front(&b, uid::byte_count(size)));
+    bench_talk::hex(a, &[r.sak])
 }

@@ -1,127 +1,112 @@
-// The lines. Each function answers the bench after the line, and how many bytes of out are the answer: 0 where the line is not understood.
-// The host's message and the answer buffer are lent from line to line.
+// The lines. Each function answers the bench after the line and the answer to it.
 use crate::Bench;
 use crate::Reply;
 use crate::answers;
-use bench_lines::RowLine;
+use reader_link::LinkReader;
 use reader_link::LinkTurn;
 use reader_link::whole;
 
-pub fn script(
-    bench: Bench,
-    text: &[u8],
-    message: &mut [u8],
-    answer: &mut [u8],
-    out: &mut [u8],
-) -> Reply {
+pub fn script(bench: Bench, text: &[u8]) -> Reply {
     let name = bench::word(text, 0);
     let value = bench::word(text, 1);
     if value.len() == 0 {
-        return alone(bench, name, message, answer, out);
+        return alone(bench, name);
     }
     if bench::word(text, 2).len() != 0 {
         return none(bench);
     }
-    if rows::is_same(name, b"room") {
-        return room(bench, value, out);
+    let k = bench_talk::which(b"room rats send", 3, name);
+    match k {
+        0 => room(bench, value),
+        1 => rats(bench, value),
+        2 => send(bench, value),
+        _ => frame(bench, name, value),
     }
-    if rows::is_same(name, b"rats") {
-        return rats(bench, value, out);
-    }
-    if rows::is_same(name, b"send") {
-        return send(bench, value, message, out);
-    }
-    frame(bench, name, value, message, answer, out)
 }
 
 // The lines of one word.
-fn alone(bench: Bench, name: &[u8], message: &[u8], answer: &mut [u8], out: &mut [u8]) -> Reply {
-    if rows::is_same(name, b"new") {
-        return new(bench, out);
+fn alone(bench: Bench, name: &[u8]) -> Reply {
+    let k = bench_talk::which(b"new select sweep deselect silence", 5, name);
+    match k {
+        0 => new(bench),
+        1 => select(bench),
+        2 => start_sweep(bench),
+        3 => deselect(bench),
+        4 => hear(bench, b""),
+        _ => none(bench),
     }
-    if rows::is_same(name, b"select") {
-        return select(bench, out);
-    }
-    if rows::is_same(name, b"sweep") {
-        return start_sweep(bench, out);
-    }
-    if rows::is_same(name, b"deselect") {
-        return deselect(bench, out);
-    }
-    if rows::is_same(name, b"silence") {
-        return hear(bench, b"", message, answer, out);
-    }
-    none(bench)
 }
 
 // The line is not understood.
 fn none(bench: Bench) -> Reply {
-    Reply { bench, length: 0 }
-}
-
-// What comes of a host's call, which brings no answer of the card.
-fn called(bench: Bench, t: LinkTurn, sent: &[u8], out: &mut [u8]) -> Reply {
-    turned(bench, t, sent, b"", out)
-}
-
-fn turned(bench: Bench, t: LinkTurn, sent: &[u8], answer: &[u8], out: &mut [u8]) -> Reply {
-    let reader = t.reader;
-    let a = t.answer;
-    let r = reader.reader;
     Reply {
-        bench: Bench {
-            reader,
-            room: bench.room,
-            message: bench.message,
-        },
-        length: answers::turned(r, a, sent, answer, out),
+        bench,
+        answer: bench_talk::none(),
     }
 }
 
-fn new(bench: Bench, out: &mut [u8]) -> Reply {
+// The bench with this reader.
+fn with_reader(bench: Bench, reader: LinkReader) -> Bench {
+    let answer = bench.answer;
+    let message = bench.message;
+    Bench {
+        reader,
+        answer,
+        room: bench.room,
+        message,
+        length: bench.length,
+    }
+}
+
+// What comes of a call or a row: the bits that the reader sends stand at the front of sent, a whole answer in the answer buffer.
+fn turned(bench: Bench, t: LinkTurn, sent: &[u8]) -> Reply {
+    let reader = t.reader;
+    let a = t.answer;
+    let r = reader.reader;
+    let answer = bench.answer;
     Reply {
-        bench: Bench {
-            reader: whole::new_reader(),
-            room: bench.room,
-            message: bench.message,
-        },
-        length: answers::words(b"new", out),
+        bench: with_reader(bench, reader),
+        answer: answers::turned(r, a, sent, &answer),
+    }
+}
+
+fn new(bench: Bench) -> Reply {
+    Reply {
+        bench: with_reader(bench, whole::new_reader()),
+        answer: answers::plain(answers::NEW),
     }
 }
 
 // `room N`, 0 to 4096
-fn room(bench: Bench, value: &[u8], out: &mut [u8]) -> Reply {
+fn room(bench: Bench, value: &[u8]) -> Reply {
     let n = bench_lines::number_to(value, 4096);
     if n > 4096 {
         return none(bench);
     }
-    let reader = bench.reader;
+    let mut after = bench;
+    after.room = n;
     Reply {
-        bench: Bench {
-            reader,
-            room: n,
-            message: bench.message,
-        },
-        length: answers::number(b"room ", n, out),
+        bench: after,
+        answer: answers::numbered(answers::ROOM, n),
     }
 }
 
-fn select(bench: Bench, out: &mut [u8]) -> Reply {
+fn select(bench: Bench) -> Reply {
     let mut sent = [0u8; 2304];
     let reader = bench.reader;
     let t = whole::select(reader, &mut sent);
-    called(bench, t, &sent, out)
+    turned(bench, t, &sent)
 }
 
-fn start_sweep(bench: Bench, out: &mut [u8]) -> Reply {
+fn start_sweep(bench: Bench) -> Reply {
     let mut sent = [0u8; 2304];
     let reader = bench.reader;
     let t = whole::start_sweep(reader, &mut sent);
-    called(bench, t, &sent, out)
+    turned(bench, t, &sent)
 }
 
 // `rats INDEX`, 0 to 255
-fn rats(bench: Bench, value: &[u8], out: &mut [u8]) -> Reply {
+fn rats(bench: Bench, value: &[u8]) -> Reply {
     let n = bench_lines::small_number(value);
     if n > 255 {
         return none(bench);
@@ -129,56 +114,60 @@ fn rats(bench: Bench, value: &[u8], out: &mut [u8]) -> Reply {
     let mut sent = [0u8; 2304];
     let reader = bench.reader;
     let t = whole::rats(reader, bench_lines::within_byte(n), &mut sent);
-    called(bench, t, &sent, out)
+    turned(bench, t, &sent)
 }
 
-// `send HEX`: the host's message, kept until the next one, also where the core declines it.
-fn send(bench: Bench, value: &[u8], message: &mut [u8], out: &mut [u8]) -> Reply {
-    let n = bench_lines::count_bytes(value, message);
-    if message.len() < n {
+// `send HEX`: the host's message, kept until the next one. One that is refused is not kept: the one before it stays.
+fn send(bench: Bench, value: &[u8]) -> Reply {
+    let mut message = [0u8; 8192];
+    let n = bench_lines::count_bytes(value, &mut message);
+    if n > 8192 {
         return none(bench);
     }
     let mut sent = [0u8; 2304];
     let reader = bench.reader;
-    let t = whole::send(reader, bench::front(message, n), &mut sent);
-    let kept = Bench {
-        reader,
-        room: bench.room,
-        message: n,
-    };
-    called(kept, t, &sent, out)
+    let t = whole::send(reader, bench::front(&message, n), &mut sent);
+    let a = t.answer;
+    if reader_link::whole::bits_of(a) == 0 {
+        return turned(bench, t, &sent);
+    }
+    let mut after = bench;
+    after.message = message;
+    after.length = n;
+    turned(after, t, &sent)
 }
 
-fn deselect(bench: Bench, out: &mut [u8]) -> Reply {
+fn deselect(bench: Bench) -> Reply {
     let mut sent = [0u8; 2304];
     let reader = bench.reader;
     let t = whole::deselect(reader, &mut sent);
-    called(bench, t, &sent, out)
+    turned(bench, t, &sent)
 }
 
 // The lines by which the reader hears a row.
-fn frame(
-    bench: Bench,
-    name: &[u8],
-    value: &[u8],
-    message: &[u8],
-    answer: &mut [u8],
-    out: &mut [u8],
-) -> Reply {
+fn frame(bench: Bench, name: &[u8], value: &[u8]) -> Reply {
     let mut row = [0u8; 73746];
-    let r = bench_lines::row_line(name, value, &mut row);
-    match r {
-        RowLine::Bits(n) => hear(bench, bench::front(&row, n), message, answer, out),
-        RowLine::NotUnderstood => none(bench),
+    let n = bench_lines::row_line(name, value, &mut row);
+    if n > 73746 {
+        return none(bench);
     }
+    hear(bench, bench::front(&row, n))
 }
 
-// The reader hears a row, an empty one for silence.
-fn hear(bench: Bench, heard: &[u8], message: &[u8], answer: &mut [u8], out: &mut [u8]) -> Reply {
+// The reader hears a row, the empty one for silence.
+fn hear(bench: Bench, heard: &[u8]) -> Reply {
     let mut sent = [0u8; 2304];
+    let mut answer = bench.answer;
+    let host = bench.message;
     let reader = bench.reader;
-    let host = bench::front(message, bench.message);
-    let room = bench_text::within::least(bench.room, answer.len());
-    let t = whole::hear(reader, heard, host, &mut answer[..room], &mut sent);
-    turned(bench, t, &sent, answer, out)
+    let t = whole::hear(
+        reader,
+        heard,
+        bench::front(&host, bench.length),
+        bench_talk::room(&mut answer, bench.room),
+        &mut sent,
+    );
+    let mut after = bench;
+    after.answer = answer;
+    turned(after, t, &sent)
 }

@@ -1,5 +1,6 @@
-// A row for people: groups separated by spaces.
+// A row for people: groups, each behind a space.
 ghost use Prim.Native.Nat.{_≤_};
+use bench_talk::Answer;
 
 // n elements of a row from a place on, as far as it has them.
 pub fn part(row: &[u8], from: usize, n: usize) -> &[u8] {
@@ -29,26 +30,23 @@ fn bit(row: &[u8], i: usize) -> u8
 }
 
 // A reader's frame: the byte of a short one, or whole bytes with parity and then left-over bits.
-pub fn put_sent(out: &mut [u8], at: usize, row: &[u8]) -> usize {
+pub fn put_sent(a: Answer, row: &[u8]) -> Answer {
     if row.len() == 7 {
-        return bench_text::put_hex(out, at, &[value(row)]);
+        return bench_talk::hex(a, &[value(row)]);
     }
-    put_groups(out, at, row)
+    put_groups(a, row)
 }
 
 // What was heard after a frame that had sent so many bits of a broken byte: the rest of that byte, without its parity, comes first.
-pub fn put_heard(out: &mut [u8], at: usize, row: &[u8], left: usize) -> usize {
+pub fn put_heard(a: Answer, row: &[u8], left: usize) -> Answer {
     if left == 0 {
-        return put_groups(out, at, row);
+        return put_groups(a, row);
     }
     let missing = rest_of(left);
-    let p = bench_text::put_bits(out, at, part(row, 0, missing));
-    let behind = part(row, missing + 1, row.len());
-    if behind.len() == 0 {
-        return p;
-    }
-    let q = bench_text::put(out, p, b" ");
-    put_groups(out, q, behind)
+    put_groups(
+        bench_talk::row(a, part(row, 0, missing)),
+        part(row, missing + 1, row.len()),
+    )
 }
 
 // How many bits of a byte are missing where so many were sent.
@@ -59,30 +57,24 @@ fn rest_of(left: usize) -> usize
 }
 
 // Whole bytes with parity, then left-over bits.
-fn put_groups(out: &mut [u8], at: usize, row: &[u8]) -> usize {
-    let mut p = put_group(out, at, part(row, 0, 9));
-    let mut from = 9;
+fn put_groups(a: Answer, row: &[u8]) -> Answer {
+    let mut b = a;
+    let mut from = 0;
     while from < row.len() {
-        p = put_next(out, p, part(row, from, 9));
+        b = put_group(b, part(row, from, 9));
         from += 9;
     }
-    p
-}
-
-// A group behind another.
-fn put_next(out: &mut [u8], at: usize, bits: &[u8]) -> usize {
-    let p = bench_text::put(out, at, b" ");
-    put_group(out, p, bits)
+    b
 }
 
 // A whole byte in two capitals, or in its eight bits where one collided; left-over bits as they are.
-fn put_group(out: &mut [u8], at: usize, bits: &[u8]) -> usize {
+fn put_group(a: Answer, bits: &[u8]) -> Answer {
     if bits.len() < 9 {
-        return bench_text::put_bits(out, at, bits);
+        return bench_talk::row(a, bits);
     }
     let byte = bench::front(bits, 8);
     if rows::is_clean(byte) {
-        return bench_text::put_hex(out, at, &[value(byte)]);
+        return bench_talk::hex(a, &[value(byte)]);
     }
-    bench_text::put_bits(out, at, byte)
+    bench_talk::row(a, byte)
 }

@@ -38,99 +38,64 @@ pub fn is_understood(g: Given) -> bool {
     g.up <= 4096
 }
 
-// The message, the answer and the card's host's last answer are written anew from their numbers.
-pub fn exchange(bench: Bench, g: Given, out: &mut [u8]) -> Reply {
-    let mut message = [0u8; 5000];
-    let mut before = [0u8; 5000];
-    let mut answer = [0u8; 5000];
-    fill(&mut message, g.message_seed);
-    fill(&mut before, bench.seed);
-    fill(&mut answer, g.answer_seed);
-    lend(
-        bench,
-        g,
-        bench::front(&message, g.message),
-        bench::front(&before, bench.before),
-        bench::front(&answer, g.answer),
-        out,
-    )
+// The message, the answer and the card's host's last answer are written anew from their numbers. Both message buffers are filled with EE.
+pub fn exchange(bench: Bench, g: Given) -> Reply {
+    let message = filled(g.message_seed);
+    let before = filled(bench.seed);
+    let answer = filled(g.answer_seed);
+    let mut down = [0xEEu8; 4096];
+    let mut up = [0xEEu8; 4096];
+    let reader = bench.reader;
+    let card = bench.card;
+    let o = exchange::exchange(
+        reader,
+        card,
+        first(&message, g.message),
+        first(&before, bench.before),
+        first(&answer, g.answer),
+        g.rounds,
+        bench_talk::room(&mut down, g.down),
+        bench_talk::room(&mut up, g.up),
+    );
+    Reply {
+        bench: after(bench, g, o),
+        answer: answers::exchanged(o, bench::front(&down, g.down), bench::front(&up, g.up)),
+    }
 }
 
 // Byte k is the low byte of the seed and 7 k.
-fn fill(bytes: &mut [u8], seed: usize) {
+fn filled(seed: usize) -> [u8; 5000] {
+    let mut bytes = [0u8; 5000];
     let mut b = bench_lines::within_byte(seed);
-    for i in 0..bytes.len() {
+    for i in 0..5000usize {
         bytes[i] = b;
         b = std::num::wrapping_add_u8(b, 7);
     }
+    bytes
 }
 
-// Both message buffers are filled with EE.
-fn lend(
-    bench: Bench,
-    g: Given,
-    message: &[u8],
-    before: &[u8],
-    answer: &[u8],
-    out: &mut [u8],
-) -> Reply {
-    let mut down = [0xEEu8; 4096];
-    let mut up = [0xEEu8; 4096];
-    let d = bench_text::within::least(g.down, 4096);
-    let u = bench_text::within::least(g.up, 4096);
-    run(
-        bench,
-        g,
-        message,
-        before,
-        answer,
-        &mut down[..d],
-        &mut up[..u],
-        out,
-    )
-}
-
-fn run(
-    bench: Bench,
-    g: Given,
-    message: &[u8],
-    before: &[u8],
-    answer: &[u8],
-    down: &mut [u8],
-    up: &mut [u8],
-    out: &mut [u8],
-) -> Reply {
-    let reader = bench.reader;
-    let card = bench.card;
-    let o = exchange::exchange(reader, card, message, before, answer, g.rounds, down, up);
-    let length = answers::exchanged(o, down, up, out);
-    after(bench, g, o, length)
+fn first(bytes: &[u8; 5000], n: usize) -> &[u8] {
+    bench::front(bytes, n)
 }
 
 // The ends go on with the next line; an answer that the card's host gave is its last.
-fn after(bench: Bench, g: Given, o: Outcome, length: usize) -> Reply {
+fn after(bench: Bench, g: Given, o: Outcome) -> Bench {
     let reader = o.reader;
     let card = o.card;
     if o.answered {
-        return Reply {
-            bench: Bench {
-                has_ends: true,
-                reader,
-                card,
-                before: g.answer,
-                seed: g.answer_seed,
-            },
-            length,
-        };
-    }
-    Reply {
-        bench: Bench {
+        return Bench {
             has_ends: true,
             reader,
             card,
-            before: bench.before,
-            seed: bench.seed,
-        },
-        length,
+            before: g.answer,
+            seed: g.answer_seed,
+        };
+    }
+    Bench {
+        has_ends: true,
+        reader,
+        card,
+        before: bench.before,
+        seed: bench.seed,
     }
 }

@@ -1,43 +1,32 @@
-// The lines. Each function answers the bench after the line, and how many bytes of out are the answer: 0 where the line is not understood.
+// The lines. Each function answers the bench after the line and the answer to it.
 use crate::Bench;
 use crate::Reply;
 use crate::answers;
-use crate::ends;
-use crate::ends::Talk;
 use crate::exchanges;
 use crate::exchanges::Given;
+use bench_ends::Ends;
 use card_link::LinkCard;
-use reader_link::LinkAnswer;
 use uid::Made;
 
-pub fn script(bench: Bench, text: &[u8], out: &mut [u8]) -> Reply {
-    let name = bench::word(text, 0);
-    if rows::is_same(name, b"ends") {
-        return new_ends(bench, text, out);
+pub fn script(bench: Bench, text: &[u8]) -> Reply {
+    let k = bench_talk::which(b"ends exchange", 2, bench::word(text, 0));
+    match k {
+        0 => new_ends(bench, text),
+        1 => exchange(bench, text),
+        _ => none(bench),
     }
-    if !rows::is_same(name, b"exchange") {
-        return none(bench);
-    }
-    if !bench.has_ends {
-        return none(bench);
-    }
-    let g = given(text);
-    if !exchanges::is_understood(g) {
-        return none(bench);
-    }
-    if bench::word(text, 8).len() != 0 {
-        return none(bench);
-    }
-    exchanges::exchange(bench, g, out)
 }
 
 // The line is not understood.
 fn none(bench: Bench) -> Reply {
-    Reply { bench, length: 0 }
+    Reply {
+        bench,
+        answer: bench_talk::none(),
+    }
 }
 
 // `ends UID I J`: the reader has size index I, the card J and SAK 20. A refused one leaves the ends that were there.
-fn new_ends(bench: Bench, text: &[u8], out: &mut [u8]) -> Reply {
+fn new_ends(bench: Bench, text: &[u8]) -> Reply {
     if bench::word(text, 4).len() != 0 {
         return none(bench);
     }
@@ -54,40 +43,54 @@ fn new_ends(bench: Bench, text: &[u8], out: &mut [u8]) -> Reply {
     let made = new.made;
     let card = new.card;
     match made {
-        Made::Good => opened(bench, card, bench_lines::within_byte(index), out),
+        Made::Good => opened(bench, card, bench_lines::within_byte(index)),
         Made::NotMade(e) => Reply {
             bench,
-            length: answers::refused(e, out),
+            answer: bench_talk::refused(refusal::number(e)),
         },
     }
 }
 
 // The card is powered, and a new reader with this size index opens it.
-fn opened(bench: Bench, card: LinkCard, index: u8, out: &mut [u8]) -> Reply {
-    let t = ends::open(card_link::whole::power_on(card), index);
-    let a = t.answer;
-    let length = answers::opened(a, out);
-    match a {
-        LinkAnswer::Selection(_) => Reply { bench, length },
-        LinkAnswer::Opens(_) => with_ends(t, length),
-        LinkAnswer::Blocks(_, _) => Reply { bench, length },
+fn opened(bench: Bench, card: LinkCard, index: u8) -> Reply {
+    let e = bench_ends::opened(card_link::whole::power_on(card), index);
+    if e.size == 0 {
+        return Reply {
+            bench,
+            answer: bench_talk::refused(e.refused),
+        };
+    }
+    Reply {
+        bench: with_ends(e),
+        answer: answers::opened(e.size),
     }
 }
 
 // The ends after ATS: the card's host has answered nothing.
-fn with_ends(t: Talk, length: usize) -> Reply {
-    let reader = t.reader;
-    let card = t.card;
-    Reply {
-        bench: Bench {
-            has_ends: true,
-            reader,
-            card,
-            before: 0,
-            seed: 0,
-        },
-        length,
+fn with_ends(e: Ends) -> Bench {
+    let reader = e.reader;
+    let card = e.card;
+    Bench {
+        has_ends: true,
+        reader,
+        card,
+        before: 0,
+        seed: 0,
     }
+}
+
+fn exchange(bench: Bench, text: &[u8]) -> Reply {
+    if !bench.has_ends {
+        return none(bench);
+    }
+    let g = given(text);
+    if !exchanges::is_understood(g) {
+        return none(bench);
+    }
+    if bench::word(text, 8).len() != 0 {
+        return none(bench);
+    }
+    exchanges::exchange(bench, g)
 }
 
 // The numbers of `exchange MLEN MSEED ALEN ASEED ROUNDS DOWN UP`. A number has five digits at most.

@@ -1,9 +1,10 @@
 // Demand 2 from text: a card and a reader that speak to each other over a channel without errors. One answer for each line.
 mod answers;
-mod ends;
 mod exchanges;
 mod lines;
 
+use bench_talk::Answer;
+use bench_talk::Talk;
 use card_link::LinkCard;
 use reader_link::LinkReader;
 
@@ -16,32 +17,25 @@ pub struct Bench {
     pub seed: usize,
 }
 
-// The bench after a line, and how many bytes its answer has: 0 where the line is not understood.
+// The bench after a line, and the answer to it.
 pub struct Reply {
     pub bench: Bench,
-    pub length: usize,
-}
-
-fn main() {
-    let mut buffer = io::buffer();
-    let mut line = [0u8; 16385];
-    let mut out = [0u8; 16384];
-    play(&mut buffer, &mut line, &mut out);
+    pub answer: Answer,
 }
 
 // Answers every line. A proved loop has to end, and nothing says that the input does: it counts its turns down from a number that no run
 // uses up.
-fn play(buffer: &mut [u8], line: &mut [u8], out: &mut [u8]) {
+fn main() {
     let mut bench = start();
-    let mut input = bench_io::start();
+    let mut talk = bench_talk::start();
     let mut turns = u64::MAX;
     while turns > 0 {
         turns -= 1;
-        input = bench_io::next_line(input, buffer, line);
-        if !bench_io::has_line(input) {
+        talk = bench_talk::next(talk);
+        if !bench_talk::has_line(talk) {
             return;
         }
-        bench = answer_line(bench, input, line, out);
+        bench = answer_line(bench, talk);
     }
 }
 
@@ -58,12 +52,14 @@ fn start() -> Bench {
     }
 }
 
-fn answer_line(bench: Bench, input: bench_io::Input, line: &[u8], out: &mut [u8]) -> Bench {
-    let text = bench_io::text(input, line);
-    if !bench_io::is_script(input, text, out) {
+fn answer_line(bench: Bench, talk: Talk) -> Bench {
+    if !bench_talk::is_script(talk) {
         return bench;
     }
-    let r = lines::script(bench, text, out);
-    bench_io::answer(input, r.length, out);
+    let line = talk.line;
+    let bytes = talk.bytes;
+    let r = lines::script(bench, bench_talk::text(line, &bytes));
+    let a = r.answer;
+    bench_talk::say(talk, a);
     r.bench
 }

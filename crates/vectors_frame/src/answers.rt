@@ -1,129 +1,139 @@
-// The answers, written at the front of out. Each function answers how many bytes; 0 where the line is not understood.
+// The answers. None where the line is not understood.
+use bench_talk::Answer;
 use frame::Received;
 use frame::ReceivedShort;
 use frame::Written;
-use refusal::Refusal;
+use uid::AirRow;
 use uid::Made;
+use uid::Uid;
 
-pub fn short(value: &[u8], out: &mut [u8]) -> usize {
+// The words of the answers, by their numbers in the list of said.
+const ROW: usize = 0;
+
+const BYTES: usize = 1;
+
+const SHORT: usize = 2;
+
+const CRC: usize = 3;
+
+const B: usize = 4;
+
+const LEVELS: usize = 5;
+
+fn said(a: Answer, k: usize) -> Answer {
+    bench_talk::word(a, b"row bytes short crc b levels", k)
+}
+
+// The lines whose value is a row: `read`, `readcrc`, `readshort`.
+pub fn of_row(k: usize, row: &[u8]) -> Answer {
+    let mut bytes = [0u8; 256];
+    match k {
+        0 => {
+            let r = frame::read(row, &mut bytes);
+            received(r, &bytes)
+        }
+        1 => {
+            let r = frame::read_crc(row, &mut bytes);
+            received(r, &bytes)
+        }
+        _ => read_short(row),
+    }
+}
+
+// The lines whose value is bytes: `short`, `bytes`, `crc`, `crca`, `check`, `uid`.
+pub fn of_bytes(k: usize, given: &[u8]) -> Answer {
+    match k {
+        3 => short(given),
+        4 => bytes(given),
+        5 => crc(given),
+        6 => hex(CRC, &crc::crc_bytes(given)),
+        7 => hex(B, &[exclusive_or(given)]),
+        8 => uid(given),
+        _ => bench_talk::none(),
+    }
+}
+
+// A word and bytes.
+fn hex(k: usize, bytes: &[u8]) -> Answer {
+    bench_talk::hex(said(bench_talk::none(), k), bytes)
+}
+
+fn short(value: &[u8]) -> Answer {
     if value.len() != 1 {
-        return 0;
+        return bench_talk::none();
     }
     let mut row = [0u8; 7];
     let w = frame::write_short(value[0], &mut row);
-    written(w, &row, out)
+    written(w, &row)
 }
 
-pub fn bytes(value: &[u8], out: &mut [u8]) -> usize {
+fn bytes(value: &[u8]) -> Answer {
     let mut row = [0u8; 4608];
     let w = frame::write(value, &mut row);
-    written(w, &row, out)
+    written(w, &row)
 }
 
-pub fn crc(value: &[u8], out: &mut [u8]) -> usize {
+fn crc(value: &[u8]) -> Answer {
     let mut row = [0u8; 4626];
     let w = frame::write_crc(value, &mut row);
-    written(w, &row, out)
+    written(w, &row)
 }
 
-pub fn crc_a(value: &[u8], out: &mut [u8]) -> usize {
-    let c = crc::crc_bytes(value);
-    let p = bench_text::put(out, 0, b"crc ");
-    bench_text::put_hex(out, p, &c)
+fn written(w: Written, row: &[u8]) -> Answer {
+    match w {
+        Written::Bits(n) => bench_talk::row(said(bench_talk::none(), ROW), bench::front(row, n)),
+        Written::NotWritten(e) => bench_talk::refused(refusal::number(e)),
+    }
 }
 
-pub fn read(row: &[u8], out: &mut [u8]) -> usize {
-    let mut bytes = [0u8; 256];
-    let r = frame::read(row, &mut bytes);
-    received(r, &bytes, out)
+fn received(r: Received, bytes: &[u8]) -> Answer {
+    match r {
+        Received::Bytes(n) => hex(BYTES, bench::front(bytes, n)),
+        Received::NotReceived(e) => bench_talk::refused(refusal::number(e)),
+    }
 }
 
-pub fn read_crc(row: &[u8], out: &mut [u8]) -> usize {
-    let mut bytes = [0u8; 256];
-    let r = frame::read_crc(row, &mut bytes);
-    received(r, &bytes, out)
-}
-
-pub fn read_short(row: &[u8], out: &mut [u8]) -> usize {
+fn read_short(row: &[u8]) -> Answer {
     let r = frame::read_short(row);
     match r {
-        ReceivedShort::Byte(b) => {
-            let p = bench_text::put(out, 0, b"short ");
-            bench_text::put_hex(out, p, &[b])
-        }
-        ReceivedShort::NotShort(e) => refused(e, out),
+        ReceivedShort::Byte(b) => hex(SHORT, &[b]),
+        ReceivedShort::NotShort(e) => bench_talk::refused(refusal::number(e)),
     }
 }
 
-pub fn check(value: &[u8], out: &mut [u8]) -> usize {
-    let b = exclusive_or(value);
-    let p = bench_text::put(out, 0, b"b ");
-    bench_text::put_hex(out, p, &[b])
-}
-
-pub fn uid(value: &[u8], out: &mut [u8]) -> usize {
-    let made = uid::new_uid(value);
-    let m = made.made;
-    let u = made.uid;
-    match m {
-        Made::Good => levels(u, out),
-        Made::NotMade(e) => refused(e, out),
+fn uid(value: &[u8]) -> Answer {
+    let new = uid::new_uid(value);
+    let made = new.made;
+    let u = new.uid;
+    match made {
+        Made::Good => on_air(levels(u), u),
+        Made::NotMade(e) => bench_talk::refused(refusal::number(e)),
     }
 }
 
-fn levels(u: uid::Uid, out: &mut [u8]) -> usize {
+// `levels N` and three rows of five bytes.
+fn levels(u: Uid) -> Answer {
     let size = u.size;
-    let p = bench_text::put(out, 0, b"levels ");
-    let q = bench_text::put_decimal(out, p, uid::level_count(size));
-    let ls = uid::levels(u);
-    let l1 = ls[0];
-    let l2 = ls[1];
-    let l3 = ls[2];
-    let a = spaced_hex(out, q, &l1);
-    let b = spaced_hex(out, a, &l2);
-    let c = spaced_hex(out, b, &l3);
-    on_air(u, out, c)
+    let rows = uid::levels(u);
+    let one = rows[0];
+    let two = rows[1];
+    let three = rows[2];
+    let a = bench_talk::number(said(bench_talk::none(), LEVELS), uid::level_count(size));
+    five(five(five(a, &one), &two), &three)
 }
 
-fn spaced_hex(out: &mut [u8], at: usize, bytes: &[u8; 5]) -> usize {
-    let p = bench_text::put(out, at, b" ");
-    bench_text::put_hex(out, p, bytes)
+fn five(a: Answer, bytes: &[u8; 5]) -> Answer {
+    bench_talk::hex(a, bytes)
 }
 
-fn on_air(u: uid::Uid, out: &mut [u8], at: usize) -> usize {
+// `row ROW` behind them, the on-air row.
+fn on_air(a: Answer, u: Uid) -> Answer {
     let mut row = [0u8; 120];
     let r = uid::air_row(u, &mut row);
     match r {
-        uid::AirRow::Bits(n) => {
-            let p = bench_text::put(out, at, b" row ");
-            bench_text::put_row(out, p, bench::front(&row, n))
-        }
-        uid::AirRow::NoRoom(e) => refused(e, out),
+        AirRow::Bits(n) => bench_talk::row(said(a, ROW), bench::front(&row, n)),
+        AirRow::NoRoom(e) => bench_talk::refused(refusal::number(e)),
     }
-}
-
-fn written(w: Written, row: &[u8], out: &mut [u8]) -> usize {
-    match w {
-        Written::Bits(n) => {
-            let p = bench_text::put(out, 0, b"row ");
-            bench_text::put_row(out, p, bench::front(row, n))
-        }
-        Written::NotWritten(e) => refused(e, out),
-    }
-}
-
-fn received(r: Received, bytes: &[u8], out: &mut [u8]) -> usize {
-    match r {
-        Received::Bytes(n) => {
-            let p = bench_text::put(out, 0, b"bytes ");
-            bench_text::put_hex(out, p, bench::front(bytes, n))
-        }
-        Received::NotReceived(e) => refused(e, out),
-    }
-}
-
-fn refused(e: Refusal, out: &mut [u8]) -> usize {
-    bench_io::put_refused(out, 0, refusal::number(e))
 }
 
 fn exclusive_or(bytes: &[u8]) -> u8 {

@@ -1,107 +1,67 @@
 // Frames, CRC_A, B and levels from text: one answer for each line.
 mod answers;
-mod words;
 
-use bench::LineKind;
-
-fn main() {
-    let mut buffer = io::buffer();
-    let mut line = [0u8; 16385];
-    let mut out = [0u8; 16384];
-    play(&mut buffer, &mut line, &mut out);
-}
+use bench_talk::Answer;
+use bench_talk::Talk;
 
 // Answers every line. A proved loop has to end, and nothing says that the input does: it counts its turns down from a number that no run
 // uses up.
-fn play(buffer: &mut [u8], line: &mut [u8], out: &mut [u8]) {
-    let mut input = bench_io::start();
+fn main() {
+    let mut talk = bench_talk::start();
     let mut turns = u64::MAX;
     while turns > 0 {
         turns -= 1;
-        input = bench_io::next_line(input, buffer, line);
-        if !bench_io::has_line(input) {
+        talk = bench_talk::next(talk);
+        if !bench_talk::has_line(talk) {
             return;
         }
-        let n = answer(input, line, out);
-        bench_io::say(out, n);
+        answer_line(talk);
     }
 }
 
-// The answer to a line, at the front of out: how many bytes; 0 where the line is passed over.
-fn answer(input: bench_io::Input, line: &[u8], out: &mut [u8]) -> usize {
-    let text = bench_io::text(input, line);
-    let kind = bench_io::kind(input, text);
-    match kind {
-        LineKind::PassedOver => 0,
-        LineKind::TooLong => bench_io::not_understood(input, out),
-        LineKind::Script => {
-            let n = script(text, out);
-            if n == 0 {
-                return bench_io::not_understood(input, out);
-            }
-            n
-        }
+fn answer_line(talk: Talk) {
+    if !bench_talk::is_script(talk) {
+        return;
     }
+    let line = talk.line;
+    let bytes = talk.bytes;
+    bench_talk::say(talk, script(bench_talk::text(line, &bytes)));
 }
 
-// The answer to a line of two words; 0 where it is not understood.
-fn script(text: &[u8], out: &mut [u8]) -> usize {
-    let name = bench::word(text, 0);
+// The answer to a line of two words: the first three names take a row, the others bytes.
+fn script(text: &[u8]) -> Answer {
     let value = bench::word(text, 1);
     if value.len() == 0 {
-        return 0;
+        return bench_talk::none();
     }
     if bench::word(text, 2).len() != 0 {
-        return 0;
+        return bench_talk::none();
     }
-    if words::takes_row(name) {
-        return rows_in(name, value, out);
+    let k = bench_talk::which(
+        b"read readcrc readshort short bytes crc crca check uid",
+        9,
+        bench::word(text, 0),
+    );
+    if k < 3 {
+        return row_line(k, value);
     }
-    bytes_in(name, value, out)
+    bytes_line(k, value)
 }
 
-// The lines whose value is a row.
-fn rows_in(name: &[u8], value: &[u8], out: &mut [u8]) -> usize {
+fn row_line(k: usize, value: &[u8]) -> Answer {
     let mut row = [0u8; 4096];
-    let n = words::row(value, &mut row);
+    let n = bench_lines::count_bits(value, &mut row);
     if n > 4096 {
-        return 0;
+        return bench_talk::none();
     }
-    let heard = bench::front(&row, n);
-    if rows::is_same(name, b"read") {
-        return answers::read(heard, out);
-    }
-    if rows::is_same(name, b"readcrc") {
-        return answers::read_crc(heard, out);
-    }
-    answers::read_short(heard, out)
+    answers::of_row(k, bench::front(&row, n))
 }
 
-// The lines whose value is bytes.
-fn bytes_in(name: &[u8], value: &[u8], out: &mut [u8]) -> usize {
+fn bytes_line(k: usize, value: &[u8]) -> Answer {
     let mut bytes = [0u8; 512];
-    let n = words::bytes(value, &mut bytes);
+    let n = bench_lines::count_bytes(value, &mut bytes);
     if n > 512 {
-        return 0;
+        return bench_talk::none();
     }
-    let given = bench::front(&bytes, n);
-    if rows::is_same(name, b"short") {
-        return answers::short(given, out);
-    }
-    if rows::is_same(name, b"bytes") {
-        return answers::bytes(given, out);
-    }
-    if rows::is_same(name, b"crc") {
-        return answers::crc(given, out);
-    }
-    if rows::is_same(name, b"crca") {
-        return answers::crc_a(given, out);
-    }
-    if rows::is_same(name, b"check") {
-        return answers::check(given, out);
-    }
-    if rows::is_same(name, b"uid") {
-        return answers::uid(given, out);
-    }
-    0
+    answers::of_bytes(k, bench::front(&bytes, n))
 }

@@ -299,11 +299,11 @@ fn owing(s: &mut S) {
     }
 }
 
-/// The answer is lent at each call: one that ends before the place of the last I is 1.
+/// The program lends the answer at each call. One that is refused is not kept: what goes out again is of the one before.
 fn lent_answer(s: &mut S) {
-    s.remark("another answer lent than the one under way");
+    s.remark("a refused answer is not kept");
     let long = "000102030405060708090A0B0C0D0E0F101112131415161718191A1B1C1D1E1F";
-    for (count, lines) in [(0, 1), (12, 1), (13, 1), (13, 2), (12, 2), (26, 2), (25, 2)] {
+    for (other, lines) in [("-", 0), ("-", 1), ("E5E5E5E5", 1), ("E5E5E5E5", 2)] {
         enter(s, 0);
         s.say("crc 02");
         s.say(&format!("reply {long}"));
@@ -311,34 +311,22 @@ fn lent_answer(s: &mut S) {
             let line = ack_line(s, false);
             s.say(&line);
         }
-        // 11, and yet it is what the program lends from now on.
-        let other = if count == 0 { "-".to_string() } else { "E5".repeat(count) };
         s.say(&format!("reply {other}"));
-        let lines = [nak_line(s, true), "row -".to_string(), "crc C200".to_string(), nak_line(s, false)];
-        for line in lines {
-            s.say(&line);
-        }
-        s.say(&format!("reply {long}"));
-        let lines = [nak_line(s, true), ack_line(s, true)];
+        let lines = [nak_line(s, true), "row -".to_string(), "crc C200".to_string(), ack_line(s, true), ack_line(s, false)];
         for line in lines {
             s.say(&line);
         }
         s.say("crc 02");
     }
-    s.remark("the next I behind the end of a shorter one: empty, the last; its place is behind the end, so the next call is 1");
+    s.remark("nor is one that is too long");
     enter(s, 0);
     s.say("crc 02");
-    s.say(&format!("reply {long}"));
     s.say("reply 0102");
-    for _ in 0..2 {
-        let line = ack_line(s, false);
-        s.say(&line);
-    }
-    s.say(&format!("reply {long}"));
-    let lines = [nak_line(s, true), ack_line(s, false)];
-    for line in lines {
-        s.say(&line);
-    }
+    s.say("crc 03");
+    s.say(&format!("reply {}", "E5".repeat(4097)));
+    s.say("reply 03");
+    let line = nak_line(s, true);
+    s.say(&line);
     s.remark("the place is 0 again once an I is accepted");
     enter(s, 0);
     s.say("crc 02");

@@ -1,5 +1,6 @@
 //! The scripts that are stored as vectors, and random ones for larger comparisons.
 
+pub mod calls;
 pub mod card;
 pub mod card_blocks;
 pub mod exchange;

@@ -410,40 +410,22 @@ fn wtx(s: &mut S) {
     }
 }
 
-/// The message is lent at each call: one that ends before the place of the last I is 1.
+/// The program lends the message at each call. One that is refused is not kept: what goes out again is of the one before.
 fn lent_message(s: &mut S) {
-    s.remark("another message lent than the one under way");
-    for (place, count) in [
-        (Place::More, 0),
-        (Place::MoreOn, 0),
-        (Place::MoreOn, 12),
-        (Place::MoreOn, 13),
-        (Place::LastOfTwo, 0),
-        (Place::LastOfTwo, 12),
-        (Place::LastOfTwo, 13),
-        (Place::LastOfTwo, 30),
-        (Place::Last, 0),
-        (Place::Joining, 0),
-        (Place::Deselect, 0),
-    ] {
-        stand(s, place);
-        let other = if count == 0 { "-".to_string() } else { "E5".repeat(count) };
-        s.say(&format!("send {other}"));
-        let again = format!("crc {:02X}", 0xA2 | (number(s) ^ 1));
-        for line in ["row -", "crc F201", &again] {
-            s.say(line);
+    s.remark("a refused message is not kept");
+    for place in [Place::More, Place::MoreOn, Place::LastOfTwo, Place::Last, Place::Joining, Place::Deselect] {
+        for other in ["-", "E5E5E5E5"] {
+            stand(s, place);
+            s.say(&format!("send {other}"));
+            let again = format!("crc {:02X}", 0xA2 | (number(s) ^ 1));
+            for line in ["row -", "crc F201", &again, "row -"] {
+                s.say(line);
+            }
         }
-        s.say("send 000102030405060708090A0B0C0D0E0F101112131415161718191A1B1C1D1E1F");
-        s.say("row -");
     }
-    s.remark("while joining, and after the answer, the place is 0 again: a shorter message lent is no 1");
-    stand(s, Place::LastOfTwo);
-    say_all(s, &["crc 13AA", "send -", "row -", "crc F201", "crc 12BB", "send 00", "row x", "crc 03CC"]);
-    stand(s, Place::LastOfTwo);
-    say_all(s, &["crc 03AA", "deselect", "send -", "row -", "crc C2"]);
-    s.remark("the next I behind the end of a shorter one: empty, the last; its place is behind the end, so the next call is 1");
-    stand(s, Place::More);
-    say_all(s, &["send 0102", "crc A2", "row -", "send 000102030405060708090A0B0C0D0E0F", "row -", "crc A2"]);
+    s.remark("nor is one that is too long");
+    stand(s, Place::Last);
+    say_all(s, &["crc 02", &format!("send {}", "E5".repeat(4097)), "send 0708", "crc A2", "row -", "crc 03"]);
 }
 
 fn deselect(s: &mut S) {

@@ -1,32 +1,24 @@
 -- `bench_trace::groups::put_groups` meets its contract. The measure is what is left of the row. Assumes nothing.
 use Prim.Native.Nat.{_-_}
-use mathlib.Core.Path.{_≡_, refl, _∙_}
 use native.Mathlib.Omega.{arith}
-use borrow.Author.Needs.{needs}
 use lib.ListN.{length}
 use Rattle.bench_trace.proofs.groups.put_groups.Statement.{statement}
 use Rattle.bench_trace.proofs.groups.put_groups.Tie as tie
 
 abbrev Inv-loop : tie.InvT-loop
-Inv-loop out₀ at row p₀ from₀ out p from = length out ≡ length out₀
+Inv-loop row b₀ from₀ b from = Unit
 
 abbrev μ-loop : tie.MeasureT-loop
-μ-loop out₀ at row p₀ from₀ out p from = length row - from
+μ-loop row b₀ from₀ b from = length row - from
+
+loop-holds : tie.Need-loop-holds Inv-loop μ-loop
+loop-holds c = tt
 
 part-requires : tie.Need-part-requires Inv-loop μ-loop
 part-requires c κs = tt
 
 put-group-requires : tie.Need-put-group-requires Inv-loop μ-loop
 put-group-requires c κs = tt
-
-loop-holds : tie.Need-loop-holds Inv-loop μ-loop
-loop-holds c = refl
-
-part-requires-2 : tie.Need-part-requires-2 Inv-loop μ-loop
-part-requires-2 c κs = tt
-
-put-next-requires : tie.Need-put-next-requires Inv-loop μ-loop
-put-next-requires c κs = tt
 
 add-from : tie.Need-add-from Inv-loop μ-loop
 add-from c = omega arith
@@ -35,10 +27,7 @@ loop-less : tie.Need-loop-less Inv-loop μ-loop
 loop-less c = omega arith
 
 loop-again : tie.Need-loop-again Inv-loop μ-loop
-loop-again c = search needs
-
-same-length : tie.Need-same-length Inv-loop μ-loop
-same-length c = search needs
+loop-again c = tt
 
 returns : tie.Need-returns Inv-loop μ-loop
 returns c = tt
@@ -49,13 +38,10 @@ put-groups-spec =
     (tie.spec
     Inv-loop
     μ-loop
+    loop-holds
     part-requires
     put-group-requires
-    loop-holds
-    part-requires-2
-    put-next-requires
     add-from
     loop-less
     loop-again
-    same-length
     returns)

@@ -1,0 +1,169 @@
+// A sweep, and what came of it as lines on standard output.
+use crate::Collected;
+use crate::Way;
+use bench_talk::Answer;
+use card::Card;
+use card::CardState;
+use sweep::Swept;
+
+// What a sweep gave, with its log and its list.
+pub struct Report {
+    pub swept: Swept,
+    pub log: [u8; 8192],
+    pub list: [u8; 176],
+}
+
+// The words of the lines, by their numbers in the list of said.
+const FRAMES: usize = 0;
+
+const FOUND: usize = 1;
+
+const CARD: usize = 2;
+
+const LOG: usize = 3;
+
+fn said(k: usize) -> Answer {
+    bench_talk::word(bench_talk::none(), b"frames found card log", k)
+}
+
+// The cards swept on a new reader.
+pub fn swept(c: Collected, way: Way) -> Report {
+    let cards = c.cards;
+    match way {
+        Way::Values => by_values(cards, c.count),
+        Way::Row => by_row(cards, c.count),
+    }
+}
+
+fn by_values(cards: [Card; 16], count: usize) -> Report {
+    let mut log = [0u8; 8192];
+    let mut list = [0u8; 176];
+    let swept = sweep::sweep(reader::new_reader(), cards, count, &mut log, &mut list);
+    Report { swept, log, list }
+}
+
+fn by_row(cards: [Card; 16], count: usize) -> Report {
+    let mut log = [0u8; 8192];
+    let mut list = [0u8; 176];
+    let swept = sweep_row::within::sweep_by_row(
+        reader::new_reader(),
+        cards,
+        count,
+        &mut log,
+        &mut list,
+    );
+    Report { swept, log, list }
+}
+
+// `refused N`, or the lines of a sweep.
+pub fn say(r: Report, count: usize, has_trace: bool) {
+    let s = r.swept;
+    let last = s.answer;
+    let n = declined(last);
+    if n > 0 {
+        bench_talk::put_line(bench_talk::refused(n));
+        return;
+    }
+    say_swept(r, count, has_trace);
+}
+
+// The number by which a sweep was declined; 0 where it was not.
+fn declined(a: reader::Answer) -> u8 {
+    let reader::Answer::Declines(e) = a else {
+        return 0;
+    };
+    refusal::number(e)
+}
+
+fn say_swept(r: Report, count: usize, has_trace: bool) {
+    let s = r.swept;
+    let list = r.list;
+    let log = r.log;
+    let cards = s.cards;
+    let written = bench::front(&log, s.logged);
+    say_trace(has_trace, written);
+    bench_talk::put_line(bench_talk::number(said(FRAMES), s.frames));
+    say_found(&list, s.found);
+    say_cards(cards, count);
+    bench_talk::put_line(bench_talk::hex(said(LOG), written));
+}
+
+// A line for each record, where the trace is wanted.
+fn say_trace(has_trace: bool, log: &[u8]) {
+    if !has_trace {
+        return;
+    }
+    let mut t = bench_trace::start();
+    for i in 0..log.len() {
+        t = bench_trace::next(log, t);
+        if t.is_end {
+            return;
+        }
+        bench_talk::put_line(t.line);
+    }
+}
+
+// `found UID` for each entry of the list.
+fn say_found(list: &[u8], found: usize) {
+    for i in 0..found {
+        if i > 15 {
+            return;
+        }
+        say_entry(behind(list, 11 * i));
+    }
+}
+
+fn behind(list: &[u8], at: usize) -> &[u8] {
+    if list.len() < at {
+        return bench::front(list, 0);
+    }
+    &list[at..]
+}
+
+// An entry of the list: its length, and its bytes.
+fn say_entry(entry: &[u8]) {
+    if entry.len() == 0 {
+        return;
+    }
+    bench_talk::put_line(bench_talk::hex(said(FOUND), bench::front(&entry[1..], wide(entry[0]))));
+}
+
+fn wide(n: u8) -> usize {
+    n as usize
+}
+
+// `card UID STATE SAK INDEX` for each card.
+fn say_cards(cards: [Card; 16], count: usize) {
+    for i in 0..count {
+        if i > 15 {
+            return;
+        }
+        say_card(cards[i]);
+    }
+}
+
+fn say_card(c: Card) {
+    let u = c.uid;
+    let size = u.size;
+    let bytes = u.bytes;
+    let s = c.state;
+    let a = bench_talk::hex(said(CARD), bench::front(&bytes, uid::byte_count(size)));
+    let b = bench_talk::word(a, b"off idle ready active halt protocol", state_number(s));
+    let d = bench_talk::word(b, b"00 20", flag(c.blocks));
+    bench_talk::put_line(bench_talk::number(d, c.index as usize));
+}
+
+fn flag(b: bool) -> usize {
+    if b { 1 } else { 0 }
+}
+
+fn state_number(s: CardState) -> usize {
+    match s {
+        CardState::Off => 0,
+        CardState::Idle => 1,
+        CardState::Ready(_) => 2,
+        CardState::Active => 3,
+        CardState::Halt => 4,
+        CardState::Protocol(_) => 5,
+    }
+}
