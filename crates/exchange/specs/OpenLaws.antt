@@ -70,7 +70,7 @@ module _ (i j room : ℕ) (x : LinkReader) (y : LinkCard) (m lent down up : List
   hears-it : hearCall (record { reader = x .reader; link = RatsSent i }) (ats j) m up room
       ≡ record { turn = record { reader = record { reader = x .reader; link = Linked (readerOpen i j false) }; answer = Opens j }; sent = []; buffer = up }
   unfolding hearCall tested
-  hears-it = rw (le-ltb room rowRoom h, reads-ats i j (omega arith))
+  hears-it = rw (le-ltb room rowRoom h, reads-ats i j (omega arith), small j hj)
 
   -- what they come to: the reader linked at number 0, the card in Protocol at number 1, the buffers as they were
   pub ends-are : afterRats i room x y m lent down up
