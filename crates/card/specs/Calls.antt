@@ -42,3 +42,8 @@ answerOf (x ∷ r) = Sends (length (x ∷ r))
 -- the card after a step of the rules, and its answer
 abbrev pub taken : Card → Step → Taken
 taken c s = record { card = withState c (s .0); answer = answerOf (s .1) }
+
+-- the air bits of an answer
+abbrev pub bitsIn : CardAnswer → ℕ
+bitsIn (Sends n) = n
+bitsIn Silent = 0

@@ -8,7 +8,7 @@ use lib.ListN.{length}
 use Rattle.rows.specs.ListLaws.{is-nil}
 use Rattle.rows.specs.RowLaws.{overlay-nil}
 use Rattle.rows.specs.Rows.{overlay, same}
-use Rattle.card.specs.Calls.{taken, answerOf}
+use Rattle.card.specs.Calls.{taken, answerOf, bitsIn}
 use Rattle.card.specs.Card.{Step, withState}
 use Rattle.card.specs.declared.Card.{Card}
 use Rattle.card.specs.declared.CardAnswer.the-variants.{Sends}
@@ -36,3 +36,8 @@ sends-some c k x row e n = ap₂ (λ k a. record { card = k; answer = a }) e (so
 -- what a comparison with a frame told
 pub told : (f : List ℕ) {r b : Bool} {g h : List ℕ} → r ≡ same f g → g ≡ h → r ≡ b → same f h ≡ b
 told f p q t = ap (same f) (sym q) ∙ sym p ∙ t
+
+-- an answer's bits are those of the row
+pub bits-answer : (r : List ℕ) → bitsIn (answerOf r) ≡ length r
+bits-answer [] = refl
+bits-answer (x ∷ r) = refl

@@ -43,7 +43,6 @@ pub struct NewCard {
 pub enum CardAnswer {
     Sends(usize),
     Silent,
-    NotTaken(Refusal),
 }
 
 // A card after a frame.

@@ -8,8 +8,9 @@ ghost use Rattle.selection.specs.Selection.{atqa};
 ghost use Rattle.uid.specs.declared.Level.the-variants.{One};
 ghost use Rattle.card.specs.declared.CardState.the-variants.{Idle, Ready, Active, Halt};
 ghost use Rattle.card.specs.Card.{rules};
-ghost use Rattle.card.specs.Calls.{taken};
+ghost use Rattle.card.specs.Calls.{taken, bitsIn};
 use crate::Card;
+use crate::CardAnswer;
 use crate::CardState;
 use crate::Taken;
 use uid::Level;
@@ -90,5 +91,15 @@ pub fn take_rules(c: Card, row: &[u8], out: &mut [u8]) -> Taken
         CardState::Active => take_active(c, row, out),
         CardState::Halt => take_halt(c, row, out),
         CardState::Protocol(i) => crate::answer::silent(c, CardState::Protocol(i)),
+    }
+}
+
+// How many air bits an answer has.
+pub fn bits_in(a: CardAnswer) -> usize
+    ensures { λ r. ⌜ r ≡ bitsIn a ⌝ }
+{
+    match a {
+        CardAnswer::Sends(n) => n,
+        CardAnswer::Silent => 0,
     }
 }

@@ -18,8 +18,6 @@ use Rattle.refusal.specs.declared.Refusal.{Refusal}
 use Rattle.refusal.specs.declared.Refusal.the-variants.{Room, NotDue}
 use Rattle.card.specs.Card.{takes, answers, withState, powerOn, powerOff}
 use Rattle.card.specs.declared.Card.{Card}
-use Rattle.card.specs.declared.CardAnswer.{CardAnswer}
-use Rattle.card.specs.declared.CardAnswer.the-variants.{Sends, Silent, NotTaken}
 use Rattle.card.specs.declared.CardState.{CardState}
 use Rattle.card.specs.declared.CardState.the-variants.{Off, Idle, Ready, Active, Halt, Protocol}
 use Rattle.block.specs.declared.Told.{Told}
@@ -56,12 +54,6 @@ leftBy (Refused e) c l = record { card = c; link = l }
 -- what comes of a call; sent is a row here
 abbrev pub withRow : Card → Out CardLink → Out LinkCard
 withRow c o = record { link = leftBy (o .told) c (o .link); sent = blockRow (o .sent); told = o .told; buffer = o .buffer }
-
--- how many air bits an answer of crate card has
-abbrev pub bitsIn : CardAnswer → ℕ
-bitsIn (Sends n) = n
-bitsIn Silent = 0
-bitsIn (NotTaken e) = 0
 
 -- a frame outside Protocol
 unfoldable pub takesOutside : LinkCard → List ℕ → List ℕ → Out LinkCard

@@ -11,7 +11,8 @@ use Rattle.rows.specs.RowLaws.{overlay-nil}
 use Rattle.frame.specs.Calls.{goodBytes}
 use Rattle.refusal.specs.declared.Refusal.the-variants.{Room, NotDue}
 use Rattle.card.specs.Card.{rules, takes, answers}
-use Rattle.card.specs.Calls.{taken, answerOf}
+use Rattle.card.specs.Calls.{taken, bitsIn}
+use Rattle.card.specs.TakenLaws.{bits-answer}
 use Rattle.card.specs.declared.Card.{Card}
 use Rattle.card.specs.declared.CardState.{CardState}
 use Rattle.card.specs.declared.Taken.{Taken}
@@ -28,7 +29,7 @@ use Rattle.card_link.specs.declared.CardTurn.{CardTurn}
 use Rattle.card_link.specs.declared.LinkCard.{LinkCard}
 use Rattle.card_blocks.specs.CardFrames.{cardHears, cardOut, cardBlock}
 use Rattle.card_blocks.specs.CardLaws.{block-bytes}
-use Rattle.card_link.specs.CardCalls.{bitsIn, withRow, linkIn, leftBy, takesOutside, takesInside, takesIn, owing, declined, called, takeCall, turnOf}
+use Rattle.card_link.specs.CardCalls.{withRow, linkIn, leftBy, takesOutside, takesInside, takesIn, owing, declined, called, takeCall, turnOf}
 
 -- ---- a frame heard and a block sent
 
@@ -62,10 +63,6 @@ pub three : (out : List ℕ) {o p : Out LinkCard} {r : CardTurn} {b′ out′ : 
 three out e h = (h .0 ∙ ap turnOf e, (h .1 .0 ∙ ap (λ o. o .buffer) e, h .1 .1 ∙ ap (λ o. overlay out 0 (o .sent)) e))
 
 -- ---- a frame
-
-bits-answer : (r : List ℕ) → bitsIn (answerOf r) ≡ length r
-bits-answer [] = refl
-bits-answer (x ∷ r) = refl
 
 pub outside-made : (x : LinkCard) (f out out′ : List ℕ) (t : Taken) (l : CardLink) (n : ℕ)
     → (t ≡ taken (x .card) (rules (x .card) (x .card .state) f)) × (out′ ≡ overlay out 0 (rules (x .card) (x .card .state) f .1))

@@ -13,13 +13,12 @@ ghost use Rattle.block.specs.Says.{toldSays};
 ghost use Rattle.uid.specs.Calls.{madeSays};
 ghost use Rattle.card.specs.Calls.{newCard, newCardSays};
 ghost use Rattle.card_blocks.specs.CardFrames.{cardHears, cardOut};
-ghost use Rattle.card_link.specs.CardCalls.{noLink, bitsIn, linkIn, leftBy, withRow, takesOutside, takesInside, takesIn, owing, declined, takeCall, replyCall, askCall, poweredOn, poweredOff, turnOf};
+ghost use Rattle.card_link.specs.CardCalls.{noLink, linkIn, leftBy, withRow, takesOutside, takesInside, takesIn, owing, declined, takeCall, replyCall, askCall, poweredOn, poweredOff, turnOf};
 ghost use Rattle.card_link.specs.CardSays.{takeSays, replySays, askSays};
 use crate::CardTurn;
 use crate::LinkCard;
 use block::Told;
 use card::Card;
-use card::CardAnswer;
 use card::CardState;
 use card_blocks::CardLink;
 use card_blocks::CardStep;
@@ -112,17 +111,6 @@ fn link_in(c: Card, s: CardState) -> CardLink
     }
 }
 
-// How many air bits an answer has.
-fn bits_in(a: CardAnswer) -> usize
-    ensures { λ r. ⌜ r ≡ bitsIn a ⌝ }
-{
-    match a {
-        CardAnswer::Sends(n) => n,
-        CardAnswer::Silent => 0,
-        CardAnswer::NotTaken(_) => 0,
-    }
-}
-
 fn halted(c: Card) -> LinkCard
     ensures { λ r. ⌜ r ≡ leftBy Told.Deselected c noLink ⌝ }
 {
@@ -192,7 +180,7 @@ fn take_outside(x: LinkCard, row: &[u8], out: &mut [u8]) -> CardTurn
     let link = link_in(old, s);
     CardTurn {
         card: LinkCard { card, link },
-        bits: bits_in(answer),
+        bits: card::within::bits_in(answer),
         told: Told::Quiet,
     }
 }

@@ -4,18 +4,10 @@ use mathlib.Core.List.{List, _++_}
 use lib.ListN.{length, take, drop}
 use Rattle.card.specs.Card.{takes, answers}
 use Rattle.card.specs.declared.Card.{Card}
-use Rattle.card.specs.declared.CardAnswer.{CardAnswer}
-use Rattle.card.specs.declared.CardAnswer.the-variants.{Sends, Silent, NotTaken}
 use Rattle.field.specs.Merge.{join}
 use Rattle.field.specs.Field.{allTake, heardFrom}
 use Rattle.field.specs.declared.within.One.{One}
 use Rattle.field.specs.declared.within.Together.{Together}
-
--- the bits of a card's answer
-abbrev pub bitsIn : CardAnswer → ℕ
-bitsIn (Sends n) = n
-bitsIn Silent = 0
-bitsIn (NotTaken e) = 0
 
 -- one card after a frame, and how many bits are heard of it together with a row
 abbrev pub one : Card → List ℕ → List ℕ → One

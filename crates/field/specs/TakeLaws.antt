@@ -8,21 +8,18 @@ use lib.Seq.{drop-cons, getD-take, drop-append-add, drop-drop}
 use native.Mathlib.Omega.{arith}
 use Rattle.rows.specs.Rows.{overlay}
 use Rattle.rows.specs.RowLaws.{overlay-front}
-use Rattle.card.specs.Calls.{answerOf, taken}
+use Rattle.card.specs.Calls.{taken, bitsIn}
+use Rattle.card.specs.TakenLaws.{bits-answer}
 use Rattle.card.specs.Card.{Step, takes, answers}
 use Rattle.card.specs.declared.Card.{Card}
 use Rattle.card.specs.declared.Taken.{Taken}
-use Rattle.field.specs.Calls.{bitsIn, one, cardsAfter}
+use Rattle.field.specs.Calls.{one, cardsAfter}
 use Rattle.field.specs.declared.within.One.{One}
 use Rattle.field.specs.Field.{allTake, heardFrom}
 use Rattle.field.specs.JoinLaws.{front, length-join-other}
 use Rattle.field.specs.Merge.{join, merge}
 
 -- ---- one card
-
-bits-answer : (r : List ℕ) → bitsIn (answerOf r) ≡ length r
-bits-answer [] = refl
-bits-answer (x ∷ r) = refl
 
 -- what was written at the front of a row fits it
 pub front-fits : (d s : List ℕ) (n : ℕ) → length (overlay d 0 s) ≡ n → length s ≤ n

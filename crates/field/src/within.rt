@@ -8,9 +8,8 @@ ghost use Rattle.rows.specs.Rows.{overlay};
 ghost use Rattle.card.specs.Card.{takes, answers};
 ghost use Rattle.field.specs.Merge.{meet, join};
 ghost use Rattle.field.specs.Field.{heardFrom};
-ghost use Rattle.field.specs.Calls.{together, bitsIn, one};
+ghost use Rattle.field.specs.Calls.{together, one};
 use card::Card;
-use card::CardAnswer;
 use limits::MOST_CARDS;
 
 // A card after a frame, and the number of bits heard up to it.
@@ -60,17 +59,6 @@ fn join(row: &mut [u8], bits: usize, answer: &[u8]) -> usize
     answer.len()
 }
 
-// The bits of a card's answer.
-fn bits_in(a: CardAnswer) -> usize
-    ensures { λ r. ⌜ r ≡ bitsIn a ⌝ }
-{
-    match a {
-        CardAnswer::Sends(n) => n,
-        CardAnswer::Silent => 0,
-        CardAnswer::NotTaken(_) => 0,
-    }
-}
-
 // One card takes the frame, and its answer joins the bits that are heard so far.
 pub fn take_one(c: Card, frame: &[u8], heard: &mut [u8], bits: usize) -> One
     requires { ⌜ (bits ≤ length (now heard)) × (45 ≤ length (now heard)) ⌝ }
@@ -80,7 +68,7 @@ pub fn take_one(c: Card, frame: &[u8], heard: &mut [u8], bits: usize) -> One
     let mut row = [0u8; 45];
     let t = card::within::take_rules(c, frame, &mut row);
     let a = t.answer;
-    let n = bits_in(a);
+    let n = card::within::bits_in(a);
     let m = join(heard, bits, &row[..n]);
     let k = t.card;
     One { card: k, bits: m }

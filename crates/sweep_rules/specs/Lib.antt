@@ -1,3 +1,4 @@
 pub mod Run
 pub mod Terms
+pub mod TermTable
 pub mod Demand
