@@ -9,7 +9,7 @@ use lib.ListN.{length, take, drop, getD, set, length-drop, drop-of-length-le}
 use lib.Seq.{drop-cons, take-suc-set, take-all}
 use Rattle.rows.specs.Rows.{clean}
 use Rattle.rows.specs.HeardLaws.{clean-bits, clean-drop}
-use Rattle.parity.specs.Bits.{bitsOf, unbits, ones, odd}
+use Rattle.parity.specs.Bits.{bitsOf, unbits, odd}
 use Rattle.parity.specs.BitLaws.{unbits-lt}
 
 -- ---- a number's bits, stored one after the other
@@ -26,16 +26,6 @@ unfolding bitsOf
 bits-done k i x l h m =
     let e : k - i ≡ 0 = omega arith in
     rw (e, append-nil, take-all i l m)
-
--- ---- the ones of a number's bits, counted one after the other
-
-pub ones-next : (k i x : ℕ) → i < k → ones (bitsOf (k - i) x) ≡ x % 2 + ones (bitsOf (k - (i + 1)) (x / 2))
-unfolding ones bitsOf
-ones-next k i x h = let e : k - i ≡ suc (k - (i + 1)) = omega arith in rw e
-
-pub ones-done : (k i x : ℕ) → k ≤ i → ones (bitsOf (k - i) x) ≡ 0
-unfolding ones bitsOf
-ones-done k i x h = let e : k - i ≡ 0 = omega arith in rw e
 
 -- ---- the number of a row, from its last bit on
 

@@ -19,15 +19,13 @@ pub fn bits_of(b: u8) -> [u8; 8]
     bits
 }
 
-// The odd parity bit of a byte: the bit that makes the number of ones odd.
+// The odd parity bit of a byte: the bit that makes the number of ones odd. Each line folds the upper half of what is left onto the lower, so
+// that ones that meet go out in pairs.
 pub fn odd_parity(b: u8) -> u8
     ensures { λ r. ⌜ r ≡ odd (bitsOf 8 b) ⌝ }
 {
-    let mut n: u8 = 1;
-    let mut rest = b;
-    for i in 0..8usize {
-        n = (n + rest % 2) % 2;
-        rest = rest / 2;
-    }
-    n
+    let four = b ^ (b / 16);
+    let two = four ^ (four / 4);
+    let one = two ^ (two / 2);
+    (1 + one % 2) % 2
 }

@@ -1,38 +1,25 @@
--- `parity::odd_parity` meets its contract. The loop's invariant: n with the ones among the bits left is as odd or even as 1 with all of them.
--- Assumes nothing.
-use Prim.Native.Nat.{_≤_, _<_, _+_, _-_, _%_}
-use mathlib.Core.Path.{_≡_}
+-- `parity::odd_parity` meets its contract: three halvings leave one bit. Assumes nothing.
+use mathlib.Core.Path.{_≡_, _∙_}
 use native.Mathlib.Omega.{arith}
+use lib.Bits.{bitXor}
+use Prim.Native.Nat.{ℕ, _/_, _%_}
+use borrow.Author.Needs.{needs}
 use Rattle.parity.specs.Bits.{bitsOf, ones, odd}
-use Rattle.parity.specs.LoopLaws.{ones-next, ones-done}
+use Rattle.parity.specs.FoldLaws.{halved, one-left}
 use Rattle.parity.proofs.odd_parity.Statement.{statement}
 use Rattle.parity.proofs.odd_parity.Tie as tie
 
-abbrev Inv-loop : tie.InvT-loop
-Inv-loop b n₀ rest₀ i₀ n rest i = (i ≤ 8) × (n < 2) × ((n + ones (bitsOf (8 - i) rest)) % 2 ≡ (1 + ones (bitsOf 8 b)) % 2)
+add-result : tie.Need-add-result
+add-result c = search needs
 
-abbrev μ-loop : tie.MeasureT-loop
-μ-loop b n₀ rest₀ i₀ n rest i = 8 - i
-
-loop-holds : tie.Need-loop-holds Inv-loop μ-loop
-loop-holds c = omega arith
-
-add-n : tie.Need-add-n Inv-loop μ-loop
-add-n c = omega arith
-
-add-i : tie.Need-add-i Inv-loop μ-loop
-add-i c = omega arith
-
-loop-less : tie.Need-loop-less Inv-loop μ-loop
-loop-less c = omega arith
-
-loop-again : tie.Need-loop-again Inv-loop μ-loop
-loop-again c = omega (arith, ones-next 8 (c .before .loop .i) (c .before .loop .rest) (omega arith))
-
-returns : tie.Need-returns Inv-loop μ-loop
+returns : tie.Need-returns
 unfolding odd
-returns c = omega (arith, ones-done 8 (c .before .loop .i) (c .before .loop .rest) (omega arith))
+returns c =
+    let b : ℕ = c .args .b in
+    let x : ℕ = bitXor b (b / 16) in
+    let y : ℕ = bitXor x (x / 4) in
+    let e : ones (bitsOf 8 b) % 2 ≡ ones (bitsOf 1 (bitXor y (y / 2))) % 2 = halved 4 b ∙ halved 2 x ∙ halved 1 y in
+    omega (arith, e, one-left (bitXor y (y / 2)))
 
 pub odd-parity-spec : {M : Type 1} → statement M
-odd-parity-spec =
-    tie.close (tie.spec Inv-loop μ-loop loop-holds add-n add-i loop-less loop-again returns)
+odd-parity-spec = tie.close (tie.spec add-result returns)
