@@ -7,22 +7,15 @@ use lib.ListN.{length}
 use lib.Dec.{ltb}
 use Rattle.limits.specs.Limits.{rowRoom, messageMax}
 use Rattle.refusal.specs.Refusal.{Said, giving, refusalSays, declineIf}
-use Rattle.reader.specs.declared.Answer.{Answer}
-use Rattle.reader.specs.declared.Answer.the-variants.{Sends, Finds, Selects, Finishes, Declines}
+use Rattle.reader.specs.Calls.{answerSays}
+use Rattle.reader.specs.declared.Reader.{Reader}
 use Rattle.block.specs.declared.Told.{Told}
 use Rattle.block.specs.declared.Told.the-variants.{Quiet, Message, Granted, Deselected, Refused}
 use Rattle.reader_link.specs.declared.LinkReader.{LinkReader}
 use Rattle.reader_link.specs.declared.LinkAnswer.{LinkAnswer}
 use Rattle.reader_link.specs.declared.LinkAnswer.the-variants.{Selection, Opens, Blocks}
+use Rattle.reader_link.specs.declared.LinkTurn.{LinkTurn}
 use Rattle.reader_link.specs.ReaderCalls.{frameDue, hearsIn, isNewIn, ratsDue, between, sendIn}
-
--- an answer of a selection: the bits of the next frame, where there is one
-abbrev pub answerSays : Answer → Said
-answerSays (Sends n) = giving (n ∷ [])
-answerSays (Finds n) = giving (n ∷ [])
-answerSays Selects = giving []
-answerSays Finishes = giving []
-answerSays (Declines e) = refusalSays e
 
 -- an answer of the link: the bits of the next frame, and of a whole message how many bytes it has
 abbrev pub blocksSay : ℕ → Told → Said
@@ -32,10 +25,14 @@ blocksSay n Granted = giving (n ∷ [])
 blocksSay n Deselected = giving (n ∷ [])
 blocksSay n (Refused e) = refusalSays e
 
-abbrev pub linkSays : LinkAnswer → Said
-linkSays (Selection a) = answerSays a
-linkSays (Opens i) = giving (i ∷ [])
-linkSays (Blocks n t) = blocksSay n t
+-- an answer of a selection as crate reader says it; the card's size index; an answer of the link
+abbrev pub linkSays : LinkAnswer → Reader → Said
+linkSays (Selection a) r = answerSays a r
+linkSays (Opens i) r = giving (i ∷ [])
+linkSays (Blocks n t) r = blocksSay n t
+
+abbrev pub linkTurnSays : LinkTurn → Said
+linkTurnSays t = linkSays (t .answer) (t .reader .reader)
 
 -- a selection or a sweep begins: 11 unless the reader is new, 1, else the seven bits of REQA
 abbrev pub startSays : LinkReader → ℕ → Said
@@ -60,4 +57,4 @@ deselectSays x room = declineIf (not (between (x .link))) 11 (declineIf (ltb roo
 abbrev pub hearSays : LinkReader → List ℕ → List ℕ → List ℕ → ℕ → Said
 hearSays x h m buffer room =
     declineIf (not (frameDue (x .link) (x .reader))) 11
-    (declineIf (ltb room rowRoom) 1 (linkSays (hearsIn (x .link) (x .reader) h m buffer .turn .answer)))
+    (declineIf (ltb room rowRoom) 1 (linkTurnSays (hearsIn (x .link) (x .reader) h m buffer .turn)))

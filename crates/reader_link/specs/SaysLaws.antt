@@ -28,17 +28,17 @@ use Rattle.reader_link.specs.declared.LinkReader.{LinkReader}
 use Rattle.reader_link.specs.declared.LinkAnswer.the-variants.{Blocks}
 use Rattle.reader_link.specs.declared.LinkTurn.{LinkTurn}
 use Rattle.reader_link.specs.ReaderCalls.{Called, called, declinedBy, tested, selecting, linking, frameDue, hearsIn, hearCall, isNewIn, startCall, ratsDue, ratsCall, between, sendIn, sendCall, deselectIn, deselectCall}
-use Rattle.reader_link.specs.ReaderSays.{linkSays, startSays, ratsSays, sendSays, deselectSays, hearSays}
+use Rattle.reader_link.specs.ReaderSays.{linkSays, linkTurnSays, startSays, ratsSays, sendSays, deselectSays, hearSays}
 use Rattle.reader_link.specs.WholeLaws.{Two, Three}
 
 abbrev answered : Called → Said
-answered o = linkSays (o .turn .answer)
+answered o = linkTurnSays (o .turn)
 
 -- a refusal says its number, however far the reader is
-declined-says : (k : Link) (e : Refusal) → linkSays (declinedBy k e) ≡ refusalSays e
-declined-says NoLink e = refl
-declined-says (RatsSent i) e = refl
-declined-says (Linked l) e = refl
+declined-says : (k : Link) (e : Refusal) (r : Reader) → linkSays (declinedBy k e) r ≡ refusalSays e
+declined-says NoLink e r = refl
+declined-says (RatsSent i) e r = refl
+declined-says (Linked l) e r = refl
 
 -- 11 and 1 around what is due
 tested-says : (due : Bool) (x : LinkReader) (buffer : List ℕ) (room : ℕ) (o : Called) (s : Said) → (due ≡ true → answered o ≡ s)
@@ -49,8 +49,8 @@ tested-says due x buffer room o s k = go due (ltb room rowRoom) k
     go : (d r : Bool) → (d ≡ true → answered o ≡ s)
         → answered (cond (not d) (called x (declinedBy (x .link) NotDue) [] buffer) (cond r (called x (declinedBy (x .link) Room) [] buffer) o))
         ≡ declineIf (not d) 11 (declineIf r 1 s)
-    go false r k = declined-says (x .link) NotDue
-    go true true k = declined-says (x .link) Room
+    go false r k = declined-says (x .link) NotDue (x .reader)
+    go true true k = declined-says (x .link) Room (x .reader)
     go true false k = k refl
 
 -- ---- REQA
@@ -79,7 +79,7 @@ rats-says x index room =
     go : (t : Bool)
         → answered (cond t (called x (declinedBy (x .link) Argument) [] []) (called (record { reader = x .reader; link = RatsSent index }) (Blocks (length (rats index)) Quiet) (rats index) []))
         ≡ declineIf t 6 (giving (36 ∷ []))
-    go true = declined-says (x .link) Argument
+    go true = declined-says (x .link) Argument (x .reader)
     go false = ap (λ n. giving (n ∷ [])) (rats-bits index)
 
 -- ---- a message
@@ -129,10 +129,10 @@ hear-says x h m buffer room =
 -- ---- what is handed back says it
 
 abbrev Said2 : Called → LinkTurn → List ℕ → List ℕ → Said → Type 0
-Said2 o t out out′ s = (t ≡ o .turn) × ((out′ ≡ overlay out 0 (o .sent)) × (linkSays (t .answer) ≡ s))
+Said2 o t out out′ s = (t ≡ o .turn) × ((out′ ≡ overlay out 0 (o .sent)) × (linkTurnSays t ≡ s))
 
 two-said : (out : List ℕ) (o : Called) (s : Said) → answered o ≡ s → {t : LinkTurn} {out′ : List ℕ} → Two o t out out′ → Said2 o t out out′ s
-two-said out o s e h = (h .0, (h .1, ap (λ t. linkSays (t .answer)) (h .0) ∙ e))
+two-said out o s e h = (h .0, (h .1, ap (λ t. linkTurnSays t) (h .0) ∙ e))
 
 module _ (x : LinkReader) (out : List ℕ) {t : LinkTurn} {out′ : List ℕ} where
   pub start-said : (s : Bool) → Two (startCall s x (length out)) t out out′ → Said2 (startCall s x (length out)) t out out′ (startSays x (length out))
@@ -149,5 +149,5 @@ module _ (x : LinkReader) (out : List ℕ) {t : LinkTurn} {out′ : List ℕ} wh
 
   pub hear-said : (f m buffer : List ℕ) {b′ : List ℕ} → Three (hearCall x f m buffer (length out)) t b′ out out′
       → (t ≡ hearCall x f m buffer (length out) .turn) × ((b′ ≡ hearCall x f m buffer (length out) .buffer)
-      × ((out′ ≡ overlay out 0 (hearCall x f m buffer (length out) .sent)) × (linkSays (t .answer) ≡ hearSays x f m buffer (length out))))
-  hear-said f m buffer h = (h .0, (h .1 .0, (h .1 .1, ap (λ t. linkSays (t .answer)) (h .0) ∙ hear-says x f m buffer (length out))))
+      × ((out′ ≡ overlay out 0 (hearCall x f m buffer (length out) .sent)) × (linkTurnSays t ≡ hearSays x f m buffer (length out))))
+  hear-said f m buffer h = (h .0, (h .1 .0, (h .1 .1, ap (λ t. linkTurnSays t) (h .0) ∙ hear-says x f m buffer (length out))))

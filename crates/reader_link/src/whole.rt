@@ -13,7 +13,7 @@ ghost use Rattle.block.specs.Block.{behind};
 ghost use Rattle.block.specs.Row.{heardRow};
 ghost use Rattle.reader_blocks.specs.ReaderFrames.{readerHears, readerOut, readerBlock};
 ghost use Rattle.reader_link.specs.ReaderCalls.{newReader, bitsOf, bitsBy, called, declinedBy, selecting, linked, linking, afterAts, awaitsBlock, frameDue, hearsIn, hearCall, isNewIn, startCall, isSelected, b6, ratsDue, ratsCall, between, sendIn, sendCall, deselectIn, deselectCall};
-ghost use Rattle.reader_link.specs.ReaderSays.{linkSays, startSays, ratsSays, sendSays, deselectSays, hearSays};
+ghost use Rattle.reader_link.specs.ReaderSays.{linkTurnSays, startSays, ratsSays, sendSays, deselectSays, hearSays};
 use crate::Link;
 use crate::LinkAnswer;
 use crate::LinkReader;
@@ -275,7 +275,7 @@ pub fn hear(
     ensures { λ t. ⌜ t ≡ hearCall x (now (row .entry)) (now (message .entry)) (now (buffer .entry)) (length (now (out .entry))) .turn ⌝ }
     ensures { λ _. ⌜ now (buffer .exit) ≡ hearCall x (now (row .entry)) (now (message .entry)) (now (buffer .entry)) (length (now (out .entry))) .buffer ⌝ }
     ensures { λ _. ⌜ now (out .exit) ≡ overlay (now (out .entry)) 0 (hearCall x (now (row .entry)) (now (message .entry)) (now (buffer .entry)) (length (now (out .entry))) .sent) ⌝ }
-    ensures { λ t. ⌜ linkSays (t .answer) ≡ hearSays x (now (row .entry)) (now (message .entry)) (now (buffer .entry)) (length (now (out .entry))) ⌝ }
+    ensures { λ t. ⌜ linkTurnSays t ≡ hearSays x (now (row .entry)) (now (message .entry)) (now (buffer .entry)) (length (now (out .entry))) ⌝ }
 {
     let r = x.reader;
     let link = x.link;
@@ -302,7 +302,7 @@ fn is_new(link: Link, r: Reader) -> bool
 fn start(sweeps: bool, x: LinkReader, out: &mut [u8]) -> LinkTurn
     ensures { λ t. ⌜ t ≡ startCall sweeps x (length (now (out .entry))) .turn ⌝ }
     ensures { λ _. ⌜ now (out .exit) ≡ overlay (now (out .entry)) 0 (startCall sweeps x (length (now (out .entry))) .sent) ⌝ }
-    ensures { λ t. ⌜ linkSays (t .answer) ≡ startSays x (length (now (out .entry))) ⌝ }
+    ensures { λ t. ⌜ linkTurnSays t ≡ startSays x (length (now (out .entry))) ⌝ }
 {
     let r = x.reader;
     let link = x.link;
@@ -320,7 +320,7 @@ fn start(sweeps: bool, x: LinkReader, out: &mut [u8]) -> LinkTurn
 pub fn select(x: LinkReader, out: &mut [u8]) -> LinkTurn
     ensures { λ t. ⌜ t ≡ startCall false x (length (now (out .entry))) .turn ⌝ }
     ensures { λ _. ⌜ now (out .exit) ≡ overlay (now (out .entry)) 0 (startCall false x (length (now (out .entry))) .sent) ⌝ }
-    ensures { λ t. ⌜ linkSays (t .answer) ≡ startSays x (length (now (out .entry))) ⌝ }
+    ensures { λ t. ⌜ linkTurnSays t ≡ startSays x (length (now (out .entry))) ⌝ }
 {
     start(false, x, out)
 }
@@ -329,7 +329,7 @@ pub fn select(x: LinkReader, out: &mut [u8]) -> LinkTurn
 pub fn start_sweep(x: LinkReader, out: &mut [u8]) -> LinkTurn
     ensures { λ t. ⌜ t ≡ startCall true x (length (now (out .entry))) .turn ⌝ }
     ensures { λ _. ⌜ now (out .exit) ≡ overlay (now (out .entry)) 0 (startCall true x (length (now (out .entry))) .sent) ⌝ }
-    ensures { λ t. ⌜ linkSays (t .answer) ≡ startSays x (length (now (out .entry))) ⌝ }
+    ensures { λ t. ⌜ linkTurnSays t ≡ startSays x (length (now (out .entry))) ⌝ }
 {
     start(true, x, out)
 }
@@ -374,7 +374,7 @@ fn rats_due(link: Link, r: Reader) -> bool
 pub fn rats(x: LinkReader, index: u8, out: &mut [u8]) -> LinkTurn
     ensures { λ t. ⌜ t ≡ ratsCall x index (length (now (out .entry))) .turn ⌝ }
     ensures { λ _. ⌜ now (out .exit) ≡ overlay (now (out .entry)) 0 (ratsCall x index (length (now (out .entry))) .sent) ⌝ }
-    ensures { λ t. ⌜ linkSays (t .answer) ≡ ratsSays x index (length (now (out .entry))) ⌝ }
+    ensures { λ t. ⌜ linkTurnSays t ≡ ratsSays x index (length (now (out .entry))) ⌝ }
 {
     let r = x.reader;
     let link = x.link;
@@ -433,7 +433,7 @@ fn send_due(x: LinkReader, message: &[u8], out: &mut [u8]) -> LinkTurn
 pub fn send(x: LinkReader, message: &[u8], out: &mut [u8]) -> LinkTurn
     ensures { λ t. ⌜ t ≡ sendCall x (now (message .entry)) (length (now (out .entry))) .turn ⌝ }
     ensures { λ _. ⌜ now (out .exit) ≡ overlay (now (out .entry)) 0 (sendCall x (now (message .entry)) (length (now (out .entry))) .sent) ⌝ }
-    ensures { λ t. ⌜ linkSays (t .answer) ≡ sendSays x (now (message .entry)) (length (now (out .entry))) ⌝ }
+    ensures { λ t. ⌜ linkTurnSays t ≡ sendSays x (now (message .entry)) (length (now (out .entry))) ⌝ }
 {
     let link = x.link;
     if !is_between(link) {
@@ -467,7 +467,7 @@ fn deselect_due(x: LinkReader, out: &mut [u8]) -> LinkTurn
 pub fn deselect(x: LinkReader, out: &mut [u8]) -> LinkTurn
     ensures { λ t. ⌜ t ≡ deselectCall x (length (now (out .entry))) .turn ⌝ }
     ensures { λ _. ⌜ now (out .exit) ≡ overlay (now (out .entry)) 0 (deselectCall x (length (now (out .entry))) .sent) ⌝ }
-    ensures { λ t. ⌜ linkSays (t .answer) ≡ deselectSays x (length (now (out .entry))) ⌝ }
+    ensures { λ t. ⌜ linkTurnSays t ≡ deselectSays x (length (now (out .entry))) ⌝ }
 {
     let link = x.link;
     if !is_between(link) {
