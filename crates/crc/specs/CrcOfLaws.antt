@@ -34,7 +34,9 @@ length-with-of s e l = rw (length-append, length-sent)
 
 pub with-of-bytes : (s e : ℕ) (l : List ℕ) → s < 65536 → e < 65536 → Bytes l → Bytes (withOf s e l)
 unfolding withOf sentOf
-with-of-bytes s e l h k b = all-append (λ x. x < 256) l (sentOf s e l) b (omega arith, (omega (arith, crc-of-lt s e l h k b), tt))
+with-of-bytes s e l h k b =
+    let c : crcOf s e l < 65536 = crc-of-lt s e l h k b in
+    all-append (λ x. x < 256) l (sentOf s e l) b (omega arith, (omega arith, tt))
 
 -- ---- good bytes
 
