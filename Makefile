@@ -1,7 +1,8 @@
 # `make run` shows the main job, `make test` is the gate.
 # `make sweep FIELD=..`, `make card`, `make reader` prove a program, then run it on a file of samples/.
+# `make speed` measures the core's CRC against Rust programs of our own.
 # `make vectors` writes the programs' scripts and expected output anew, from the independent model.
-.PHONY: run sweep card reader test toolchain vectors vectors-check model-check pages impostors
+.PHONY: run sweep card reader speed test toolchain vectors vectors-check model-check pages impostors
 
 CARGO = --quiet --release --offline --locked --manifest-path model/Cargo.toml
 MODEL = cargo run $(CARGO) --
@@ -41,6 +42,13 @@ card: toolchain
 
 reader: toolchain
 	$(call proved-run,bench_reader,samples/reader.txt)
+
+# No part of the gate: a time is the machine's, and what else it does at that moment.
+speed: toolchain
+	@command -v rustc >/dev/null 2>&1 || { echo "there is no rustc: the programs that the core is measured against cannot be built"; exit 1; }
+	rt staticlib crc_speed
+	rustc --edition 2021 -C opt-level=3 speed/crc.rs -o target/speed-crc -L target/staticlib -l static=crc_speed
+	@target/speed-crc
 
 vectors:
 	$(MODEL) write crates

@@ -1,4 +1,11 @@
 pub mod Crc
-pub mod CrcLaws
-pub mod CrcVectors
+pub mod CrcOf
+pub mod Table
 pub mod CrcSizeLaws
+pub mod CrcOfLaws
+pub mod CrcLaws
+pub mod XorLaws
+pub mod LinearLaws
+pub mod TableLaws
+pub mod CrcVectors
+pub mod CrcBVectors
