@@ -1,4 +1,4 @@
--- Lines are collected byte by byte. "They read standard input line by line, answer each line at once".
+-- Lines are collected byte by byte; each is answered at once.
 use Prim.Native.Nat.{ℕ, _+_}
 use mathlib.Core.Bool.{true, false, cond}
 use mathlib.Core.List.{List, [], _∷_}

@@ -1,4 +1,4 @@
--- The script language's lines and words. "Words are separated by one or more spaces."
+-- The script language's lines and words. Words are separated by one or more spaces.
 use Prim.Native.Nat.{ℕ, zero, suc, _-_, _≤_}
 use mathlib.Core.Path.{_≡_}
 use mathlib.Core.Bool.{Bool, true, false, cond}
@@ -45,7 +45,7 @@ pub record Stopped (l : List ℕ) (from r : ℕ) : Type 0 where
 
 -- ---- lines
 
--- "a carriage return before the line feed is ignored"
+-- a carriage return before the line feed is ignored
 unfoldable pub withoutReturn : List ℕ → List ℕ
 withoutReturn l = cond (eqb (getD l (length l - 1) 0) 13) (take (length l - 1) l) l
 
@@ -53,7 +53,7 @@ withoutReturn l = cond (eqb (getD l (length l - 1) 0) 13) (take (length l - 1) l
 abbrev pub longestLine : ℕ
 longestLine = 16384
 
--- "an empty line and a line that begins with `#` are passed over"; so is a line of spaces
+-- an empty line and a line that begins with `#` are passed over; so is a line of spaces
 unfoldable pub kindOf : Bool → List ℕ → LineKind
 kindOf overlong t =
     cond overlong TooLong

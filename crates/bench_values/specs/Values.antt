@@ -62,7 +62,7 @@ hexBytes [] = []
 hexBytes (a ∷ []) = []
 hexBytes (a ∷ b ∷ w) = hexPair a b ∷ hexBytes w
 
--- "an even number of digits, at least two"
+-- an even number of digits, at least two
 unfoldable pub hexWord : List ℕ → Meaning
 hexWord w =
     cond (isDash w) (These [])

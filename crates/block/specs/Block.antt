@@ -63,7 +63,7 @@ abbrev pub blockOf : List ℕ → Block
 blockOf [] = Nothing
 blockOf (f ∷ p) = whole (kind f) (eqb (length p) 0) (eqb (length p) 1) (getD p 0 0)
 
--- what an end makes of a frame: "Under blocks, 7, 2, 3, 4 and 8 are 'damaged or silent'"
+-- what an end makes of a frame: under blocks 7, 2, 3, 4 and 8 are damage or silence
 abbrev pub heardBlock : Verdict → Block
 heardBlock (Good l) = blockOf l
 heardBlock (Fault e) = Nothing

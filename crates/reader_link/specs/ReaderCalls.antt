@@ -102,7 +102,7 @@ linked r Stopped l = record { reader = blank phase.Stopped false; link = NoLink 
 unfoldable pub linking : Reader → Out ReaderLink → Called
 linking r o = called (linked r (o .link .phase) (o .link)) (Blocks (length (blockRow (o .sent))) (o .told)) (blockRow (o .sent)) (o .buffer)
 
--- after RATS, "nothing is repeated": a good ATS opens the link at number 0 with the card's size index, all else stops the reader
+-- after RATS, which is not repeated: a good ATS opens the link at number 0 with the card's size index, all else stops the reader
 abbrev pub afterAts : Reader → ℕ → AtsRead → List ℕ → Called
 afterAts r own (Index i) buffer = called (record { reader = r; link = Linked (readerOpen own i false) }) (Opens i) [] buffer
 afterAts r own (NotAts e) buffer = called (record { reader = blank phase.Stopped false; link = NoLink }) (Blocks 0 (Refused e)) [] buffer

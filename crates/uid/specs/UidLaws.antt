@@ -213,7 +213,7 @@ lev-bit r p =
     let e : 40 * (p / 40) + p % 40 ≡ p = omega arith in
     getD-take 40 (drop (40 * (p / 40)) r) (p % 40) 0 (omega arith) ∙ getD-drop (40 * (p / 40)) r (p % 40) 0 ∙ ap (λ i. getD r i 0) e
 
--- "the first collision of a level is never in B": they never first differ in a check byte
+-- two different valid UIDs never first differ in a check byte
 pub never-in-check : (u v : Uid) → Sound u → Sound v → uidBytes u ≢ uidBytes v → (p x : ℕ) → diff (rowOf u) (rowOf v) ≡ off p x → p % 40 < 32
 never-in-check u v s t n p x e = go (ltb (p % 40) 32) refl
   where
