@@ -55,6 +55,13 @@ fn expected() -> Vec<Key> {
         add("reader call", &[phase], &["select", "sweep", "RATS", "message", "DESELECT", "row"]);
     }
 
+    // T-04: a good SAK at each level, by the level's first byte.
+    for level in 1..=3 {
+        for first in ["88", "another"] {
+            add("SAK and level", &[&format!("level {level}, first byte {first}")], &["b3 set", "b3 clear"]);
+        }
+    }
+
     // The reader's table of blocks.
     let waiting = ["more to send", "last I out", "joining"];
     let damage = [

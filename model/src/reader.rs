@@ -271,8 +271,8 @@ impl Reader {
         Answer::Send(frames::select(level, &bytes))
     }
 
-    /// SAK: 7, 2, 8, 3, 4; b3 set at level 3 is 9; b3 set: next level, the level's first byte dropped from the UID; clear:
-    /// the UID is complete.
+    /// SAK: 7, 2, 8, 3, 4; then 9 where b3 contradicts the level that SELECT named (T-04), and where it is set at level 3;
+    /// b3 set: next level, the level's first byte dropped from the UID; clear: the UID is complete.
     fn hear_sak(&mut self, row: &[u8], level: usize, bytes: &[u8; 5]) -> Answer {
         if row.is_empty() {
             return self.stop(refusal::SILENCE);
@@ -284,10 +284,18 @@ impl Reader {
             Ok(heard) => heard[0],
             Err(number) => return self.stop(number),
         };
-        if sak & 0x04 != 0 {
-            if level == 3 {
-                return self.stop(refusal::FORBIDDEN);
-            }
+        let more = sak & 0x04 != 0;
+        let tagged = bytes[0] == 0x88;
+        note("SAK and level", &format!("level {level}, first byte {}", if tagged { "88" } else { "another" }), if more { "b3 set" } else { "b3 clear" });
+        // Only a level with another behind it begins with the tag; the third level may begin with 88 by chance.
+        let contradicts = match level {
+            1 | 2 => more != tagged,
+            _ => more,
+        };
+        if contradicts {
+            return self.stop(refusal::FORBIDDEN);
+        }
+        if more {
             self.uid.extend_from_slice(&bytes[1..4]);
             return self.send_anticollision(level + 1, Row::new());
         }

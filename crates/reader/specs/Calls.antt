@@ -1,4 +1,5 @@
 -- The reader's calls with lent room for its next frame: 11 is tested first, then 1, and both leave all unchanged.
+use mathlib.Core.Path.{_≡_}
 use Prim.Native.Nat.{ℕ}
 use mathlib.Core.Bool.{Bool, true, false, cond, not}
 use mathlib.Core.List.{List, [], _∷_}
@@ -6,7 +7,7 @@ use lib.ListN.{length}
 use lib.Dec.{ltb}
 use Rattle.limits.specs.Limits.{frameRoom}
 use Rattle.rows.specs.Rows.{overlay}
-use Rattle.uid.specs.Uid.{uidBytes}
+use Rattle.uid.specs.Uid.{uidBytes, valid}
 use Rattle.refusal.specs.Refusal.{Said, giving, refusalSays, declineIf}
 use Rattle.refusal.specs.declared.Refusal.the-variants.{Room, NotDue}
 use Rattle.reader.specs.declared.Phase.{Phase}
@@ -62,6 +63,14 @@ hearSays r h room = callSays (awaits (r .phase)) (hear r h) room
 
 abbrev pub beginSays : Bool → Reader → ℕ → Said
 beginSays s r room = callSays (isNew (r .phase)) (begin s) room
+
+-- T-04: a UID that an answer completes is valid
+abbrev pub Completed : Answer → Reader → Type 0
+Completed (Sends n) r = Unit {0}
+Completed (Finds n) r = valid (r .uid) ≡ true
+Completed Selects r = valid (r .uid) ≡ true
+Completed Finishes r = Unit {0}
+Completed (Declines e) r = Unit {0}
 
 -- ---- the lent row
 

@@ -3,8 +3,8 @@
 use Prim.Native.Nat.{ℕ, _+_, _-_, _*_, _/_, _%_}
 use mathlib.Core.Bool.{Bool, true, false, cond, not, _&&_}
 use mathlib.Core.List.{List, [], _∷_, _++_}
-use lib.ListN.{length, take, drop, replicate}
-use lib.Dec.{eqb}
+use lib.ListN.{length, take, drop, replicate, getD}
+use lib.Dec.{eqb, ltb}
 use Rattle.rows.specs.Rows.{isNil, fill}
 use Rattle.uid.specs.Uid.{place}
 use Rattle.selection.specs.Selection.{reqa, hlta, anticollision, select}
@@ -117,8 +117,14 @@ afterSak Three r b false = completes (r .sweeps) (uid Triple (longer Three r 0))
 abbrev pub b3 : ℕ → Bool
 b3 b = eqb (b / 4 % 2) 1
 
+-- T-04: b3 (`more`) against the first byte of level l. "b3 is set and the level's first byte is not 88, or b3 is clear and it is 88 at level 1
+-- or 2"; at level 3 b3 set is 9 by the rule above, and 88 with b3 clear is good, since u6 of a 10-byte UID may be 88
+unfoldable pub contradicts : Level → Bool → ℕ → Bool
+contradicts l more first = cond more (not (eqb first 0x88)) (ltb (place l) 2 && eqb first 0x88)
+
+-- a good SAK b: 9 where it contradicts the level that was sent in SELECT
 abbrev pub sakHeard : Level → Reader → SakRead → Turn
-sakHeard l r (Sak b) = afterSak l r b (b3 b)
+sakHeard l r (Sak b) = cond (contradicts l (b3 b) (getD (r .five) 0 0)) (stop Forbidden) (afterSak l r b (b3 b))
 sakHeard l r (NotSak e) = stop e
 
 unfoldable pub hearSak : Level → Reader → List ℕ → Turn

@@ -4,7 +4,7 @@ use mathlib.Core.Path.{_≡_, refl}
 use Prim.Native.Nat.{ℕ, zero, suc, _+_, _-_, _*_, _/_, _≤_, _<_}
 use mathlib.Core.Bool.{Bool, true, false, cond}
 use mathlib.Core.List.{List, [], _++_}
-use lib.ListN.{length, take, drop, replicate, length-append, length-take, length-drop}
+use lib.ListN.{length, take, drop, replicate, getD, length-append, length-take, length-drop}
 use lib.Seq.{take-at}
 use native.Mathlib.Omega.{arith}
 use Rattle.rows.specs.Rows.{isNil, fill}
@@ -17,7 +17,7 @@ use Rattle.uid.specs.UidLaws.{soFar, name}
 use Rattle.selection.specs.Heard.{readRest, restOf, readAtqa}
 use Rattle.selection.specs.SakLaws.{reads-more, reads-last}
 use Rattle.selection.specs.Selection.{sakFrame}
-use Rattle.reader.specs.Reader.{reader, blank, hear, longer, afterSak, hearSilence, hearAtqa, uid, opens, completes, sends, finds, hearRest, hearSak}
+use Rattle.reader.specs.Reader.{reader, blank, hear, longer, afterSak, contradicts, hearSilence, hearAtqa, uid, opens, completes, sends, finds, hearRest, hearSak}
 use Rattle.uid.specs.declared.Level.{Level}
 use Rattle.uid.specs.declared.Level.the-variants.{One, Two, Three}
 use Rattle.uid.specs.declared.UidSize.{UidSize}
@@ -149,14 +149,16 @@ unfolding hear hearRest knows opened restOf
 hears-collided j P K d h e = rw e
 
 module _ (j : ℕ) (P X : List ℕ) (hP : length P ≡ 40 * j) (hX : length X ≡ 40) where
-  pub hears-more : suc j < 3 → hear (knows (SelectSent (lvl j)) (soFar j P) X) (sakFrame 0x04) ≡ opened (suc j) (P ++ X) []
+  pub hears-more : suc j < 3 → contradicts (lvl j) true (getD (bytesOf 5 X) 0 0) ≡ false
+      → hear (knows (SelectSent (lvl j)) (soFar j P) X) (sakFrame 0x04) ≡ opened (suc j) (P ++ X) []
   unfolding hear hearSak knows opened
-  hears-more h = rw reads-more (unfold knows in after-more P X 0x04 hX j h hP)
+  hears-more h fits = rw (reads-more, fits) (unfold knows in after-more P X 0x04 hX j h hP)
 
-  pub hears-last : (b : Bool) → j < 3 → hear (knows (SelectSent (lvl j)) (soFar j P) X) (sakFrame (cond b 0x20 0x00)) ≡ closed (P ++ X) (cond b 0x20 0x00)
+  pub hears-last : (b : Bool) → j < 3 → contradicts (lvl j) false (getD (bytesOf 5 X) 0 0) ≡ false
+      → hear (knows (SelectSent (lvl j)) (soFar j P) X) (sakFrame (cond b 0x20 0x00)) ≡ closed (P ++ X) (cond b 0x20 0x00)
   unfolding hear hearSak knows closed
-  hears-last true h = rw (reads-last true) (after-last P X 0x20 hX j h hP)
-  hears-last false h = rw (reads-last false) (after-last P X 0x00 hX j h hP)
+  hears-last true h fits = rw (reads-last true, fits) (after-last P X 0x20 hX j h hP)
+  hears-last false h fits = rw (reads-last false, fits) (after-last P X 0x00 hX j h hP)
 
 pub hears-silence : (P : List ℕ) (b : ℕ) → hear (closing P b) [] ≡ asking
 unfolding hear hearSilence isNil closing asking

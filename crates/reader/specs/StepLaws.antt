@@ -5,7 +5,7 @@ use mathlib.Core.List.{List, [], _∷_, _++_}
 use Prim.Native.Nat.{ℕ, zero, suc, _+_, _-_, _*_, _/_, _%_, _≤_, _<_}
 use native.Mathlib.Nat.{not-suc-le-zero}
 use native.Mathlib.Omega.{arith}
-use lib.ListN.{length, take, drop, replicate, length-append, length-take, length-drop}
+use lib.ListN.{length, take, drop, replicate, getD, length-append, length-take, length-drop}
 use lib.Dec.{eqb, ltb}
 use borrow.Author.Tests.{lt-ltb, le-ltb}
 use Rattle.rows.specs.Rows.{overlay, isNil, fill}
@@ -13,7 +13,7 @@ use Rattle.rows.specs.RowLaws.{overlay-nil, overlay-next}
 use Rattle.uid.specs.FillLaws.{fill-zeros}
 use Rattle.uid.specs.Uid.{place}
 use Rattle.selection.specs.Heard.{readAtqa, readRest, readSak}
-use Rattle.reader.specs.Reader.{frame, frameIn, turn, hear, hearIn, hearAtqa, afterAtqa, hearRest, afterRest, hearSak, sakHeard, afterSak, b3, hearSilence, sends, blank, stop, longer, uid}
+use Rattle.reader.specs.Reader.{frame, frameIn, turn, hear, hearIn, hearAtqa, afterAtqa, hearRest, afterRest, hearSak, sakHeard, contradicts, afterSak, b3, hearSilence, sends, blank, stop, longer, uid}
 use Rattle.limits.specs.Limits.{frameRoom}
 use Rattle.reader.specs.Calls.{call, rowAfter, sentBy, turnSays, callSays}
 use Rattle.uid.specs.declared.Level.{Level}
@@ -24,6 +24,7 @@ use Rattle.selection.specs.declared.AtqaRead.{AtqaRead}
 use Rattle.selection.specs.declared.Rest.{Rest}
 use Rattle.selection.specs.declared.RestSays.{RestSays}
 use Rattle.selection.specs.declared.SakRead.{SakRead}
+use Rattle.selection.specs.declared.SakRead.the-variants.{Sak}
 use Rattle.refusal.specs.Refusal.{declining}
 use Rattle.refusal.specs.declared.Refusal.{Refusal}
 use Rattle.refusal.specs.declared.Refusal.the-variants.{Forbidden, Room, NotDue}
@@ -58,6 +59,13 @@ rest-at l r h x s e f = rw (← e) (ap (afterRest l r x) f)
 pub sak-at : (l : Level) (r : Reader) (h : List ℕ) (a : SakRead) → readSak h ≡ a → hearSak l r h ≡ sakHeard l r a
 unfolding hearSak
 sak-at l r h a e = ap (sakHeard l r) e
+
+-- a good SAK that contradicts its level, and one that fits it
+pub sak-contradicts : (l : Level) (r : Reader) (b : ℕ) → contradicts l (b3 b) (getD (r .five) 0 0) ≡ true → sakHeard l r (Sak b) ≡ stop Forbidden
+sak-contradicts l r b e = rw e
+
+pub sak-fits : (l : Level) (r : Reader) (b : ℕ) → contradicts l (b3 b) (getD (r .five) 0 0) ≡ false → sakHeard l r (Sak b) ≡ afterSak l r b (b3 b)
+sak-fits l r b e = rw e
 
 -- where levels remain, the SAK's other bits do not count
 pub more-any : (l : Level) (r : Reader) (a b : ℕ) → afterSak l r a true ≡ afterSak l r b true

@@ -7,7 +7,7 @@ ghost use lib.ListN.{length};
 ghost use Rattle.reader.specs.declared.Phase.the-variants.{New};
 ghost use Rattle.reader.specs.declared.Answer.the-variants.{Declines};
 ghost use Rattle.reader.specs.Reader.{blank, turn};
-ghost use Rattle.reader.specs.Calls.{awaits, hearCall, beginCall, rowAfter, turnSays, hearSays, beginSays};
+ghost use Rattle.reader.specs.Calls.{Completed, awaits, hearCall, beginCall, rowAfter, turnSays, hearSays, beginSays};
 use refusal::Refusal;
 use uid::Level;
 use uid::Uid;
@@ -118,11 +118,13 @@ pub fn start_sweep(r: Reader, out: &mut [u8]) -> Turn
     begin(true, r, out)
 }
 
-// The reader hears a row, an empty one for silence. Its next frame, if there is one, stands at the front of the lent row.
+// The reader hears a row, an empty one for silence. Its next frame, if there is one, stands at the front of the lent row. A UID that it
+// completes is valid, whatever was heard.
 pub fn hear(r: Reader, row: &[u8], out: &mut [u8]) -> Turn
     ensures { λ t. ⌜ t ≡ hearCall r (now (row .entry)) (length (now (out .entry))) ⌝ }
     ensures { λ t. ⌜ now (out .exit) ≡ rowAfter t (now (out .entry)) ⌝ }
     ensures { λ t. ⌜ turnSays t ≡ hearSays r (now (row .entry)) (length (now (out .entry))) ⌝ }
+    ensures { λ t. ⌜ Completed (t .answer) (t .reader) ⌝ }
 {
     let p = r.phase;
     if !is_awaiting(p) {

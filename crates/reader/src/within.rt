@@ -7,7 +7,8 @@ ghost use lib.ListN.{length};
 ghost use Rattle.rows.specs.Rows.{overlay, isNil};
 ghost use Rattle.uid.specs.Uid.{place};
 ghost use Rattle.uid.specs.declared.UidSize.the-variants.{Single};
-ghost use Rattle.reader.specs.Reader.{uid, reader, blank, isNew, frame, turn, sends, finds, stop, opens, longer, completes, afterAtqa, hearAtqa, afterRest, hearRest, afterSak, hearSak, hearSilence, hear, b3};
+ghost use Rattle.reader.specs.Reader.{uid, reader, blank, isNew, frame, turn, sends, finds, stop, opens, longer, completes, afterAtqa, hearAtqa, afterRest, hearRest, afterSak, contradicts, sakHeard, hearSak, hearSilence, hear};
+ghost use Rattle.selection.specs.declared.SakRead.the-variants.{Sak};
 ghost use Rattle.reader.specs.Calls.{sentBy};
 ghost use Rattle.reader.specs.declared.Answer.the-variants.{Declines};
 ghost use Rattle.refusal.specs.declared.Refusal.the-variants.{NotDue};
@@ -301,18 +302,40 @@ fn last_level(l: Level, r: Reader, b: u8) -> Turn
     }
 }
 
+// Does b3 of a SAK contradict the first byte of its level? Only a level before the last begins with 88, but the third may.
+fn contradicts(l: Level, more: bool, first: u8) -> bool
+    ensures { λ b. ⌜ b ≡ contradicts l more first ⌝ }
+{
+    if more {
+        return first != 0x88;
+    }
+    if selection::numbers::place(l) < 2 {
+        return first == 0x88;
+    }
+    false
+}
+
+// A good SAK b, against the level that was sent in SELECT.
+fn sak_heard(l: Level, r: Reader, b: u8) -> Turn
+    ensures { λ t. ⌜ t ≡ sakHeard l r (Sak b) ⌝ }
+{
+    let five = r.five;
+    let more = b / 4 % 2 == 1;
+    if contradicts(l, more, five[0]) {
+        return stop(Refusal::Forbidden);
+    }
+    if more {
+        return more_levels(l, r);
+    }
+    last_level(l, r, b)
+}
+
 fn hear_sak(l: Level, r: Reader, row: &[u8]) -> Turn
     ensures { λ t. ⌜ t ≡ hearSak l r (now (row .entry)) ⌝ }
 {
     let a = selection::heard::read_sak(row);
     match a {
-        SakRead::Sak(b) => {
-            if b / 4 % 2 == 1 {
-                more_levels(l, r)
-            } else {
-                last_level(l, r, b)
-            }
-        }
+        SakRead::Sak(b) => sak_heard(l, r, b),
         SakRead::NotSak(e) => stop(e),
     }
 }

@@ -3,7 +3,7 @@ use mathlib.Core.Path.{_≡_, refl}
 use mathlib.Core.Bool.{Bool, true, false, cond, not, _&&_}
 use mathlib.Core.List.{List, []}
 use Prim.Native.Nat.{ℕ}
-use lib.ListN.{length}
+use lib.ListN.{length, getD}
 use lib.Dec.{ltb}
 use Rattle.limits.specs.Limits.{rowRoom}
 use Rattle.rows.specs.Rows.{isNil}
@@ -26,7 +26,7 @@ use Rattle.reader.specs.declared.Phase.{Phase}
 use Rattle.reader.specs.declared.Phase.the-variants.{New, ReqaSent, AnticollisionSent, SelectSent, HltaSent, Selected, Finished, Stopped}
 use Rattle.reader.specs.declared.Reader.{Reader}
 use Rattle.reader.specs.declared.Turn.{Turn}
-use Rattle.reader.specs.Reader.{sends, finds, opens, afterAtqa, hearAtqa, afterRest, hearRest, completes, afterSak, b3, sakHeard, hearSak, hearSilence, hearIn, hear}
+use Rattle.reader.specs.Reader.{sends, finds, opens, afterAtqa, hearAtqa, afterRest, hearRest, completes, afterSak, b3, contradicts, sakHeard, hearSak, hearSilence, hearIn, hear}
 use Rattle.reader.specs.Calls.{sentBy}
 use Rattle.block.specs.Out.{Out}
 use Rattle.reader_blocks.specs.declared.ReaderLink.{ReaderLink}
@@ -75,7 +75,7 @@ sak-exact Two r b false = completes-exact (r .sweeps) _ b
 sak-exact Three r b false = completes-exact (r .sweeps) _ b
 
 heard-exact : (l : Level) (r : Reader) (a : SakRead) → Exact (sakHeard l r a)
-heard-exact l r (Sak b) = sak-exact l r b (b3 b)
+heard-exact l r (Sak b) = either (contradicts l (b3 b) (getD (r .five) 0 0)) _ _ refl (sak-exact l r b (b3 b))
 heard-exact l r (NotSak e) = refl
 
 hear-exact : (p : Phase) (r : Reader) (h : List ℕ) → Exact (hearIn p r h)

@@ -1,17 +1,23 @@
 -- What the rows of the idle cards of a field within the terms have, and so what is heard of them. Assumes nothing.
 use mathlib.Core.Path.{_≡_, sym, ap, _∙_}
-use Prim.Native.Nat.{ℕ, _-_, _≤_, _<_}
+use Prim.Native.Nat.{ℕ, suc, _+_, _-_, _*_, _≤_, _<_}
 use native.Mathlib.Nat.{not-suc-le-zero}
-use mathlib.Core.Bool.{true}
+use mathlib.Core.Bool.{Bool, true, false, not, true≢false}
 use mathlib.Core.List.{List, [], _∷_, _++_, append-assoc}
-use lib.ListN.{length, take, length-append, length-take}
+use lib.ListN.{length, take, getD, length-append, length-take}
+use lib.Dec.{ltb}
+use borrow.Author.Tests.{lt-ltb, le-ltb}
 use native.Mathlib.Omega.{arith}
-use Rattle.rows.specs.EachLaws.{bits-right, all-map, bits-left, some-all}
+use Rattle.rows.specs.EachLaws.{bits-right, all-map, all-zip, bits-left, some-all}
 use Rattle.rows.specs.ListLaws.{all-take, all-append}
-use Rattle.rows.specs.Rows.{clean, All, Bits}
+use Rattle.rows.specs.Rows.{clean, All, Bits, isNil}
+use Rattle.frame.specs.Frame.{bytesOf}
 use Rattle.uid.specs.CheckLaws.{Checked, checkOf}
-use Rattle.uid.specs.LevelLaws.{wide, InLevels}
+use Rattle.uid.specs.LevelLaws.{wide, InLevels, lev, lev-head, lev-next}
 use Rattle.uid.specs.UidLaws.{uid-in-levels, checked-row}
+use Rattle.reader.specs.Reader.{contradicts}
+use Rattle.reader.specs.ReaderLaws.{lvl}
+use Rattle.reader.specs.SakLevelLaws.{Fitting, fitting-row}
 use Rattle.sweep_rules.proofs.Abstract.{strips, heard}
 use Rattle.sweep_rules.proofs.Early.{all-tied, clean-all}
 use Rattle.sweep_rules.proofs.Idle.{rowIn, idlers, Fits, idles, all-idle}
@@ -28,6 +34,32 @@ module _ (F : List Card) (hF : All Fits F) where
   pub checked-idles : All Checked (idles F)
   unfolding idles
   checked-idles = all-map {F = Fits} Checked rowIn (idlers F) (λ c s. checked-row (c .uid) (s .sound)) (all-idle Fits F hF)
+
+  pub fitting-idles : All Fitting (idles F)
+  unfolding idles
+  fitting-idles = all-map {F = Fits} Fitting rowIn (idlers F) (λ c s. fitting-row (c .uid) (s .sound)) (all-idle Fits F hF)
+
+-- a row with something behind it is longer
+longer-than : (n : ℕ) (more : Bool) (t : List ℕ) → isNil t ≡ not more → ltb n (n + length t) ≡ more
+unfolding isNil
+longer-than n true (x ∷ t) e = lt-ltb n (n + length (x ∷ t)) (omega arith)
+longer-than n true [] e = absurd (true≢false e)
+longer-than n false [] e = le-ltb n (n + 0) (omega arith)
+longer-than n false (x ∷ t) e = absurd (true≢false (sym e))
+
+-- T-04: the level X that is selected after the levels P fits the SAK of the cards that are left: all of them have further levels, or none has
+module _ (S : List (List ℕ)) (j : ℕ) (P X : List ℕ) (hP : length P ≡ wide * j) (hX : wide ≡ length X) where
+  fits-left : (more : Bool) (t : List ℕ) → Fitting ((P ++ X) ++ t) → isNil t ≡ not more → contradicts (lvl j) more (getD (bytesOf 5 X) 0 0) ≡ false
+  unfolding wide
+  fits-left more t f n =
+      let l : length (P ++ X) ≡ 40 * suc j = rw length-append (omega arith) in
+      let e : lev j ((P ++ X) ++ t) ≡ X = lev-head j (P ++ X) t (omega arith) ∙ lev-next j P X hP (sym hX) in
+      rw (e, length-append, l, longer-than (40 * suc j) more t n) at (f j (rw length-append (omega arith)))
+
+  pub level-fits : (more : Bool) → All Fitting S → 1 ≤ length (strips (P ++ X) S) → All (λ t. isNil t ≡ not more) (strips (P ++ X) S)
+      → contradicts (lvl j) more (getD (bytesOf 5 X) 0 0) ≡ false
+  level-fits more f some nils =
+      some-all (strips (P ++ X) S) _ some (all-zip (strips (P ++ X) S) (λ t g n. g n) (all-strips Fitting (λ t. isNil t ≡ not more → _) (P ++ X) S (λ t g n. fits-left more t g n) f) nils)
 
 -- the bits that the reader knows are a card's
 pub known-bits : (S : List (List ℕ)) (P K : List ℕ) → All (InLevels 3) S → 1 ≤ length (strips (P ++ K) S) → Bits K

@@ -29,7 +29,7 @@ use Rattle.sweep_rules.specs.Run.{Out, before, ended, follow, run, findi
 use Rattle.sweep_rules.proofs.Abstract.{strips, heard, sort, frames, Apart}
 use Rattle.sweep_rules.proofs.Early.{law-early-32}
 use Rattle.sweep_rules.proofs.Idle.{idles, Fits, idlers, rowIn, sizes}
-use Rattle.sweep_rules.proofs.IdleRows.{whole-idles, checked-idles, known-bits, Checks, heard-checks}
+use Rattle.sweep_rules.proofs.IdleRows.{whole-idles, checked-idles, fitting-idles, level-fits, known-bits, Checks, heard-checks}
 use Rattle.sweep_rules.proofs.Level.{all-strips}
 use Rattle.sweep_rules.proofs.LogSize.{small, allSmall, small-any, small-clean, small-anti}
 use Rattle.sweep_rules.proofs.Machine.{View, Open, Machine, machine-swept}
@@ -162,17 +162,17 @@ module _ (f : ℕ) (F : List Card) (hF : All Fits F) (v : Vw) where
         tick f (knows (SelectSent (lvl j)) (soFar j P) X) (opened (suc j) (P ++ X) []) (at (P ++ Q) (Ready (lvl j)) F) (at (P ++ X) (Ready (lvl (suc j))) F) (sakFrame 0x04) v
         (hear-more F hF (lvl j) P Q R hP′ bX hw more some)
         (turn-more F hF (lvl j) P Q R hP′ bX hw more ∙ ap (λ l. at (P ++ X) (Ready l) F) (up-lvl j h))
-        (hears-more j P X before (sym hw) h)
+        (hears-more j P X before (sym hw) h (level-fits (idles F) j P X before hw true (fitting-idles F hF) some more))
         (small-sak (lvl j) (bytesOf 5 X) 0x04 (length-bytes 5 X) clean-more) k
 
     last-law : strips (P ++ (Q ++ R)) (idles F) ≡ [] ∷ [] → goes f (closed (P ++ (Q ++ R)) (lastSak (P ++ (Q ++ R)) F)) (at (P ++ (Q ++ R)) Active F) ≡ v
         → goes (suc f) (selecting j P (Q ++ R)) (at (P ++ Q) (Ready (lvl j)) F) ≡ (v .0, suc (v .1), v .2)
-    unfolding frame selecting knows wide X
+    unfolding frame selecting knows wide X isNil
     last-law last k =
         let b : Bool = speaks (P ++ X) (idlers F) in
         tick f (knows (SelectSent (lvl j)) (soFar j P) X) (closed (P ++ X) (lastSak (P ++ X) F)) (at (P ++ Q) (Ready (lvl j)) F) (at (P ++ X) Active F) (sakFrame (lastSak (P ++ X) F)) v
         (hear-last F hF (lvl j) P Q R hP′ bX hw last) (turn-last F hF (lvl j) P Q R hP′ bX hw last)
-        (hears-last j P X before (sym hw) b hj)
+        (hears-last j P X before (sym hw) b hj (level-fits (idles F) j P X before hw false (fitting-idles F hF) (rw last (omega arith)) (rw last (refl, tt))))
         (small-sak (lvl j) (bytesOf 5 X) (lastSak (P ++ X) F) (length-bytes 5 X) (clean-last b)) k
 
   -- the found row is a card's

@@ -423,17 +423,54 @@ fn sak(s: &mut S) {
     s.say(&plain_row(&flipped(&frames::standard_with_crc(&[0x04]), 8)));
     bring(s, 3);
     s.say(&plain_row(&collided(&frames::standard_with_crc(&[0x04]), 8)));
-    s.remark("SAK values at each level: only b3 is used; the level's first byte is dropped also where it is not 88");
+    sak_and_level(s);
+}
+
+/// T-04: b3 against the level's first byte. Each level with a first byte of 88, of 88 with one bit changed, and another; of the SAK only b3 is
+/// used. Where the reader goes on it completes the UID; both kinds of call.
+fn sak_and_level(s: &mut S) {
+    s.remark("SAK values at each level, with a first byte of 88, near 88 and far from it: only b3 is used");
     for level in 1..=3 {
-        let values = [0x00, 0x04, 0x20, 0x24, 0xFB, 0xFF, 0x08, 0x18, 0x28, 0x60, 0xDB, 0x40];
-        for &value in &values[..if level == 1 { 12 } else { 6 }] {
-            bring(s, level);
-            s.say(&format!("crc {value:02X}"));
-            if level < 3 && value & 4 != 0 {
-                s.say("bytes 0102030404");
-                s.say("crc 20");
+        for first in [0x88, 0x08, 0x89, level_bytes(level)[0]] {
+            let four = [first, 0x42, 0x88, 0x64];
+            let five = [&four[..], &[uid::check_byte(&four)]].concat();
+            let values = [0x00, 0x04, 0x20, 0x24, 0xFB, 0xFF, 0x08, 0x18, 0x28, 0x60, 0xDB, 0x40];
+            for &value in &values[..if first == 0x31 { 12 } else if first == 0x88 { 6 } else { 2 }] {
+                at_level(s, level);
+                s.say(&format!("bytes {}", show_hex(&five)));
+                s.say(&format!("crc {value:02X}"));
+                if level < 3 && value & 4 != 0 {
+                    s.say("bytes 0102030404");
+                    s.say("crc 20");
+                }
             }
         }
+    }
+    s.remark("the first byte is the one sent in SELECT: with a collision at its last bit, the reader sends a 1 there and so 88, or 89");
+    for (heard, rest, sak) in [("0001000x", 0x88u8, "crc 04"), ("0001000x", 0x88, "crc 20"), ("x0010001", 0x89, "crc 04"), ("x0010001", 0x89, "crc 20")] {
+        at_level(s, 1);
+        let four = [rest, 0x42, 0x53, 0x64];
+        let five = [&four[..], &[uid::check_byte(&four)]].concat();
+        let whole = frames::standard(&five);
+        let bits: String = heard.to_string() + &whole[8..].iter().map(|b| b.to_string()).collect::<String>();
+        s.say(&format!("row {bits}"));
+        // The bits that the reader then sends are known; what is left of the level is heard.
+        let known = heard.find('x').unwrap() + 1;
+        s.say(&plain_row(&whole[known + known / 8..]));
+        s.say(sak);
+    }
+    s.remark("damage comes before it: 7, 2, 8, 3, 4 at a SAK that also contradicts its level");
+    let row = frames::standard_with_crc(&[0x04]);
+    for change in [vec![], row[..26].to_vec(), collided(&row, 3), flipped(&row, 8), frames::standard(&[0x04, 0, 0])] {
+        at_level(s, 1);
+        s.say(&format!("bytes {}", show_hex(&level_bytes(1))));
+        s.say(&plain_row(&change));
+    }
+    s.remark("in a sweep: the reader is stopped, and no UID is announced");
+    for lines in [["bytes 8801020388", "crc 20"], ["bytes 0102030404", "crc 04"]] {
+        say_all(s, &["new", "sweep", "bytes 4400"]);
+        say_all(s, &lines);
+        s.say("silence");
     }
 }
 
