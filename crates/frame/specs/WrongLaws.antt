@@ -32,7 +32,7 @@ faulty-step n r = go (wrongByte r)
     go true = lt-ltb 0 (suc n) (omega arith)
     go false = ltb-suc (firstWrong n (drop 9 r)) n
 
--- where none of n bytes is wrong, the place is n
+-- the place is n at most: there none is wrong
 pub first-most : (n : ℕ) (r : List ℕ) → firstWrong n r ≤ n
 unfolding firstWrong
 first-most zero r = omega arith
@@ -41,6 +41,15 @@ first-most (suc n) r = go (wrongByte r) (first-most n (drop 9 r))
     go : (b : Bool) → firstWrong n (drop 9 r) ≤ n → cond b 0 (suc (firstWrong n (drop 9 r))) ≤ suc n
     go true h = omega arith
     go false h = omega arith
+
+-- a place that was found, and whether one is wrong
+pub found-wrong : (n p : ℕ) (r : List ℕ) → p ≡ firstWrong n r → p < n → faulty n r ≡ true
+unfolding faulty
+found-wrong n p r e h = rw (← e) (lt-ltb p n h)
+
+pub found-none : (n p : ℕ) (r : List ℕ) → p ≡ firstWrong n r → n ≤ p → faulty n r ≡ false
+unfolding faulty
+found-none n p r e h = rw (← e) (le-ltb p n h)
 
 -- ---- the place
 
