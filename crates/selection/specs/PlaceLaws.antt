@@ -34,8 +34,8 @@ module _ (k : ℕ) (w : List ℕ) where
         five = omega (arith, b .checked);
         wrong = rw (← behind i p w) (b .wrong);
         first = λ m h l.
-          let e : i + (m - i) ≡ m = omega arith in
-          rw (rw e at (behind i (m - i) w)) at (b .first (m - i) (omega arith));
+            let e : i + (m - i) ≡ m = omega arith in
+            rw (rw e at (behind i (m - i) w)) at (b .first (m - i) (omega arith));
       }
 
   pub broke-rest : (j : ℕ) → RestBroke k w j → restPlace k w ≡ j
