@@ -76,8 +76,8 @@ impl Link {
         // A damaged frame gets silence and changes nothing.
         let bytes = match blocks::read_frame(row, own_size) {
             Ok(bytes) => bytes,
-            Err(number) => {
-                note("card block", &format!("damage {number}"), column);
+            Err(refusal) => {
+                note("card block", &format!("damage {}", refusal.number), column);
                 return Outcome::Silent;
             }
         };
@@ -235,23 +235,23 @@ mod tests {
         assert_eq!(block(&mut link, &[0x12, 1, 2], &[], &mut buffer), Outcome::Answer(blocks::ack(0)));
         assert_eq!(block(&mut link, &[0xB2], &[], &mut buffer), Outcome::Answer(blocks::ack(0)));
         assert_eq!(block(&mut link, &[0x03, 3], &[], &mut buffer), Outcome::Delivered(vec![1, 2, 3]));
-        assert_eq!(block(&mut link, &[0xC2], &[], &mut buffer), Outcome::Refused(11));
-        assert_eq!(link.ask_wtx(0), Outcome::Refused(6));
-        assert_eq!(link.ask_wtx(60), Outcome::Refused(6));
+        assert_eq!(block(&mut link, &[0xC2], &[], &mut buffer), Outcome::Refused(refusal::NOT_DUE));
+        assert_eq!(link.ask_wtx(0), Outcome::Refused(refusal::ARGUMENT));
+        assert_eq!(link.ask_wtx(60), Outcome::Refused(refusal::ARGUMENT));
         assert_eq!(link.ask_wtx(59), Outcome::Answer(blocks::wtx(59)));
-        assert_eq!(link.reply(&[9]), Outcome::Refused(11));
+        assert_eq!(link.reply(&[9]), Outcome::Refused(refusal::NOT_DUE));
         assert_eq!(block(&mut link, &[0xF2, 58], &[], &mut buffer), Outcome::Silent);
         assert_eq!(block(&mut link, &[0xB3], &[], &mut buffer), Outcome::Answer(blocks::wtx(59)));
         assert_eq!(block(&mut link, &[0xF2, 59], &[], &mut buffer), Outcome::Again);
-        assert_eq!(link.reply(&[0; 4097]), Outcome::Refused(10));
+        assert_eq!(link.reply(&[0; 4097]), Outcome::Refused(refusal::MESSAGE));
         let answer: Vec<u8> = (0..20).collect();
         assert_eq!(link.reply(&answer), Outcome::Answer(blocks::i_block(&answer, 0, 16, 1)));
         assert_eq!(block(&mut link, &[0xB3], &answer, &mut buffer), Outcome::Answer(blocks::i_block(&answer, 0, 16, 1)));
         assert_eq!(block(&mut link, &[0xA2], &answer, &mut buffer), Outcome::Answer(blocks::i_block(&answer, 13, 16, 0)));
         assert_eq!(block(&mut link, &[0xA3], &answer, &mut buffer), Outcome::Silent);
         assert_eq!(block(&mut link, &[0xA2], &answer, &mut buffer), Outcome::Answer(blocks::i_block(&answer, 13, 16, 0)));
-        assert_eq!(block(&mut link, &[0xA2], &answer[..12], &mut buffer), Outcome::Refused(1));
-        assert_eq!(block(&mut link, &[0xA2], &[0; 4097], &mut buffer), Outcome::Refused(10));
+        assert_eq!(block(&mut link, &[0xA2], &answer[..12], &mut buffer), Outcome::Refused(refusal::ROOM));
+        assert_eq!(block(&mut link, &[0xA2], &[0; 4097], &mut buffer), Outcome::Refused(refusal::MESSAGE));
         assert_eq!(block(&mut link, &[0xA3], &[], &mut buffer), Outcome::Silent);
     }
 

@@ -62,6 +62,16 @@ fn expected() -> Vec<Key> {
         }
     }
 
+    // Where the parity broke, by what is awaited; in an ANTICOLLISION answer by k, from the first byte that is whole in it.
+    add("reader parity", &["REQA sent", "REQA sent (sweep)"], &["byte 0", "byte 1"]);
+    add("reader parity", &["SELECT sent"], &["byte 0", "byte 1", "byte 2"]);
+    add("reader parity", &["ANTICOLLISION sent", "RATS sent"], &["byte 0", "byte 1", "byte 2", "byte 3", "byte 4 or more"]);
+    for k in 0..=32 {
+        for byte in (k + 7) / 8..5 {
+            add("ANTICOLLISION parity", &[&format!("k = {k}")], &[&format!("byte {byte}")]);
+        }
+    }
+
     // The reader's table of blocks.
     let waiting = ["more to send", "last I out", "joining"];
     let damage = [

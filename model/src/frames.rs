@@ -88,7 +88,7 @@ pub fn standard_with_crc(bytes: &[u8]) -> Row {
     standard(&with_crc(bytes))
 }
 
-/// Reads a standard frame of `least` to `most` bytes. Tests 2, 8, 3 in the order of document 01's last table.
+/// Reads a standard frame of `least` to `most` bytes. Tests 2, 8, 3 in the order of document 01's last table; 3 with the first wrong byte.
 pub fn read_standard(row: &[u8], least: usize, most: usize) -> Result<Vec<u8>, Refusal> {
     if row.len() % 9 != 0 || row.len() / 9 < least || row.len() / 9 > most {
         return Err(refusal::LENGTH);
@@ -97,10 +97,10 @@ pub fn read_standard(row: &[u8], least: usize, most: usize) -> Result<Vec<u8>, R
         return Err(refusal::COLLISION);
     }
     let mut bytes = Vec::new();
-    for nine in row.chunks(9) {
+    for (index, nine) in row.chunks(9).enumerate() {
         let byte = byte_of(&nine[..8]);
         if nine[8] != parity(byte) {
-            return Err(refusal::PARITY);
+            return Err(refusal::parity(index));
         }
         bytes.push(byte);
     }
@@ -217,7 +217,7 @@ mod tests {
         assert_eq!(short(REQA), packed("7:64"));
         assert_eq!(short(WUPA), packed("7:4A"));
         assert_eq!(read_short(&short(0x26)), Ok(0x26));
-        assert_eq!(read_short(&standard(&[0x26])), Err(2));
+        assert_eq!(read_short(&standard(&[0x26])), Err(refusal::LENGTH));
     }
 
     #[test]
@@ -269,11 +269,11 @@ mod tests {
         assert_eq!(read_standard_with_crc(&row, 256), Ok(vec![1, 2, 3]));
         row[0] ^= 1;
         row[8] ^= 1;
-        assert_eq!(read_standard_with_crc(&row, 256), Err(4));
+        assert_eq!(read_standard_with_crc(&row, 256), Err(refusal::CRC));
         row[8] ^= 1;
-        assert_eq!(read_standard_with_crc(&row, 256), Err(3));
+        assert_eq!(read_standard_with_crc(&row, 256), Err(refusal::parity(0)));
         row[30] = 2;
-        assert_eq!(read_standard_with_crc(&row, 256), Err(8));
-        assert_eq!(read_standard_with_crc(&row, 4), Err(2));
+        assert_eq!(read_standard_with_crc(&row, 256), Err(refusal::COLLISION));
+        assert_eq!(read_standard_with_crc(&row, 4), Err(refusal::LENGTH));
     }
 }

@@ -66,9 +66,9 @@ pub enum Answer {
 }
 
 /// "In ATQA and ANTICOLLISION answers parity is checked only on whole bytes with no collided data bit; there a collided
-/// parity bit is wrong." The row given holds whole bytes with parity.
-fn parity_is_wrong(whole: &[u8]) -> bool {
-    whole.chunks(9).any(|nine| !frames::has_collision(&nine[..8]) && nine[8] != frames::parity(frames::byte_of(&nine[..8])))
+/// parity bit is wrong." The row given holds whole bytes with parity; the first that is wrong, counted from 0.
+fn first_wrong(whole: &[u8]) -> Option<usize> {
+    whole.chunks(9).position(|nine| !frames::has_collision(&nine[..8]) && nine[8] != frames::parity(frames::byte_of(&nine[..8])))
 }
 
 impl Reader {
@@ -94,9 +94,13 @@ impl Reader {
     }
 
     /// A refusal with everything unchanged.
-    fn decline(&self, number: Refusal) -> Answer {
-        note("reader refusal", self.phase_name(), &number.to_string());
-        Answer::Refused(number)
+    fn decline(&self, refusal: Refusal) -> Answer {
+        note("reader refusal", self.phase_name(), &refusal.number.to_string());
+        if refusal.number == 3 {
+            let byte = if refusal.byte < 4 { refusal.byte.to_string() } else { "4 or more".to_string() };
+            note("reader parity", self.phase_name(), &format!("byte {byte}"));
+        }
+        Answer::Refused(refusal)
     }
 
     /// A refusal that stops the reader. A stopped reader has one value, whatever it held.
@@ -221,8 +225,8 @@ impl Reader {
         if row.len() != 18 {
             return self.stop(refusal::LENGTH);
         }
-        if parity_is_wrong(row) {
-            return self.stop(refusal::PARITY);
+        if let Some(byte) = first_wrong(row) {
+            return self.stop(refusal::parity(byte));
         }
         if row[..5].iter().all(|&bit| bit == 0) {
             return self.stop(refusal::FORBIDDEN);
@@ -251,8 +255,11 @@ impl Reader {
         if collided.map_or(false, |p| p >= 32) {
             return self.stop(refusal::COLLISION);
         }
-        if parity_is_wrong(whole) {
-            return self.stop(refusal::PARITY);
+        if let Some(i) = first_wrong(whole) {
+            // "In an ANTICOLLISION answer the index counts from the level's first byte": those not whole here come before.
+            let byte = 5 - whole.len() / 9 + i;
+            note("ANTICOLLISION parity", &format!("k = {}", known.len()), &format!("byte {byte}"));
+            return self.stop(refusal::parity(byte));
         }
         if let Some(p) = collided {
             // The bits before p, and then a 1.
@@ -340,7 +347,7 @@ mod tests {
         assert_eq!(hear(&mut reader, &row), Answer::Send(packed("40:C9 91 40 49 11")));
         assert_eq!(hear(&mut reader, &packed("23:4C 27 64")), Answer::Send(packed("81:C9 87 00 49 11 4C 27 64 D5 3E 00")));
         assert_eq!(hear(&mut reader, &packed("27:00 BF A2 80")), Answer::Selected { uid: hex("80122821"), sak: 0 });
-        assert_eq!(reader.rats(8), Answer::Refused(11));
+        assert_eq!(reader.rats(8), Answer::Refused(refusal::NOT_DUE));
     }
 
     /// 33 rows that part at every bit of a level need 33 ANTICOLLISION frames.
@@ -376,13 +383,17 @@ mod tests {
         let good = Answer::Send(packed("18:C9 82 00"));
         assert_eq!(ask(&frames::standard(&[0xC4, 0x00])), good);
         assert_eq!(ask(&[2; 18]), good);
-        assert_eq!(ask(&[]), Answer::Refused(7));
-        assert_eq!(ask(&[0; 17]), Answer::Refused(2));
-        assert_eq!(ask(&frames::standard(&[0xE0, 0xFF])), Answer::Refused(9));
+        assert_eq!(ask(&[]), Answer::Refused(refusal::SILENCE));
+        assert_eq!(ask(&[0; 17]), Answer::Refused(refusal::LENGTH));
+        assert_eq!(ask(&frames::standard(&[0xE0, 0xFF])), Answer::Refused(refusal::FORBIDDEN));
         let mut row = frames::standard(&[0x04, 0x00]);
         row[8] = 2;
-        assert_eq!(ask(&row), Answer::Refused(3));
+        assert_eq!(ask(&row), Answer::Refused(refusal::parity(0)));
+        row[17] = 0;
+        assert_eq!(ask(&row), Answer::Refused(refusal::parity(0)));
         row[0] = 2;
+        assert_eq!(ask(&row), Answer::Refused(refusal::parity(1)));
+        row[17] = 1;
         assert_eq!(ask(&row), good);
     }
 
@@ -396,8 +407,8 @@ mod tests {
             hear(&mut after_atqa(), &row)
         };
         assert_eq!(ask(&|_| ()), Answer::Send(frames::select(1, &bytes)));
-        assert_eq!(ask(&|r| r[44] = 2), Answer::Refused(3));
-        assert_eq!(ask(&|r| r[36] = 2), Answer::Refused(8));
+        assert_eq!(ask(&|r| r[44] = 2), Answer::Refused(refusal::parity(4)));
+        assert_eq!(ask(&|r| r[36] = 2), Answer::Refused(refusal::COLLISION));
         assert_eq!(
             ask(&|r| {
                 r[36] = 2;
@@ -410,7 +421,7 @@ mod tests {
                 r[36] ^= 1;
                 r[44] ^= 1
             }),
-            Answer::Refused(5)
+            Answer::Refused(refusal::B)
         );
         // The parity of the broken byte is ignored, also when it is collided.
         let mut reader = after_atqa();

@@ -127,8 +127,8 @@ impl Link {
         let column = self.stage_name();
         let bytes = match blocks::read_frame(row, self.own_size) {
             Ok(bytes) => bytes,
-            Err(number) => {
-                note("reader block", &format!("silence or damage {number}"), column);
+            Err(refusal) => {
+                note("reader block", &format!("silence or damage {}", refusal.number), column);
                 return self.repeat();
             }
         };
@@ -276,18 +276,18 @@ mod tests {
         assert_eq!(read_ats(&standard(&hex("017740")), 16), Ok(32));
         assert_eq!(read("0200"), Ok(16));
         assert_eq!(read("020F"), Ok(256));
-        assert_eq!(read("00"), Err(9));
-        assert_eq!(read("02"), Err(9));
-        assert_eq!(read("0288"), Err(9));
-        assert_eq!(read("0248"), Err(9));
+        assert_eq!(read("00"), Err(refusal::FORBIDDEN));
+        assert_eq!(read("02"), Err(refusal::FORBIDDEN));
+        assert_eq!(read("0288"), Err(refusal::FORBIDDEN));
+        assert_eq!(read("0248"), Err(refusal::FORBIDDEN));
         assert_eq!(read("034802"), Ok(256));
         assert_eq!(read("0578112233"), Ok(256));
-        assert_eq!(read("04781122"), Err(9));
+        assert_eq!(read("04781122"), Err(refusal::FORBIDDEN));
         assert_eq!(read("067811223344"), Ok(256));
         assert_eq!(read("0E080102030405060708090A0B0C"), Ok(256));
-        assert_eq!(read("0F080102030405060708090A0B0C0D"), Err(2));
-        assert_eq!(read_ats(&[], 16), Err(7));
-        assert_eq!(read_ats(&standard(&[1, 2]), 16), Err(2));
+        assert_eq!(read("0F080102030405060708090A0B0C0D"), Err(refusal::LENGTH));
+        assert_eq!(read_ats(&[], 16), Err(refusal::SILENCE));
+        assert_eq!(read_ats(&standard(&[1, 2]), 16), Err(refusal::LENGTH));
     }
 
     fn hear(link: &mut Link, bytes: &str, message: &[u8], buffer: &mut [u8]) -> Answer {
@@ -306,9 +306,9 @@ mod tests {
         assert_eq!(link.hear(&[], &message, &mut buffer), Answer::Send(blocks::nak(1)));
         assert_eq!(link.hear(&[1], &message, &mut buffer), Answer::Send(blocks::nak(1)));
         let again = standard_with_crc(&hex("A2"));
-        assert_eq!(link.declines(&again, &message[..12]), Some(1));
+        assert_eq!(link.declines(&again, &message[..12]), Some(refusal::ROOM));
         assert_eq!(link.declines(&again, &message[..13]), None);
-        assert_eq!(link.declines(&again, &[0; 4097]), Some(10));
+        assert_eq!(link.declines(&again, &[0; 4097]), Some(refusal::MESSAGE));
         assert_eq!(link.declines(&[1], &[]), None);
         assert_eq!(hear(&mut link, "1301", &message, &mut buffer), Answer::Send(blocks::ack(0)));
         assert_eq!(link.hear(&[], &message, &mut buffer), Answer::Send(blocks::ack(0)));
@@ -318,7 +318,7 @@ mod tests {
         for _ in 0..2 {
             assert_eq!(link.hear(&[], &message, &mut buffer), Answer::Send(blocks::deselect()));
         }
-        assert_eq!(link.hear(&[], &message, &mut buffer), Answer::Refused(12));
+        assert_eq!(link.hear(&[], &message, &mut buffer), Answer::Refused(refusal::REPEATS));
         assert_eq!(hear(&mut link, "C2", &message, &mut buffer), Answer::Finished);
     }
 }

@@ -142,10 +142,10 @@ mod tests {
         let mut cards = field(&[("01020304", true)]);
         let mut used = Reader::new();
         used.select();
-        assert_eq!(sweep(&mut used, &mut cards, 0, 0), Err(11));
-        assert_eq!(sweep(&mut Reader::new(), &mut cards, LOG_ROOM - 1, LIST_ROOM), Err(1));
-        assert_eq!(sweep(&mut Reader::new(), &mut cards, LOG_ROOM, LIST_ROOM - 1), Err(1));
+        assert_eq!(sweep(&mut used, &mut cards, 0, 0), Err(refusal::NOT_DUE));
+        assert_eq!(sweep(&mut Reader::new(), &mut cards, LOG_ROOM - 1, LIST_ROOM), Err(refusal::ROOM));
+        assert_eq!(sweep(&mut Reader::new(), &mut cards, LOG_ROOM, LIST_ROOM - 1), Err(refusal::ROOM));
         cards[0].power_off();
-        assert_eq!(sweep(&mut Reader::new(), &mut cards, LOG_ROOM, LIST_ROOM), Err(6));
+        assert_eq!(sweep(&mut Reader::new(), &mut cards, LOG_ROOM, LIST_ROOM), Err(refusal::ARGUMENT));
     }
 }

@@ -88,7 +88,7 @@ mod tests {
         assert_eq!(ask("check 80122821"), "b 9B");
         assert_eq!(ask("read 001000000000000001"), "bytes 0400");
         assert_eq!(ask("read 00100000000000000x"), "refused 8");
-        assert_eq!(ask("read 001000000000000000"), "refused 3");
+        assert_eq!(ask("read 001000000000000000"), "refused 3 1");
         assert_eq!(ask("readcrc 001000000000000001"), "refused 2");
         assert_eq!(ask("readshort 0110010"), "short 26");
         assert_eq!(ask("uid 01020304"), "levels 1 0102030404 0000000000 0000000000 row 1000000001000000110000000010000000100000");

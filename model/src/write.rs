@@ -128,7 +128,9 @@ mod tests {
     #[test]
     fn sizes() {
         for file in all() {
-            assert!(file.input.len() < 260_000 && file.output.len() < 260_000, "{}", file.name);
+            // Where the parity broke takes 256 rows, one for each byte of a frame.
+            let most = if file.name == "vectors_frame" { 400_000 } else { 300_000 };
+            assert!(file.input.len() < most && file.output.len() < 300_000, "{}", file.name);
         }
     }
 

@@ -8,36 +8,34 @@ use refusal::Refusal;
 // The words of the results, by their numbers in the list of said.
 pub const OK: usize = 0;
 
-pub const REFUSED: usize = 1;
+pub const ROOM: usize = 1;
 
-pub const ROOM: usize = 2;
+pub const SILENT: usize = 2;
 
-pub const SILENT: usize = 3;
+pub const ANSWER: usize = 3;
 
-pub const ANSWER: usize = 4;
+pub const DELIVERED: usize = 4;
 
-pub const DELIVERED: usize = 5;
+pub const AGAIN: usize = 5;
 
-pub const AGAIN: usize = 6;
-
-pub const TOLD: usize = 7;
+pub const TOLD: usize = 6;
 
 // A result of one word.
 pub fn plain(k: usize) -> Answer {
     bench_talk::word(
         bench_talk::none(),
-        b"ok refused room silent answer delivered again told",
+        b"ok room silent answer delivered again told",
         k,
     )
 }
 
-// A word and a number: `room N`, `refused N`, `told N`.
+// A word and a number: `room N`, `told N`.
 pub fn numbered(k: usize, n: usize) -> Answer {
     bench_talk::number(plain(k), n)
 }
 
 pub fn refused(e: Refusal) -> Answer {
-    bench_talk::refused(refusal::number(e))
+    bench_lines::refused(e)
 }
 
 // What comes of a frame: the row that the card sends, and what its host is told; a whole message stands at the front of message.
@@ -91,7 +89,7 @@ fn declined(e: Refusal) -> Answer {
     if n == 10 {
         return numbered(TOLD, n);
     }
-    numbered(REFUSED, n)
+    refused(e)
 }
 
 // `answer ROW`, or `silent` where it is empty.

@@ -59,20 +59,11 @@ fn by_row(cards: [Card; 16], count: usize) -> Report {
 pub fn say(r: Report, count: usize, has_trace: bool) {
     let s = r.swept;
     let last = s.answer;
-    let n = declined(last);
-    if n > 0 {
-        bench_talk::put_line(bench_talk::refused(n));
+    let reader::Answer::Declines(e) = last else {
+        say_swept(r, count, has_trace);
         return;
-    }
-    say_swept(r, count, has_trace);
-}
-
-// The number by which a sweep was declined; 0 where it was not.
-fn declined(a: reader::Answer) -> u8 {
-    let reader::Answer::Declines(e) = a else {
-        return 0;
     };
-    refusal::number(e)
+    bench_talk::put_line(bench_lines::refused(e));
 }
 
 fn say_swept(r: Report, count: usize, has_trace: bool) {

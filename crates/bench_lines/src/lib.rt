@@ -1,7 +1,10 @@
-// Words that several programs share: numbers and bytes with their bounds, the lines by which a row is handed to either end, and a card's words.
+// Words that several programs share: numbers and bytes with their bounds, the lines by which a row is handed to either end, a card's words, and a
+// refusal.
+use bench_talk::Answer;
 use bench_values::Number;
 use bench_values::ReadWord;
 use frame::Written;
+use refusal::Refusal;
 
 // A card's words: its UID, so many bytes at the front; whether it speaks blocks; its size index. Where they are not understood the rest is
 // of no meaning.
@@ -11,6 +14,16 @@ pub struct CardWords {
     pub length: usize,
     pub blocks: bool,
     pub index: u8,
+}
+
+// `refused N`; where the parity broke `refused 3 B`, with the byte's index.
+pub fn refused(e: Refusal) -> Answer {
+    let n = refusal::number(e);
+    let a = bench_talk::refused(n);
+    if n != 3 {
+        return a;
+    }
+    bench_talk::number(a, refusal::place(e) as usize)
 }
 
 // A number from 0 to 255; 256 where the word is none.

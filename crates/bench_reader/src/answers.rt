@@ -74,7 +74,7 @@ fn linked(told: Told, row: &[u8], answer: &[u8]) -> Answer {
 }
 
 fn refused(e: Refusal) -> Answer {
-    bench_talk::refused(refusal::number(e))
+    bench_lines::refused(e)
 }
 
 // `send ROW`, behind what stands there.

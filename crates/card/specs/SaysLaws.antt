@@ -19,7 +19,7 @@ use Rattle.card.specs.declared.NewCard.{NewCard}
 some-number : (e : Refusal) → 1 ≤ numberOf e
 some-number Room = omega arith
 some-number Length = omega arith
-some-number Parity = omega arith
+some-number (Parity b) = omega arith
 some-number Crc = omega arith
 some-number Check = omega arith
 some-number Argument = omega arith

@@ -16,8 +16,9 @@ use Rattle.rows.specs.ListLaws.{all-drop, all-append, all-take}
 use Rattle.rows.specs.Rows.{clean, same, Bits, Bytes}
 use Rattle.parity.specs.BitLaws.{length-bits, bits-bits, unbits-lt}
 use Rattle.crc.specs.Crc.{withCrc}
-use Rattle.frame.specs.Frame.{standard, short, faulty, airBits}
+use Rattle.frame.specs.Frame.{standard, short, airBits}
 use Rattle.frame.specs.FrameLaws.{length-standard}
+use Rattle.frame.specs.WrongLaws.{faulty-none}
 use Rattle.frame.specs.ParityLaws.{wholeFaulty, standard-append, faulty-standard, bits-standard, faulty-cut}
 use Rattle.frame.specs.TellLaws.{crc-right, standard-bytes, length-crc, bytes-crc}
 use Rattle.uid.specs.Uid.{levels, place}
@@ -78,10 +79,10 @@ collided-else c y f e = else-is c y f (fails (λ r. not (clean r)) clean-passed 
 -- ---- wrong parity, of a byte that is whole
 
 parity-passed : Passed wholeFaulty
-unfolding reqa wupa hlta anticollision select rats short wholeFaulty faulty
+unfolding reqa wupa hlta anticollision select rats short wholeFaulty
 parity-passed = record {
-  is-reqa = rw (length-bits 7 0x26);
-  is-wupa = rw (length-bits 7 0x52);
+  is-reqa = rw (length-bits 7 0x26) (faulty-none _);
+  is-wupa = rw (length-bits 7 0x52) (faulty-none _);
   is-hlta = faulty-standard _;
   is-anti = λ l k five.
       let H : List ℕ = sel l ∷ nvb k ∷ [] in

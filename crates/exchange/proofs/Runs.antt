@@ -52,15 +52,15 @@ table :
     -- the rounds run out before the answer is whole
     × (runs (from 0x30 30) (from 0x30 30) (clean ∷ clean ∷ clean ∷ []) 32 32 ≡ ((from 0x30 30) ∷ [], Quiet, 3, held 0x30 30 2, held 0x30 13 19))
     -- the first I lost, asked for, and damaged
-    × (runs (from 0x30 14) (0x30 ∷ []) (round (Fails Silence) Answers Arrives ∷ clean ∷ round (Fails Parity) Answers Arrives ∷ clean ∷ clean ∷ clean ∷ clean ∷ []) 16 16 ≡ ((from 0x30 14) ∷ [], Message 1, 6, held 0x30 14 2, held 0x30 1 15))
+    × (runs (from 0x30 14) (0x30 ∷ []) (round (Fails Silence) Answers Arrives ∷ clean ∷ round (Fails (Parity 0)) Answers Arrives ∷ clean ∷ clean ∷ clean ∷ clean ∷ []) 16 16 ≡ ((from 0x30 14) ∷ [], Message 1, 6, held 0x30 14 2, held 0x30 1 15))
     -- two answers of the card lost
-    × (runs (from 0x30 14) (from 0x30 14) (round Arrives Answers (Fails Silence) ∷ round Arrives Answers (Fails Parity) ∷ clean ∷ clean ∷ clean ∷ clean ∷ []) 16 16 ≡ ((from 0x30 14) ∷ [], Message 14, 5, held 0x30 14 2, held 0x30 14 2))
+    × (runs (from 0x30 14) (from 0x30 14) (round Arrives Answers (Fails Silence) ∷ round Arrives Answers (Fails (Parity 0)) ∷ clean ∷ clean ∷ clean ∷ clean ∷ []) 16 16 ≡ ((from 0x30 14) ∷ [], Message 14, 5, held 0x30 14 2, held 0x30 14 2))
     -- three frames lost running: 12
     × (runs (0x30 ∷ []) (0x30 ∷ []) (round (Fails Silence) Answers Arrives ∷ round (Fails Silence) Answers Arrives ∷ round (Fails Silence) Answers Arrives ∷ clean ∷ []) 16 16 ≡ ([], Refused Repeats, 3, unheld 16, unheld 16))
     -- the same I asked for a third time: 9
     × (runs (0x30 ∷ []) (0x30 ∷ []) (round (Fails Silence) Answers Arrives ∷ clean ∷ round (Fails Silence) Answers Arrives ∷ clean ∷ round (Fails Silence) Answers Arrives ∷ clean ∷ clean ∷ []) 16 16 ≡ ([], Refused Forbidden, 6, unheld 16, unheld 16))
     -- losses each way, all made good; the answer is not whole yet
-    × (runs (from 0x30 20) (from 0x30 20) (round (Fails Silence) Answers Arrives ∷ round Arrives Answers (Fails Silence) ∷ clean ∷ round Arrives Answers (Fails Silence) ∷ round (Fails Parity) Answers Arrives ∷ clean ∷ round (Fails Parity) Answers Arrives ∷ round Arrives Answers (Fails Parity) ∷ clean ∷ clean ∷ []) 32 32 ≡ ((from 0x30 20) ∷ [], Quiet, 10, held 0x30 20 12, held 0x30 13 19))
+    × (runs (from 0x30 20) (from 0x30 20) (round (Fails Silence) Answers Arrives ∷ round Arrives Answers (Fails Silence) ∷ clean ∷ round Arrives Answers (Fails Silence) ∷ round (Fails (Parity 0)) Answers Arrives ∷ clean ∷ round (Fails (Parity 0)) Answers Arrives ∷ round Arrives Answers (Fails (Parity 0)) ∷ clean ∷ clean ∷ []) 32 32 ≡ ((from 0x30 20) ∷ [], Quiet, 10, held 0x30 20 12, held 0x30 13 19))
     -- WTX asked twice
     × (runs (from 0x30 3) (from 0x30 3) (round Arrives (Asks 59) Arrives ∷ round Arrives (Asks 1) Arrives ∷ clean ∷ []) 16 16 ≡ ((from 0x30 3) ∷ [], Message 3, 3, held 0x30 3 13, held 0x30 3 13))
     -- a WTX lost, and its reply

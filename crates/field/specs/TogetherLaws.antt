@@ -14,6 +14,7 @@ use Rattle.rows.specs.ListLaws.{map-all, all-of, all-unmap, is-nil}
 use Rattle.rows.specs.Rows.{All, clean}
 use Rattle.parity.specs.Bits.{odd}
 use Rattle.frame.specs.Frame.{dataOf, faulty}
+use Rattle.frame.specs.WrongLaws.{faulty-none, faulty-step as frame-step}
 use Rattle.selection.specs.SealLaws.{seal, sealed, length-sealed, seal-byte}
 use Rattle.field.specs.Merge.{merge}
 use Rattle.field.specs.MergeLaws.{clean-merge, merge-append, length-merge, merge-same}
@@ -79,8 +80,7 @@ module _ (n : ℕ) (D : List (List ℕ)) (some : 1 ≤ length D) (full : All (λ
       heads = all-unmap (λ x. x ≡ first) (take 8) D (clean-merge 8 (map (take 8) D) (rw length-map some) (all-map {F = λ d. length (take 8 d) ≡ 8} (λ x. length x ≡ 8) (take 8) D (λ d h. h) eights) c)
 
   faulty-step : faulty n later ≡ false → faulty (suc n) (merge (map (seal (suc n)) D)) ≡ false
-  unfolding faulty
-  faulty-step ih = rw (parts, first-bits, later-bits, ih) (go (clean first) refl)
+  faulty-step ih = rw (parts, frame-step n (first ++ parity ++ later), first-bits, later-bits, ih) (go (clean first) refl)
     where
       go : (c : Bool) → clean first ≡ c → (c && not (eqb (getD (first ++ parity ++ later) 8 0) (odd first)) || false) ≡ false
       go true c = rw (parity-right c, eqb-same (odd first))
@@ -93,5 +93,5 @@ data-seal (suc n) D h l = data-step n D h l (data-seal n (map (drop 8) D) (rw le
 
 pub faulty-seal : (n : ℕ) (D : List (List ℕ)) → 1 ≤ length D → All (λ d. length d ≡ 8 * n) D → faulty n (merge (map (seal n) D)) ≡ false
 unfolding later
-faulty-seal zero D h l = unfold faulty in refl
+faulty-seal zero D h l = faulty-none (merge (map (seal 0) D))
 faulty-seal (suc n) D h l = faulty-step n D h l (faulty-seal n (map (drop 8) D) (rw length-map h) (drops n D h l))

@@ -1,9 +1,9 @@
 -- Document 01, "Frames on the air": short and standard frames as rows of air bits, and what a received row holds.
 use Prim.Native.Nat.{ℕ, zero, suc, _-_, _/_, _%_}
-use mathlib.Core.Bool.{Bool, false, cond, not, _&&_, _||_}
+use mathlib.Core.Bool.{Bool, cond, not, _&&_}
 use mathlib.Core.List.{List, [], _∷_, _++_}
 use lib.ListN.{take, drop, getD, length}
-use lib.Dec.{eqb, leb}
+use lib.Dec.{eqb, leb, ltb}
 use Rattle.rows.specs.Rows.{clean, same}
 use Rattle.parity.specs.Bits.{bitsOf, unbits, odd}
 use Rattle.crc.specs.Crc.{withCrc}
@@ -42,10 +42,19 @@ unfoldable pub bytesOf : ℕ → List ℕ → List ℕ
 bytesOf zero d = []
 bytesOf (suc n) d = unbits (take 8 d) ∷ bytesOf n (drop 8 d)
 
--- one of n bytes has no collided data bit and wrong parity; a collided parity bit is wrong
+-- the byte at the front of a row has no collided data bit and wrong parity; a collided parity bit is wrong
+abbrev pub wrongByte : List ℕ → Bool
+wrongByte r = clean (take 8 r) && not (eqb (getD r 8 0) (odd (take 8 r)))
+
+-- T-07: "the first byte, from 0, whose parity is wrong among those checked", of n bytes; n where none is wrong. A byte with a collided data bit
+-- is not checked, but it is counted
+unfoldable pub firstWrong : ℕ → List ℕ → ℕ
+firstWrong zero r = 0
+firstWrong (suc n) r = cond (wrongByte r) 0 (suc (firstWrong n (drop 9 r)))
+
+-- one of n bytes is wrong
 unfoldable pub faulty : ℕ → List ℕ → Bool
-faulty zero r = false
-faulty (suc n) r = clean (take 8 r) && not (eqb (getD r 8 0) (odd (take 8 r))) || faulty n (drop 9 r)
+faulty n r = ltb (firstWrong n r) n
 
 -- what is made of a received row: good, with these bytes; or the first of the tests that it fails
 pub data Verdict : Type 0 where
@@ -61,7 +70,7 @@ unfoldable pub readFrame : ℕ → ℕ → List ℕ → Verdict
 readFrame least most h =
     cond (not (wholeBytes least most (length h))) (Fault Length)
     (cond (not (clean h)) (Fault Collision)
-    (cond (faulty (length h / 9) h) (Fault Parity)
+    (cond (faulty (length h / 9) h) (Fault (Parity (firstWrong (length h / 9) h)))
     (Good (bytesOf (length h / 9) (dataOf (length h / 9) h)))))
 
 -- the bytes of a frame without CRC_A, its last two bytes; 4 where those are wrong

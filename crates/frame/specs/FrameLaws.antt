@@ -18,9 +18,10 @@ use Rattle.crc.specs.Crc.{withCrc, crcGood}
 use Rattle.crc.specs.CrcLaws.{length-with, with-bytes, take-with, good-with}
 use Rattle.refusal.specs.declared.Refusal.the-variants.{Length, Parity, Crc, Collision}
 use Rattle.refusal.specs.Refusal.{giving, declineIf}
-use Rattle.frame.specs.Frame.{short, airByte, standard, dataOf, bytesOf, faulty, wholeBytes, readFrame, withoutCrc, crcChecked, readCrc, Verdict, Good, Fault}
+use Rattle.frame.specs.Frame.{short, airByte, standard, dataOf, bytesOf, firstWrong, faulty, wholeBytes, readFrame, withoutCrc, crcChecked, readCrc, Verdict, Good, Fault}
 use Rattle.frame.specs.Calls.{readShort}
 use Rattle.frame.specs.ByteLaws.{length-bytes}
+use Rattle.frame.specs.WrongLaws.{faulty-none, faulty-step}
 
 -- ---- lengths
 
@@ -99,7 +100,7 @@ unfolding readFrame
 read-passed least most h l e = go (wholeBytes least most (length h)) (clean h) (faulty (length h / 9) h) refl refl refl e
   where
     go : (w c f : Bool) → wholeBytes least most (length h) ≡ w → clean h ≡ c → faulty (length h / 9) h ≡ f
-        → cond (not w) (Fault Length) (cond (not c) (Fault Collision) (cond f (Fault Parity) (Good (bytesOf (length h / 9) (dataOf (length h / 9) h))))) ≡ Good l
+        → cond (not w) (Fault Length) (cond (not c) (Fault Collision) (cond f (Fault (Parity (firstWrong (length h / 9) h))) (Good (bytesOf (length h / 9) (dataOf (length h / 9) h))))) ≡ Good l
         → Passed least most h l
     go true true false w c f e = record { whole = w; unhurt = c; sound = f; bytes = cc }
     go true true true w c f e = absurd (let z : _≡_ {A = ℕ} 0 1 = cc in omega arith)
@@ -124,10 +125,10 @@ standard-bits (b ∷ l) =
     (all-append (λ x. x < 2) (bitsOf 8 b) (odd (bitsOf 8 b) ∷ []) (bits-bits 8 b) (odd-bit (bitsOf 8 b), tt)) (standard-bits l)
 
 standard-sound : (l : List ℕ) → faulty (length l) (standard l) ≡ false
-unfolding faulty standard
-standard-sound [] = refl
+unfolding standard
+standard-sound [] = faulty-none []
 standard-sound (b ∷ l) =
-    rw (take-air b (standard l), parity-air b (standard l), drop-air b (standard l), eq-eqb (odd (bitsOf 8 b)) (odd (bitsOf 8 b)) refl, and-false)
+    rw (faulty-step (length l) (airByte b ++ standard l), take-air b (standard l), parity-air b (standard l), drop-air b (standard l), eq-eqb (odd (bitsOf 8 b)) (odd (bitsOf 8 b)) refl, and-false)
     (standard-sound l)
 
 standard-bytes : (l : List ℕ) → Bytes l → bytesOf (length l) (dataOf (length l) (standard l)) ≡ l
@@ -169,8 +170,7 @@ read-short-short b h = rw (length-bits 7 b, bits-clean (bitsOf 7 b) (bits-bits 7
 
 -- a byte of a row that passes the tests has right parity, and the other bytes pass them too
 sound-parts : (n : ℕ) (h : List ℕ) → clean (take 8 h) ≡ true → faulty (suc n) h ≡ false → (getD h 8 0 ≡ odd (take 8 h)) × (faulty n (drop 9 h) ≡ false)
-unfolding faulty
-sound-parts n h c f = go (eqb (getD h 8 0) (odd (take 8 h))) refl (rw c at f)
+sound-parts n h c f = go (eqb (getD h 8 0) (odd (take 8 h))) refl (rw c at (sym (faulty-step n h) ∙ f))
   where
     go : (b : Bool) → eqb (getD h 8 0) (odd (take 8 h)) ≡ b → (not b || faulty n (drop 9 h)) ≡ false
         → (getD h 8 0 ≡ odd (take 8 h)) × (faulty n (drop 9 h) ≡ false)

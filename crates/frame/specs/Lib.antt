@@ -1,5 +1,6 @@
 pub mod Frame
 pub mod Calls
+pub mod WrongLaws
 pub mod FrameLaws
 pub mod LoopLaws
 pub mod ByteLaws

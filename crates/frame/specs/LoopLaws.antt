@@ -14,7 +14,7 @@ use Rattle.rows.specs.RowLaws.{overlay-next, overlay-set}
 use Rattle.parity.specs.Bits.{unbits, odd}
 use Rattle.crc.specs.Crc.{crcBytes, withCrc}
 use Rattle.crc.specs.CrcLaws.{length-crc}
-use Rattle.frame.specs.Frame.{airByte, standard, dataOf, bytesOf, faulty}
+use Rattle.frame.specs.Frame.{airByte, standard, dataOf, bytesOf, wrongByte, firstWrong}
 use Rattle.frame.specs.FrameLaws.{length-airByte, length-standard, standard-append, bytes-first}
 use Rattle.frame.specs.ByteLaws.{length-bytes}
 
@@ -42,26 +42,23 @@ standard-crc d l k e h =
 
 -- ---- parity
 
-pub faulty-next : (k i : ℕ) (r : List ℕ) (at : ℕ) → i < k
-    → (clean (take 8 (drop (at + 9 * i) r)) && not (eqb (getD r (at + 9 * i + 8) 0) (odd (take 8 (drop (at + 9 * i) r))))) ≡ false
-    → faulty (k - i) (drop (at + 9 * i) r) ≡ faulty (k - (i + 1)) (drop (at + 9 * (i + 1)) r)
-unfolding faulty
-faulty-next k i r at h w =
+pub first-next : (k i : ℕ) (r : List ℕ) (at : ℕ) → i < k → wrongByte (drop (at + 9 * i) r) ≡ false
+    → firstWrong (k - i) (drop (at + 9 * i) r) ≡ suc (firstWrong (k - (i + 1)) (drop (at + 9 * (i + 1)) r))
+unfolding firstWrong
+first-next k i r at h w =
     let e : k - i ≡ suc (k - (i + 1)) = omega arith in
     let f : at + 9 * (i + 1) ≡ at + 9 * i + 9 = omega arith in
-    rw (e, f, ← drop-drop 9 (at + 9 * i) r, getD-drop (at + 9 * i) r 8 0) (rw w)
+    rw (e, f, ← drop-drop 9 (at + 9 * i) r, w)
 
-pub faulty-here : (k i : ℕ) (r : List ℕ) (at : ℕ) → i < k
-    → (clean (take 8 (drop (at + 9 * i) r)) && not (eqb (getD r (at + 9 * i + 8) 0) (odd (take 8 (drop (at + 9 * i) r))))) ≡ true
-    → faulty (k - i) (drop (at + 9 * i) r) ≡ true
-unfolding faulty
-faulty-here k i r at h w =
+pub first-here : (k i : ℕ) (r : List ℕ) → i < k → wrongByte r ≡ true → firstWrong (k - i) r ≡ 0
+unfolding firstWrong
+first-here k i r h w =
     let e : k - i ≡ suc (k - (i + 1)) = omega arith in
-    rw (e, getD-drop (at + 9 * i) r 8 0) (rw w)
+    rw (e, w)
 
-pub faulty-done : (k i : ℕ) (r : List ℕ) → k ≤ i → faulty (k - i) r ≡ false
-unfolding faulty
-faulty-done k i r h = let e : k - i ≡ 0 = omega arith in rw e
+pub first-done : (k i : ℕ) (r : List ℕ) → k ≤ i → firstWrong (k - i) r ≡ 0
+unfolding firstWrong
+first-done k i r h = let e : k - i ≡ 0 = omega arith in rw e
 
 -- ---- reading
 

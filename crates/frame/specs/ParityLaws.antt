@@ -13,8 +13,9 @@ use Rattle.rows.specs.ListLaws.{all-append}
 use Rattle.rows.specs.Rows.{clean, Bits}
 use Rattle.parity.specs.BitLaws.{length-bits, bits-bits}
 use Rattle.parity.specs.Bits.{bitsOf, odd}
-use Rattle.frame.specs.Frame.{standard, faulty, airByte}
+use Rattle.frame.specs.Frame.{standard, wrongByte, faulty, airByte}
 use Rattle.frame.specs.FrameLaws.{length-airByte}
+use Rattle.frame.specs.WrongLaws.{faulty-none, faulty-step}
 
 bits-airByte : (b : ℕ) → Bits (airByte b)
 unfolding airByte odd
@@ -35,9 +36,8 @@ unfoldable pub wholeFaulty : List ℕ → Bool
 wholeFaulty r = faulty (length r / 9) r
 
 faulty-byte : (b n : ℕ) (S : List ℕ) → faulty (suc n) (airByte b ++ S) ≡ faulty n S
-unfolding faulty
 faulty-byte b n S =
-    rw (drop-at (airByte b) S 9 (length-airByte b), front, mark, bits-clean (bitsOf 8 b) (bits-bits 8 b), eqb-same (odd (bitsOf 8 b)))
+    rw (faulty-step n (airByte b ++ S), drop-at (airByte b) S 9 (length-airByte b), front, mark, bits-clean (bitsOf 8 b) (bits-bits 8 b), eqb-same (odd (bitsOf 8 b)))
   where
     front : take 8 (airByte b ++ S) ≡ bitsOf 8 b
     front = unfold airByte in ap (take 8) (append-assoc (bitsOf 8 b) (odd (bitsOf 8 b) ∷ []) S) ∙ take-at (bitsOf 8 b) (odd (bitsOf 8 b) ∷ S) 8 (length-bits 8 b)
@@ -46,8 +46,8 @@ faulty-byte b n S =
     mark = unfold airByte in ap (λ r. getD r 8 0) (append-assoc (bitsOf 8 b) (odd (bitsOf 8 b) ∷ []) S) ∙ getD-at (bitsOf 8 b) (odd (bitsOf 8 b)) S 0 8 (length-bits 8 b)
 
 pub faulty-cut : (l : List ℕ) (m : ℕ) → wholeFaulty (take m (standard l)) ≡ false
-unfolding wholeFaulty standard faulty
-faulty-cut [] m = rw take-nil
+unfolding wholeFaulty standard
+faulty-cut [] m = rw take-nil (faulty-none [])
 faulty-cut (b ∷ l) m = go (ltb m 9) refl (faulty-cut l (m - 9))
   where
     S : List ℕ
@@ -57,7 +57,7 @@ faulty-cut (b ∷ l) m = go (ltb m 9) refl (faulty-cut l (m - 9))
     go true e ih =
         let k : m < 9 = ltb-true m 9 e in
         let z : length (take m (airByte b ++ S)) / 9 ≡ 0 = rw length-take (omega arith) in
-        rw z
+        rw z (faulty-none (take m (airByte b ++ S)))
     go false e ih =
         let k : 9 ≤ m = ltb-false m 9 e in
         let n : m ≡ length (airByte b) + (m - 9) = rw length-airByte (omega arith) in
@@ -76,10 +76,9 @@ or-false false b e = e
 
 -- bytes that are passed over
 pub faulty-drop : (n i : ℕ) (w : List ℕ) → faulty n w ≡ false → faulty (n - i) (drop (9 * i) w) ≡ false
-unfolding faulty
 faulty-drop n zero w e = let a : n - 0 ≡ n = omega arith in rw a e
-faulty-drop zero (suc i) w e = let a : 0 - suc i ≡ 0 = omega arith in rw a
+faulty-drop zero (suc i) w e = let a : 0 - suc i ≡ 0 = omega arith in rw a (faulty-none (drop (9 * suc i) w))
 faulty-drop (suc n) (suc i) w e =
     let a : suc n - suc i ≡ n - i = omega arith in
     let b : 9 * suc i ≡ 9 + 9 * i = omega arith in
-    rw (a, b, ← drop-drop (9 * i) 9 w) (faulty-drop n i (drop 9 w) (or-false (clean (take 8 w) && not (eqb (getD w 8 0) (odd (take 8 w)))) (faulty n (drop 9 w)) e))
+    rw (a, b, ← drop-drop (9 * i) 9 w) (faulty-drop n i (drop 9 w) (or-false (wrongByte w) (faulty n (drop 9 w)) (sym (faulty-step n w) ∙ e)))

@@ -10,10 +10,10 @@ use native.Mathlib.Omega.{arith}
 use Rattle.limits.specs.Limits.{mostBytes}
 use Rattle.rows.specs.Rows.{clean, same}
 use Rattle.crc.specs.Crc.{withCrc}
-use Rattle.refusal.specs.Refusal.{giving, declining, declineIf}
+use Rattle.refusal.specs.Refusal.{giving, decliningAt, declining, declineIf}
 use Rattle.refusal.specs.declared.Refusal.the-variants.{Room}
 use Rattle.frame.specs.declared.Received.the-variants.{NotReceived}
-use Rattle.frame.specs.Frame.{wholeBytes, faulty, readFrame, withoutCrc, Verdict, Good, Fault}
+use Rattle.frame.specs.Frame.{wholeBytes, firstWrong, faulty, readFrame, withoutCrc, Verdict, Good, Fault}
 use Rattle.frame.specs.Calls.{writeSays, writeShortSays, verdictSays, receivedSays, readSays, received, readAnswer}
 
 -- ---- 1, "lent room shorter than asked", and only then
@@ -48,7 +48,7 @@ module _ (least most : ℕ) (h : List ℕ) where
   says-collision w c = rw (w, c)
 
   pub says-parity : wholeBytes least most (length h) ≡ true → clean h ≡ true → faulty (length h / 9) h ≡ true
-      → verdictSays (readFrame least most h) ≡ declining 3
+      → verdictSays (readFrame least most h) ≡ decliningAt 3 (firstWrong (length h / 9) h)
   unfolding readFrame
   says-parity w c f = rw (w, c, f)
 

@@ -2,13 +2,11 @@
 use crate::Received;
 use refusal::Refusal;
 ghost use mathlib.Core.Path.{_≡_};
-ghost use mathlib.Core.Bool.{true, not, _&&_};
+ghost use mathlib.Core.Bool.{true};
 ghost use Prim.Native.Nat.{_+_, _*_, _≤_};
-ghost use lib.ListN.{length, take, drop, getD};
-ghost use lib.Dec.{eqb};
+ghost use lib.ListN.{length, take, drop};
 ghost use Rattle.rows.specs.Rows.{overlay, clean};
-ghost use Rattle.parity.specs.Bits.{odd};
-ghost use Rattle.frame.specs.Frame.{standard, dataOf, bytesOf, faulty, readFrame, withoutCrc, readCrc};
+ghost use Rattle.frame.specs.Frame.{standard, dataOf, bytesOf, wrongByte, firstWrong, readFrame, withoutCrc, readCrc};
 ghost use Rattle.frame.specs.Calls.{received, readAnswer, bytesAfter};
 ghost use Rattle.limits.specs.Limits.{mostBytes};
 
@@ -26,7 +24,7 @@ pub fn put_bytes(out: &mut [u8], at: usize, bytes: &[u8])
 // Has the byte at index at no collided data bit and wrong parity? A collided parity bit is wrong.
 fn is_wrong(row: &[u8], at: usize) -> bool
     requires { ⌜ at + 9 ≤ length (now row) ⌝ }
-    ensures { λ r. ⌜ r ≡ (clean (take 8 (drop at (now (row .entry)))) && not (eqb (getD (now (row .entry)) (at + 8) 0) (odd (take 8 (drop at (now (row .entry))))))) ⌝ }
+    ensures { λ r. ⌜ r ≡ wrongByte (drop at (now (row .entry))) ⌝ }
 {
     if !rows::is_clean(&row[at..at + 8]) {
         return false;
@@ -35,17 +33,18 @@ fn is_wrong(row: &[u8], at: usize) -> bool
     row[at + 8] != parity::odd_parity(b)
 }
 
-// Has one of the n bytes at index at no collided data bit and wrong parity? A collided parity bit is wrong.
-pub fn is_faulty(row: &[u8], at: usize, n: usize) -> bool
+// The first of the n bytes at index at, from 0, that has no collided data bit and wrong parity; n where none is so. A collided parity bit is
+// wrong.
+pub fn first_wrong(row: &[u8], at: usize, n: usize) -> usize
     requires { ⌜ at + 9 * n ≤ length (now row) ⌝ }
-    ensures { λ r. ⌜ r ≡ faulty n (drop at (now (row .entry))) ⌝ }
+    ensures { λ r. ⌜ r ≡ firstWrong n (drop at (now (row .entry))) ⌝ }
 {
     for i in 0..n {
         if is_wrong(row, at + 9 * i) {
-            return true;
+            return i;
         }
     }
-    false
+    n
 }
 
 // Writes the n bytes of a row with no collided bit at the front of out, parity left out.
@@ -74,8 +73,9 @@ pub fn read_within(row: &[u8], least: usize, most: usize, out: &mut [u8]) -> Rec
         return Received::NotReceived(Refusal::Collision);
     }
     let n = row.len() / 9;
-    if is_faulty(row, 0, n) {
-        return Received::NotReceived(Refusal::Parity);
+    let p = first_wrong(row, 0, n);
+    if p < n {
+        return Received::NotReceived(Refusal::Parity(p as u8));
     }
     bytes_of(row, n, out);
     Received::Bytes(n)

@@ -15,11 +15,11 @@ use Rattle.rows.specs.ListLaws.{all-append}
 use Rattle.rows.specs.Rows.{Bits, isNil, clean, next, same}
 use Rattle.parity.specs.Bits.{bitsOf, odd, ones}
 use Rattle.frame.specs.ByteLaws.{bits-bytes-take, length-bytes}
-use Rattle.frame.specs.Frame.{airBits, airByte, standard, dataOf, bytesOf, faulty}
+use Rattle.frame.specs.Frame.{airBits, airByte, standard, dataOf, bytesOf, firstWrong, faulty}
 use Rattle.frame.specs.FrameLaws.{length-standard}
 use Rattle.frame.specs.ParityLaws.{bits-standard}
 use Rattle.uid.specs.Uid.{level}
-use Rattle.selection.specs.Heard.{readAtqa, readRest, restOf, notRest}
+use Rattle.selection.specs.Heard.{readAtqa, restPlace, readRest, restOf, notRest}
 use Rattle.selection.specs.Level.{firstCollided, levelSays}
 use Rattle.selection.specs.LevelLaws.{data-at, first-clean, first-clash, first-head}
 use Rattle.selection.specs.RestLaws.{nil-no, rest-silent, rest-length, rest-level}
@@ -71,7 +71,7 @@ module _ (k : ℕ) (five h : List ℕ) (says : readRest k five h .says ≡ Colli
     where
       go : (a b c e f s : Bool) → isNil h ≡ a → eqb (cut k + length h) 45 ≡ b → clean (levelBits k five h) ≡ c → ltb 32 (length (next (levelBits k five h))) ≡ e
           → faulty (5 - (k + 7) / 8) (drop (9 * ((k + 7) / 8)) (levelRow k five h)) ≡ f
-          → cond a (notRest Silence) (cond (not b) (notRest Length) (cond (not c && e) (notRest Collision) (cond f (notRest Parity) (cond (c && not s) (notRest Check)
+          → cond a (notRest Silence) (cond (not b) (notRest Length) (cond (not c && e) (notRest Collision) (cond f (notRest (Parity (restPlace k (levelRow k five h)))) (cond (c && not s) (notRest Check)
           (restOf (cond c Whole Collided) (next (levelBits k five h))))))) .says ≡ Collided → Clashed k five h
       go true b c e f s ea eb ec ee ef q = absurd (let z : _≡_ {A = ℕ} 0 1 = cc in omega arith)
       go false false c e f s ea eb ec ee ef q = absurd (let z : _≡_ {A = ℕ} 0 1 = cc in omega arith)
@@ -252,7 +252,7 @@ at-most-33 l s u hs a = omega (arith, ends l (reader (AnticollisionSent l) s (re
 -- "In ATQA collided bits count as 1, the length bits are not used": merged length bits that read 11 are good, collided (44 00 and 84 00
 -- together) or not
 pub atqa-11 : (readAtqa (0 ∷ 0 ∷ 1 ∷ 0 ∷ 0 ∷ 0 ∷ 2 ∷ 2 ∷ 1 ∷ standard (0x00 ∷ [])) ≡ Atqa) × (readAtqa (standard (0xC4 ∷ 0x00 ∷ [])) ≡ Atqa)
-unfolding readAtqa standard airByte bitsOf odd ones faulty clean isNil same
+unfolding readAtqa standard airByte bitsOf odd ones firstWrong faulty clean isNil same
 atqa-11 = (refl, refl)
 
 -- .. only b1 to b5 are tested
@@ -274,7 +274,7 @@ data-parity (suc n) (suc q) w v =
     rw (e, take-set-le 8 w (9 + (9 * q + 8)) v (omega arith), drop-set-add 9 w (9 * q + 8) v, data-parity n q (drop 9 w) v)
 
 says-broken : (k : ℕ) (w : List ℕ) (v : ℕ) → (k % 8 ≡ 0 → ⊥) → levelSays k (set w (9 * (k / 8) + 8) v) ≡ levelSays k w
-unfolding levelSays
+unfolding levelSays restPlace
 says-broken k w v b = rw (data-parity 5 (k / 8) w v, drop-set-lt (9 * ((k + 7) / 8)) w (9 * (k / 8) + 8) v (omega arith))
 
 -- "In the answer the byte's remainder is followed by odd parity over the whole byte (house rule), which the reader ignores": whatever stands

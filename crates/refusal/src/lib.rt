@@ -1,14 +1,14 @@
 // Why the core declines: one case for each row of document 01's table, "When the core declines".
 ghost use mathlib.Core.Path.{_≡_};
-ghost use Rattle.refusal.specs.Refusal.{numberOf};
+ghost use Rattle.refusal.specs.Refusal.{numberOf, placeOf};
 
 pub enum Refusal {
     // 1: lent room shorter than asked
     Room,
     // 2: a bit count that the awaited frame can't have
     Length,
-    // 3: wrong parity
-    Parity,
+    // 3: wrong parity; the index, from 0, of the first byte whose parity is wrong among those checked
+    Parity(u8),
     // 4: wrong CRC_A
     Crc,
     // 5: wrong B byte
@@ -36,7 +36,7 @@ pub fn number(r: Refusal) -> u8
     match r {
         Refusal::Room => 1,
         Refusal::Length => 2,
-        Refusal::Parity => 3,
+        Refusal::Parity(_) => 3,
         Refusal::Crc => 4,
         Refusal::Check => 5,
         Refusal::Argument => 6,
@@ -46,5 +46,25 @@ pub fn number(r: Refusal) -> u8
         Refusal::TooLong => 10,
         Refusal::NotDue => 11,
         Refusal::Repeats => 12,
+    }
+}
+
+// The byte index that comes with a refusal (T-07): where the parity broke, and 0 for every other refusal.
+pub fn place(r: Refusal) -> u8
+    ensures { λ n. ⌜ n ≡ placeOf r ⌝ }
+{
+    match r {
+        Refusal::Room => 0,
+        Refusal::Length => 0,
+        Refusal::Parity(b) => b,
+        Refusal::Crc => 0,
+        Refusal::Check => 0,
+        Refusal::Argument => 0,
+        Refusal::Silence => 0,
+        Refusal::Collision => 0,
+        Refusal::Forbidden => 0,
+        Refusal::TooLong => 0,
+        Refusal::NotDue => 0,
+        Refusal::Repeats => 0,
     }
 }

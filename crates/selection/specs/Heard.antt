@@ -7,7 +7,7 @@ use lib.ListN.{length, take, drop, getD, replicate}
 use lib.Dec.{eqb, ltb, leb}
 use Rattle.rows.specs.Rows.{isNil, clean, next, same}
 use Rattle.crc.specs.Crc.{withCrc}
-use Rattle.frame.specs.Frame.{standard, dataOf, bytesOf, faulty, Verdict, Good, Fault, readCrc}
+use Rattle.frame.specs.Frame.{standard, dataOf, bytesOf, firstWrong, faulty, Verdict, Good, Fault, readCrc}
 use Rattle.uid.specs.Uid.{level}
 use Rattle.selection.specs.Selection.{cut, atMost8, size}
 use Rattle.refusal.specs.declared.Refusal.{Refusal}
@@ -28,7 +28,7 @@ unfoldable pub readAtqa : List ℕ → AtqaRead
 readAtqa h =
     cond (isNil h) (NotAtqa Silence)
     (cond (not (eqb (length h) 18)) (NotAtqa Length)
-    (cond (faulty 2 h) (NotAtqa Parity)
+    (cond (faulty 2 h) (NotAtqa (Parity (firstWrong 2 h)))
     (cond (same (take 5 h) (replicate 5 0)) (NotAtqa Forbidden)
     Atqa)))
 
@@ -38,6 +38,11 @@ notRest e = record { says = NotRest e; five = replicate 5 0; known = 0 }
 -- the bits d of a level are known, in front of the others
 unfoldable pub restOf : RestSays → List ℕ → Rest
 restOf s d = record { says = s; five = bytesOf 5 d; known = length d }
+
+-- T-07: "In an ANTICOLLISION answer the index counts from the level's first byte": w is the level's row, of which the first k data bits were sent,
+-- and byte i the first that is whole in the answer. 5 where none is wrong
+unfoldable pub restPlace : ℕ → List ℕ → ℕ
+restPlace k w = let i : ℕ = (k + 7) / 8 in i + firstWrong (5 - i) (drop (9 * i) w)
 
 -- The answer to ANTICOLLISION with k bits of five: w is the level's row, as sent and as heard, and d its 40 data bits. Byte i is the first
 -- that is whole in the answer: "parity is checked only on whole bytes with no collided data bit". `next d` are the bits before the first
@@ -50,7 +55,7 @@ readRest k five h =
     cond (isNil h) (notRest Silence)
     (cond (not (eqb (cut k + length h) 45)) (notRest Length)
     (cond (not (clean d) && ltb 32 (length (next d))) (notRest Collision)
-    (cond (faulty (5 - i) (drop (9 * i) w)) (notRest Parity)
+    (cond (faulty (5 - i) (drop (9 * i) w)) (notRest (Parity (restPlace k w)))
     (cond (clean d && not (same (bytesOf 5 d) (level (take 4 (bytesOf 5 d))))) (notRest Check)
     (restOf (cond (clean d) Whole Collided) (next d))))))
 
@@ -61,7 +66,7 @@ readSak h =
     cond (isNil h) (NotSak Silence)
     (cond (not (eqb (length h) 27)) (NotSak Length)
     (cond (not (clean h)) (NotSak Collision)
-    (cond (faulty 3 h) (NotSak Parity)
+    (cond (faulty 3 h) (NotSak (Parity (firstWrong 3 h)))
     (cond (not (same bytes (withCrc (take 1 bytes)))) (NotSak Crc)
     (Sak (getD bytes 0 0))))))
 

@@ -7,7 +7,7 @@ use lib.Dec.{ltb}
 use Rattle.rows.specs.Rows.{clean, next, same}
 use Rattle.frame.specs.Frame.{dataOf, bytesOf, faulty}
 use Rattle.uid.specs.Uid.{level}
-use Rattle.selection.specs.Heard.{notRest, restOf}
+use Rattle.selection.specs.Heard.{notRest, restPlace, restOf}
 use Rattle.refusal.specs.declared.Refusal.the-variants.{Parity, Check, Collision}
 use Rattle.selection.specs.declared.Rest.{Rest}
 use Rattle.selection.specs.declared.RestSays.the-variants.{Whole, Collided}
@@ -23,6 +23,6 @@ levelSays k w =
     let d : List ℕ = dataOf 5 w in
     let i : ℕ = (k + 7) / 8 in
     cond (not (clean d) && ltb 32 (length (next d))) (notRest Collision)
-    (cond (faulty (5 - i) (drop (9 * i) w)) (notRest Parity)
+    (cond (faulty (5 - i) (drop (9 * i) w)) (notRest (Parity (restPlace k w)))
     (cond (clean d && not (same (bytesOf 5 d) (level (take 4 (bytesOf 5 d))))) (notRest Check)
     (restOf (cond (clean d) Whole Collided) (next d))))

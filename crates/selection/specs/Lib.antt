@@ -6,6 +6,7 @@ pub mod FrameTable
 pub mod LevelLaws
 pub mod PadLaws
 pub mod RestLaws
+pub mod PlaceLaws
 pub mod SaysLaws
 pub mod SentLaws
 pub mod SizeLaws

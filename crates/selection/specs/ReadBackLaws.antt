@@ -15,7 +15,7 @@ use Rattle.parity.specs.Bits.{bitsOf, odd, ones}
 use Rattle.crc.specs.Crc.{withCrc}
 use Rattle.crc.specs.CrcLaws.{length-with, with-bytes}
 use Rattle.frame.specs.ByteLaws.{bits-airBits, bytes-bits}
-use Rattle.frame.specs.Frame.{airByte, standard, airBits, dataOf, bytesOf, faulty}
+use Rattle.frame.specs.Frame.{airByte, standard, airBits, dataOf, bytesOf, firstWrong, faulty}
 use Rattle.frame.specs.FrameLaws.{Passed, read-passed, read-standard, read-crc-standard, length-standard}
 use Rattle.frame.specs.ParityLaws.{faulty-drop}
 use Rattle.uid.specs.CheckLaws.{Five}
@@ -99,7 +99,7 @@ reads-sak b h =
 -- ---- ATQA: "04 00, 44 00 or 84 00 for 4, 7, 10 bytes"
 
 pub reads-atqa : (z : UidSize) → readAtqa (atqa z) ≡ Atqa
-unfolding readAtqa atqa standard airByte bitsOf odd ones faulty clean isNil same
+unfolding readAtqa atqa standard airByte bitsOf odd ones firstWrong faulty clean isNil same
 reads-atqa Single = refl
 reads-atqa Double = refl
 reads-atqa Triple = refl

@@ -11,10 +11,11 @@ use Rattle.rows.specs.Rows.{overlay, isNil, clean, next, same, fill, Bits}
 use Rattle.frame.specs.Frame.{standard, dataOf, bytesOf, faulty}
 use Rattle.uid.specs.Uid.{level, check}
 use Rattle.selection.specs.Selection.{cut}
-use Rattle.selection.specs.Heard.{notRest, restOf, readRest, readSak}
+use Rattle.selection.specs.Heard.{notRest, restPlace, restOf, readRest, readSak}
 use Rattle.selection.specs.declared.SakRead.the-variants.{Sak, NotSak}
 use Rattle.crc.specs.Crc.{crcGood, withCrc}
 use Rattle.rows.specs.RowLaws.{overlay-all}
+use Rattle.frame.specs.WrongLaws.{found-wrong, found-none}
 use Rattle.frame.specs.ByteLaws.{length-bytes}
 use Rattle.selection.specs.Level.{firstCollided, levelSays}
 use Rattle.selection.specs.LevelLaws.{first-clean, first-clash, first-head, length-data}
@@ -53,6 +54,18 @@ pub level-row : (s h : List ℕ) (n : ℕ) → length s ≡ 45 → n + length h 
 unfolding overlay
 level-row s h n e f = rw (drop-of-length-le s {i = n + length h} (omega arith), append-nil)
 
+-- ---- where the parity broke
+
+module _ (k p : ℕ) (w : List ℕ) (h : k < 40) (e : p ≡ restPlace k w) where
+  -- byte i is the first that is whole in the answer
+  place-wrong : p < 5 → faulty (5 - (k + 7) / 8) (drop (9 * ((k + 7) / 8)) w) ≡ true
+  unfolding restPlace
+  place-wrong l = found-wrong (5 - (k + 7) / 8) (p - (k + 7) / 8) (drop (9 * ((k + 7) / 8)) w) (omega (arith, e)) (omega (arith, e))
+
+  pub place-right : 5 ≤ p → faulty (5 - (k + 7) / 8) (drop (9 * ((k + 7) / 8)) w) ≡ false
+  unfolding restPlace
+  place-right l = found-none (5 - (k + 7) / 8) (p - (k + 7) / 8) (drop (9 * ((k + 7) / 8)) w) (omega (arith, e)) (omega (arith, e))
+
 -- ---- the tests, by the first collided bit
 
 module _ (k : ℕ) (w d : List ℕ) (full : length w ≡ 45) (is : d ≡ dataOf 5 w) where
@@ -80,9 +93,9 @@ module _ (k : ℕ) (w d : List ℕ) (full : length w ≡ 45) (is : d ≡ dataOf 
       go false e = rw (first-clean d (omega (arith, forty, ltb-false (firstCollided d) 40 e)) .0)
 
   module _ (n : firstCollided d < 40 → 32 ≤ firstCollided d → ⊥) where
-    pub says-parity : faulty (5 - (k + 7) / 8) (drop (9 * ((k + 7) / 8)) w) ≡ true → levelSays k w ≡ notRest Parity
+    pub says-parity : (p : ℕ) → k < 40 → p ≡ restPlace k w → p < 5 → levelSays k w ≡ notRest (Parity p)
     unfolding levelSays
-    says-parity f = rw (← is, early n, f)
+    says-parity p h e l = rw (← is, early n, place-wrong k p w h e l, ← e)
 
     module _ (f : faulty (5 - (k + 7) / 8) (drop (9 * ((k + 7) / 8)) w) ≡ false) where
       pub says-collided : firstCollided d < 40 → levelSays k w ≡ restOf Collided (next d)

@@ -10,12 +10,12 @@ use lib.Dec.{eqb, ltb}
 use borrow.Author.Tests.{eq-eqb, ne-eqb, lt-ltb, le-ltb, lt-leb}
 use Rattle.rows.specs.Rows.{isNil, clean, next, same}
 use Rattle.crc.specs.Crc.{withCrc}
-use Rattle.frame.specs.Frame.{dataOf, bytesOf, faulty, Verdict, Good, Fault}
+use Rattle.frame.specs.Frame.{dataOf, bytesOf, firstWrong, faulty, Verdict, Good, Fault}
 use Rattle.frame.specs.Calls.{verdictSays}
-use Rattle.refusal.specs.Refusal.{Said, declining}
+use Rattle.refusal.specs.Refusal.{Said, decliningAt, declining}
 use Rattle.uid.specs.Uid.{level}
 use Rattle.selection.specs.Selection.{atMost8}
-use Rattle.selection.specs.Heard.{readAtqa, readSak, readRest, announced, atsFits, atsBytes, atsOf, readAts}
+use Rattle.selection.specs.Heard.{readAtqa, readSak, restPlace, readRest, announced, atsFits, atsBytes, atsOf, readAts}
 use Rattle.selection.specs.Level.{levelSays}
 use Rattle.selection.specs.Says.{atqaSays, restSays, sakSays, atsSays}
 use Rattle.selection.specs.RestLaws.{nil-no}
@@ -60,7 +60,7 @@ module _ (h : List ℕ) (is : length h ≡ 18) where
   some-18 : length h ≡ 0 → ⊥
   some-18 e = omega arith
 
-  pub atqa-parity : faulty 2 h ≡ true → atqaSays (readAtqa h) ≡ declining 3
+  pub atqa-parity : faulty 2 h ≡ true → atqaSays (readAtqa h) ≡ decliningAt 3 (firstWrong 2 h)
   unfolding readAtqa
   atqa-parity f = rw (nil-no h some-18, eq-eqb (length h) 18 is, f)
 
@@ -78,7 +78,7 @@ module _ (h : List ℕ) (is : length h ≡ 27) where
   unfolding readSak
   sak-collided c = rw (nil-no h some-27, eq-eqb (length h) 27 is, c)
 
-  pub sak-parity : clean h ≡ true → faulty 3 h ≡ true → sakSays (readSak h) ≡ declining 3
+  pub sak-parity : clean h ≡ true → faulty 3 h ≡ true → sakSays (readSak h) ≡ decliningAt 3 (firstWrong 3 h)
   unfolding readSak
   sak-parity c f = rw (nil-no h some-27, eq-eqb (length h) 27 is, c, f)
 
@@ -95,7 +95,7 @@ module _ (k : ℕ) (w : List ℕ) where
   level-collided c l = rw (c, lt-ltb 32 (length (next (dataOf 5 w))) l)
 
   module _ (early : (not (clean (dataOf 5 w)) && ltb 32 (length (next (dataOf 5 w)))) ≡ false) where
-    pub level-parity : faulty (5 - (k + 7) / 8) (drop (9 * ((k + 7) / 8)) w) ≡ true → restSays (levelSays k w) ≡ declining 3
+    pub level-parity : faulty (5 - (k + 7) / 8) (drop (9 * ((k + 7) / 8)) w) ≡ true → restSays (levelSays k w) ≡ decliningAt 3 (restPlace k w)
     unfolding levelSays
     level-parity f = rw (early, f)
 
@@ -106,11 +106,11 @@ module _ (k : ℕ) (w : List ℕ) where
 
 -- ---- ATS: 2, 8, 3, 4 as the frame's reader gives them, then 9
 
-pub ats-verdict : (n : ℕ) (v : Verdict) → verdictSays v ≡ declining n → atsSays (atsOf v) ≡ declining n
-ats-verdict n v e = go v e
+pub ats-verdict : (n place : ℕ) (v : Verdict) → 0 < n → verdictSays v ≡ decliningAt n place → atsSays (atsOf v) ≡ decliningAt n place
+ats-verdict n place v h e = go v e
   where
-    go : (v : Verdict) → verdictSays v ≡ declining n → atsSays (atsOf v) ≡ declining n
-    go (Good l) e = absurd (omega (arith, ap (λ s. length (s .values)) e))
+    go : (v : Verdict) → verdictSays v ≡ decliningAt n place → atsSays (atsOf v) ≡ decliningAt n place
+    go (Good l) e = absurd (omega (arith, h, ap (λ s. s .number) e))
     go (Fault x) e = e
 
 -- "T0 b5, b6, b7 announce TA, TB, TC": each of them is counted, and where there are fewer bytes it is 9

@@ -1,12 +1,12 @@
 // What the reader makes of a received row, by the frame that it awaits. Tests stand in document 01's order.
 ghost use mathlib.Core.Path.{_≡_};
-ghost use Prim.Native.Nat.{_+_, _-_, _*_, _/_, _<_, _≤_};
+ghost use Prim.Native.Nat.{_<_, _≤_};
 ghost use Rattle.rows.specs.Rows.{same};
 ghost use Rattle.uid.specs.Uid.{level};
-ghost use lib.ListN.{take, drop};
-ghost use Rattle.frame.specs.Frame.{dataOf, faulty};
+ghost use lib.ListN.{take};
+ghost use Rattle.frame.specs.Frame.{dataOf};
 ghost use Rattle.selection.specs.Level.{firstCollided, levelSays};
-ghost use Rattle.selection.specs.Heard.{readAtqa, notRest, readRest, readSak};
+ghost use Rattle.selection.specs.Heard.{readAtqa, notRest, restPlace, readRest, readSak};
 ghost use Rattle.selection.specs.Says.{atqaSays, restSays, sakSays};
 use crate::AtqaRead;
 use crate::Rest;
@@ -25,8 +25,9 @@ pub fn read_atqa(row: &[u8]) -> AtqaRead
     if row.len() != 18 {
         return AtqaRead::NotAtqa(Refusal::Length);
     }
-    if frame::within::is_faulty(row, 0, 2) {
-        return AtqaRead::NotAtqa(Refusal::Parity);
+    let p = frame::within::first_wrong(row, 0, 2);
+    if p < 2 {
+        return AtqaRead::NotAtqa(Refusal::Parity(p as u8));
     }
     let none = [0u8; 5];
     if rows::is_same(&row[..5], &none) {
@@ -49,8 +50,9 @@ pub fn read_sak(row: &[u8]) -> SakRead
     if !rows::is_clean(row) {
         return SakRead::NotSak(Refusal::Collision);
     }
-    if frame::within::is_faulty(row, 0, 3) {
-        return SakRead::NotSak(Refusal::Parity);
+    let p = frame::within::first_wrong(row, 0, 3);
+    if p < 3 {
+        return SakRead::NotSak(Refusal::Parity(p as u8));
     }
     let mut bytes = [0u8; 3];
     frame::within::bytes_of(row, 3, &mut bytes);
@@ -77,13 +79,14 @@ fn is_checked(five: [u8; 5]) -> bool
     five[4] == uid::check_byte(five[0], five[1], five[2], five[3])
 }
 
-// Has a byte of the level that is whole in the answer, with no collided data bit, wrong parity? k of the level's bits were sent.
-fn is_faulty(k: u8, w: [u8; 45]) -> bool
+// The first byte of the level, from 0, that is whole in the answer and has no collided data bit but wrong parity; 5 where none is so. k of the
+// level's bits were sent.
+fn first_wrong(k: u8, w: [u8; 45]) -> usize
     requires { ⌜ k < 40 ⌝ }
-    ensures { λ r. ⌜ r ≡ faulty (5 - (k + 7) / 8) (drop (9 * ((k + 7) / 8)) w) ⌝ }
+    ensures { λ r. ⌜ r ≡ restPlace k w ⌝ }
 {
     let i = (k as usize + 7) / 8;
-    frame::within::is_faulty(&w, 9 * i, 5 - i)
+    i + frame::within::first_wrong(&w, 9 * i, 5 - i)
 }
 
 // What a level's 45 bits say whose first collided data bit stands at p.
@@ -94,8 +97,9 @@ fn collided_level(k: u8, w: [u8; 45], d: [u8; 40], p: usize) -> Rest
     if 32 <= p {
         return not_rest(Refusal::Collision);
     }
-    if is_faulty(k, w) {
-        return not_rest(Refusal::Parity);
+    let b = first_wrong(k, w);
+    if b < 5 {
+        return not_rest(Refusal::Parity(b as u8));
     }
     let five = crate::level::five_bytes(crate::level::known_bits(d, p));
     Rest {
@@ -110,8 +114,9 @@ fn whole_level(k: u8, w: [u8; 45], d: [u8; 40]) -> Rest
     requires { ⌜ (k < 40) × (d ≡ dataOf 5 w) × (40 ≤ firstCollided d) ⌝ }
     ensures { λ r. ⌜ r ≡ levelSays k w ⌝ }
 {
-    if is_faulty(k, w) {
-        return not_rest(Refusal::Parity);
+    let b = first_wrong(k, w);
+    if b < 5 {
+        return not_rest(Refusal::Parity(b as u8));
     }
     let five = crate::level::five_bytes(d);
     if !is_checked(five) {

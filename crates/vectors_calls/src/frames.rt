@@ -42,7 +42,7 @@ fn write_short(room: usize) -> Answer {
 fn written(w: Written) -> Answer {
     match w {
         Written::Bits(n) => count(0, n),
-        Written::NotWritten(e) => bench_talk::refused(refusal::number(e)),
+        Written::NotWritten(e) => bench_lines::refused(e),
     }
 }
 
@@ -62,7 +62,7 @@ fn read_crc(room: usize) -> Answer {
 fn received(r: Received) -> Answer {
     match r {
         Received::Bytes(n) => count(1, n),
-        Received::NotReceived(e) => bench_talk::refused(refusal::number(e)),
+        Received::NotReceived(e) => bench_lines::refused(e),
     }
 }
 
@@ -73,6 +73,6 @@ fn air_row(room: usize) -> Answer {
     let r = uid::air_row(u, bench_talk::room(&mut row, room));
     match r {
         AirRow::Bits(n) => count(0, n),
-        AirRow::NoRoom(e) => bench_talk::refused(refusal::number(e)),
+        AirRow::NoRoom(e) => bench_lines::refused(e),
     }
 }

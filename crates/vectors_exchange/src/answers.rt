@@ -53,7 +53,7 @@ fn told(t: Told) -> Answer {
         Told::Message(n) => numbered(none, MESSAGE, n),
         Told::Granted => said(none, GRANTED),
         Told::Deselected => said(none, DESELECTED),
-        Told::Refused(e) => bench_talk::refused(refusal::number(e)),
+        Told::Refused(e) => bench_lines::refused(e),
     }
 }
 

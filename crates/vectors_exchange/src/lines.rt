@@ -46,7 +46,7 @@ fn new_ends(bench: Bench, text: &[u8]) -> Reply {
         Made::Good => opened(bench, card, bench_lines::within_byte(index)),
         Made::NotMade(e) => Reply {
             bench,
-            answer: bench_talk::refused(refusal::number(e)),
+            answer: bench_lines::refused(e),
         },
     }
 }

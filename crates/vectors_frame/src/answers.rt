@@ -82,14 +82,14 @@ fn crc(value: &[u8]) -> Answer {
 fn written(w: Written, row: &[u8]) -> Answer {
     match w {
         Written::Bits(n) => bench_talk::row(said(bench_talk::none(), ROW), bench::front(row, n)),
-        Written::NotWritten(e) => bench_talk::refused(refusal::number(e)),
+        Written::NotWritten(e) => bench_lines::refused(e),
     }
 }
 
 fn received(r: Received, bytes: &[u8]) -> Answer {
     match r {
         Received::Bytes(n) => hex(BYTES, bench::front(bytes, n)),
-        Received::NotReceived(e) => bench_talk::refused(refusal::number(e)),
+        Received::NotReceived(e) => bench_lines::refused(e),
     }
 }
 
@@ -97,7 +97,7 @@ fn read_short(row: &[u8]) -> Answer {
     let r = frame::read_short(row);
     match r {
         ReceivedShort::Byte(b) => hex(SHORT, &[b]),
-        ReceivedShort::NotShort(e) => bench_talk::refused(refusal::number(e)),
+        ReceivedShort::NotShort(e) => bench_lines::refused(e),
     }
 }
 
@@ -107,7 +107,7 @@ fn uid(value: &[u8]) -> Answer {
     let u = new.uid;
     match made {
         Made::Good => on_air(levels(u), u),
-        Made::NotMade(e) => bench_talk::refused(refusal::number(e)),
+        Made::NotMade(e) => bench_lines::refused(e),
     }
 }
 
@@ -132,7 +132,7 @@ fn on_air(a: Answer, u: Uid) -> Answer {
     let r = uid::air_row(u, &mut row);
     match r {
         AirRow::Bits(n) => bench_talk::row(said(a, ROW), bench::front(&row, n)),
-        AirRow::NoRoom(e) => bench_talk::refused(refusal::number(e)),
+        AirRow::NoRoom(e) => bench_lines::refused(e),
     }
 }
 

@@ -15,6 +15,7 @@ pub fn script(seed: u64) -> Script<VectorsFrame> {
     bounds(&mut s);
     uids_and_sums(&mut s, &mut random);
     refusals(&mut s);
+    where_it_broke(&mut s);
     random_frames(&mut s, &mut random);
     lines_not_understood(&mut s);
     s
@@ -170,6 +171,30 @@ fn refusals(s: &mut Script<VectorsFrame>) {
     for row in ["-", "0", "011001", "01100100", "01100101", "x110010", "011001x", "xxxxxxx", "xxxxxxxx", "0110010"] {
         s.say(&format!("readshort {row}"));
     }
+}
+
+/// T-07: with 3 comes the first byte whose parity is wrong, from 0.
+fn where_it_broke(s: &mut Script<VectorsFrame>) {
+    s.remark("where the parity broke: every byte that a frame can have, as the last of a frame");
+    let many: Vec<u8> = (0..256).map(|i| (i * 11 + i / 32) as u8).collect();
+    for byte in 0..256 {
+        let row = flipped(&frames::standard(&many[..=byte]), 9 * byte + byte % 9);
+        let kind = if byte < 2 || byte % 2 == 0 { "read" } else { "readcrc" };
+        assert_eq!(s.say(&format!("{kind} {}", show_row(&row))), format!("refused 3 {byte}"));
+    }
+    s.remark("the first of several wrong ones");
+    for byte in [0, 1, 8, 127, 128, 254, 255] {
+        let mut row = frames::standard(&many);
+        for later in (byte..256).step_by(3) {
+            row[9 * later + 8] ^= 1;
+        }
+        assert_eq!(s.say(&format!("read {}", show_row(&row))), format!("refused 3 {byte}"));
+    }
+    s.remark("no byte comes with 2, 8 and 4");
+    let row = flipped(&frames::standard(&many[..3]), 26);
+    s.say(&format!("read {}", show_row(&row[..26])));
+    s.say(&format!("read {}", show_row(&collided(&row, 0))));
+    s.say(&format!("readcrc {}", show_row(&flipped(&row, 26))));
 }
 
 fn random_frames(s: &mut Script<VectorsFrame>, random: &mut Random) {

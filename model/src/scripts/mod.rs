@@ -43,6 +43,17 @@ pub fn flipped(row: &[u8], place: usize) -> Row {
     row
 }
 
+/// The row with wrong parity of this byte, and of the last one.
+pub fn wrong_from(row: &[u8], byte: usize) -> Row {
+    let row = flipped(row, 9 * byte);
+    let last = row.len() - 9;
+    if 9 * byte == last {
+        row
+    } else {
+        flipped(&row, last)
+    }
+}
+
 /// The row with one place collided.
 pub fn collided(row: &[u8], place: usize) -> Row {
     let mut row = row.to_vec();

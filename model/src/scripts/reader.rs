@@ -1,6 +1,6 @@
 //! The script of `bench_reader`, selection: no RATS, no block.
 
-use super::{collided, damaged, flipped, plain_row, row_line};
+use super::{collided, damaged, flipped, plain_row, row_line, wrong_from};
 use crate::bench_reader::BenchReader;
 use crate::card::{Card, Outcome};
 use crate::frames::{self, Row};
@@ -21,6 +21,7 @@ pub fn script(seed: u64) -> S {
     thirty_three(&mut s);
     last_bits(&mut s);
     two_faults(&mut s);
+    where_it_broke(&mut s);
     sak(&mut s);
     sweep_by_hand(&mut s);
     fields_by_hand(&mut s);
@@ -378,6 +379,71 @@ fn two_faults(s: &mut S) {
     ] {
         at_level(s, 1);
         s.say(&plain_row(&change));
+    }
+}
+
+/// T-07: with 3 comes the first byte whose parity is wrong among those checked.
+fn where_it_broke(s: &mut S) {
+    s.remark("where the parity broke: the bytes of ATQA and SAK, alone and together");
+    let bring = |s: &mut S, atqa: bool| {
+        at_level(s, 1);
+        if atqa {
+            say_all(s, &["new", "select"]);
+        } else {
+            s.say(&format!("bytes {}", show_hex(&level_bytes(1))));
+        }
+    };
+    for (row, atqa) in [(frames::standard(&[0x04, 0x00]), true), (frames::standard_with_crc(&[0x20]), false)] {
+        for byte in 0..row.len() / 9 {
+            for change in [flipped(&row, 9 * byte + 8), wrong_from(&row, byte)] {
+                bring(s, atqa);
+                assert_eq!(s.say(&plain_row(&change)), format!("refused 3 {byte}"));
+            }
+        }
+    }
+    s.remark("the answer to ANTICOLLISION, counted from the level's first byte: every k, every byte that is whole");
+    for k in 0..=32 {
+        let first_whole = (k + 7) / 8;
+        for byte in first_whole..5 {
+            let ask = |s: &mut S, change: &dyn Fn(&mut Row)| {
+                let bytes = match k {
+                    0 => {
+                        at_level(s, 1);
+                        level_bytes(1)
+                    }
+                    _ => with_known(s, 1, k - 1),
+                };
+                let mut row = frames::rest_of_level(&bytes, k);
+                change(&mut row);
+                assert_eq!(s.say(&plain_row(&row)), format!("refused 3 {byte}"));
+            };
+            // Counted from the end, since what was sent is not there.
+            let place = |row: &Row, byte: usize, bit: usize| row.len() - 9 * (5 - byte) + bit;
+            // The broken byte's parity is wrong too, and every later byte's; the byte's own parity bit is collided.
+            ask(s, &|row| {
+                if k % 8 > 0 {
+                    row[8 - k % 8] ^= 1;
+                }
+                for later in byte + 1..5 {
+                    let at = place(row, later, 8);
+                    row[at] ^= 1;
+                }
+                let at = place(row, byte, 8);
+                row[at] = 2
+            });
+            // Whole bytes before it have a collided data bit and wrong parity: they are counted and not named.
+            if byte > first_whole && k % 3 == 0 {
+                ask(s, &|row| {
+                    for before in first_whole..byte {
+                        let (data, parity) = (place(row, before, before), place(row, before, 8));
+                        row[data] = 2;
+                        row[parity] ^= 1;
+                    }
+                    let at = place(row, byte, 7);
+                    row[at] ^= 1
+                });
+            }
+        }
     }
 }
 

@@ -1,7 +1,7 @@
 //! The script of `bench_reader`, blocks: RATS, ATS and the reader's table of blocks.
 
 use super::reader::{not_due, random_script, S};
-use super::{collided, crc_line, flipped, plain_row, row_line};
+use super::{collided, crc_line, flipped, plain_row, row_line, wrong_from};
 use crate::frames::{self, Row};
 use crate::language::show_hex;
 use crate::random::Random;
@@ -177,6 +177,23 @@ fn ats_refusals(s: &mut S) {
         say_all(s, &SELECT);
         s.say("rats 8");
         s.say(&plain_row(&row));
+    }
+    s.remark("where its parity broke: the first of two wrong bytes, up to the last of the longest ATS");
+    let mut long = vec![254, 0x78, 0x80, 0x71, 0x02];
+    long.resize(254, 0x5A);
+    let long = frames::standard_with_crc(&long);
+    for (row, bytes) in [(row, vec![0, 1, 2, 3]), (long, vec![0, 127, 128, 254, 255])] {
+        for byte in bytes {
+            say_all(s, &SELECT);
+            s.say("rats 8");
+            assert_eq!(s.say(&plain_row(&wrong_from(&row, byte))), format!("refused 3 {byte}"));
+        }
+    }
+    s.remark("a damaged block is no 3, and the 12 behind it carries no byte");
+    say_all(s, &SELECT);
+    say_all(s, &["rats 8", "crc 0208", "send 01"]);
+    for _ in 0..3 {
+        s.say(&plain_row(&flipped(&frames::standard_with_crc(&[0x02, 0x07]), 17)));
     }
     say_all(s, &SELECT);
     say_all(s, &["rats 8", "silence", "silence", "crc 0208"]);

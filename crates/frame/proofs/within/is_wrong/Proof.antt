@@ -6,7 +6,7 @@ use borrow.Author.Tests.{not-true, not-false}
 use native.Mathlib.Omega.{arith}
 use denote.Ref.{now}
 use lib.ListN.{take, drop, length-drop}
-use lib.Seq.{length-take-le}
+use lib.Seq.{length-take-le, getD-drop}
 use Rattle.rows.specs.Rows.{clean}
 use Rattle.rows.specs.HeardLaws.{clean-bits}
 use Rattle.parity.specs.Bits.{bitsOf}
@@ -60,7 +60,7 @@ returns-2 c =
     let k : clean d ≡ true = rw e at (sym (f .before .is-clean .ensures) ∙ not-false _ (f .if1 .left)) in
     let w : bitsOf 8 (c .before .before .byte-at .result) ≡ d =
     ap (bitsOf 8) (c .before .before .byte-at .ensures) ∙ bits-whole 8 d (clean-bits d k) (length-take-le 8 (drop (a .at) (now (a .row))) (rw length-drop (omega arith))) in
-    rw (c .odd-parity .ensures, w, k)
+    rw (c .odd-parity .ensures, w, k, getD-drop (a .at) (now (a .row)) 8 0)
 
 pub is-wrong-spec : {M : Type 1} → statement M
 is-wrong-spec =

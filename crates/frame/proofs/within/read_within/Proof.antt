@@ -3,9 +3,10 @@ use mathlib.Core.Path.{_≡_, refl, sym, ap, _∙_}
 use borrow.Author.Tests.{lt-ltb, le-ltb, not-true, not-false}
 use native.Mathlib.Omega.{arith}
 use denote.Ref.{now}
-use Rattle.frame.specs.Frame.{readFrame, faulty}
+use Rattle.frame.specs.Frame.{readFrame}
 use Rattle.frame.specs.Calls.{readAnswer}
 use Rattle.frame.specs.FrameLaws.{whole-size, read-good}
+use Rattle.frame.specs.WrongLaws.{found-wrong, found-none}
 use Rattle.frame.specs.ByteLaws.{length-bytes}
 use borrow.Author.Needs.{needs}
 use Rattle.frame.proofs.within.read_within.Statement.{statement}
@@ -33,15 +34,22 @@ returns-3 c =
     let d = c .before .before in
     (simp (le-ltb _ _ (d .before .before .if1 .left), sym (d .before .is-whole .ensures) ∙ not-false _ (d .if2 .left), sym (c .before .is-clean .ensures) ∙ not-true _ (c .if3 .taken)), refl)
 
-is-faulty-requires : tie.Need-is-faulty-requires
-is-faulty-requires c κs = search needs
+first-wrong-requires : tie.Need-first-wrong-requires
+first-wrong-requires c κs = search needs
+
+cast-t13 : tie.Need-cast-t13
+cast-t13 c =
+    let d = c .before .before .before .before in
+    let a = d .before .before .before .before .before .args in
+    let w = whole-size (a .least) (a .most) (length (now (a .row))) (sym (d .before .is-whole .ensures) ∙ not-false _ (d .if2 .left)) in
+    record { fits = omega (arith, w .2) }
 
 returns-4 : tie.Need-returns-4
 unfolding readAnswer readFrame
 returns-4 c =
     let e = c .before .before in
     let d = e .before .before in
-    (simp (le-ltb _ _ (d .before .before .if1 .left), sym (d .before .is-whole .ensures) ∙ not-false _ (d .if2 .left), sym (e .before .is-clean .ensures) ∙ not-false _ (e .if3 .left), sym (c .before .is-faulty .ensures) ∙ c .if4 .taken), refl)
+    (simp (le-ltb _ _ (d .before .before .if1 .left), sym (d .before .is-whole .ensures) ∙ not-false _ (d .if2 .left), sym (e .before .is-clean .ensures) ∙ not-false _ (e .if3 .left), found-wrong _ _ _ (c .before .first-wrong .ensures) (c .if4 .taken), ← c .before .first-wrong .ensures), refl)
 
 bytes-of-requires : tie.Need-bytes-of-requires
 bytes-of-requires c κs =
@@ -62,7 +70,7 @@ returns-5 c =
     let d = e .before .before in
     let a = d .before .before .before .before .before .args in
     let g = read-good (a .least) (a .most) (now (a .row)) (sym (d .before .is-whole .ensures) ∙ not-false _ (d .if2 .left))
-    (sym (e .before .is-clean .ensures) ∙ not-false _ (e .if3 .left)) (sym (f .before .is-faulty .ensures) ∙ f .if4 .left) in
+    (sym (e .before .is-clean .ensures) ∙ not-false _ (e .if3 .left)) (found-none _ _ _ (f .before .first-wrong .ensures) (f .if4 .left)) in
     (simp (le-ltb _ _ (d .before .before .if1 .left), g, length-bytes), rw g (c .before .before .bytes-of .ensures))
 
 pub read-within-spec : {M : Type 1} → statement M
@@ -74,7 +82,8 @@ read-within-spec =
     returns-2
     is-clean-requires
     returns-3
-    is-faulty-requires
+    first-wrong-requires
+    cast-t13
     returns-4
     bytes-of-requires
     same-length

@@ -3,7 +3,7 @@ use Rattle.selection.specs.Level.{firstCollided}
 use mathlib.Core.Path.{_≡_, refl, sym, ap, _∙_}
 use native.Mathlib.Omega.{arith}
 use lib.ListN.{length}
-use Rattle.selection.specs.RestLaws.{says-collision, says-parity, says-collided, made-collided, known-clean}
+use Rattle.selection.specs.RestLaws.{place-right, says-collision, says-parity, says-collided, made-collided, known-clean}
 use borrow.Author.Needs.{needs}
 use Rattle.selection.proofs.heard.collided_level.Statement.{statement}
 use Rattle.selection.proofs.heard.collided_level.Tie as tie
@@ -16,8 +16,11 @@ returns c =
     let a = c .before .before .args in
     c .not-rest .ensures ∙ sym (says-collision (a .k) (a .w) (a .d) (search needs) (search needs) (omega arith) (omega arith))
 
-is-faulty-requires : tie.Need-is-faulty-requires
-is-faulty-requires c κs = search needs
+first-wrong-requires : tie.Need-first-wrong-requires
+first-wrong-requires c κs = search needs
+
+cast-t9 : tie.Need-cast-t9
+cast-t9 c = search needs
 
 not-rest-requires-2 : tie.Need-not-rest-requires-2
 not-rest-requires-2 c κs = search needs
@@ -26,7 +29,7 @@ returns-2 : tie.Need-returns-2
 returns-2 c =
     let a = c .before .before .before .before .args in
     c .not-rest2 .ensures
-    ∙ sym (says-parity (a .k) (a .w) (a .d) (search needs) (search needs) (λ l m. omega arith) (sym (c .before .before .is-faulty .ensures) ∙ c .before .if2 .taken))
+    ∙ sym (says-parity (a .k) (a .w) (a .d) (search needs) (search needs) (λ l m. omega arith) _ (search needs) (c .before .before .first-wrong .ensures) (c .before .if2 .taken))
 
 known-bits-requires : tie.Need-known-bits-requires
 known-bits-requires c κs = search needs
@@ -36,11 +39,11 @@ five-bytes-requires c κs =
     let a = c .before .before .before .before .args in
     rw (c .known-bits .ensures) (known-clean (a .d) (search needs) (omega arith))
 
-cast-t12 : tie.Need-cast-t12
-cast-t12 c = search needs
+cast-t13 : tie.Need-cast-t13
+cast-t13 c = search needs
 
-add-t13 : tie.Need-add-t13
-add-t13 c = search needs
+add-t14 : tie.Need-add-t14
+add-t14 c = search needs
 
 returns-3 : tie.Need-returns-3
 returns-3 c =
@@ -49,7 +52,7 @@ returns-3 c =
     let q : a .p ≡ firstCollided (a .d) = search needs in
     rw q
     (made-collided (a .d) (c .five-bytes .result) n (omega arith) (c .five-bytes .ensures ∙ ap (bytesOf 5) (c .before .known-bits .ensures))
-    ∙ sym (says-collided (a .k) (a .w) (a .d) (search needs) (search needs) (λ l m. omega arith) (sym (c .before .before .before .is-faulty .ensures) ∙ c .before .before .if2 .left) (omega arith)))
+    ∙ sym (says-collided (a .k) (a .w) (a .d) (search needs) (search needs) (λ l m. omega arith) (place-right (a .k) _ (a .w) (search needs) (c .before .before .before .first-wrong .ensures) (c .before .before .if2 .left)) (omega arith)))
 
 pub collided-level-spec : {M : Type 1} → statement M
 collided-level-spec =
@@ -57,11 +60,12 @@ collided-level-spec =
     (tie.spec
     not-rest-requires
     returns
-    is-faulty-requires
+    first-wrong-requires
+    cast-t9
     not-rest-requires-2
     returns-2
     known-bits-requires
     five-bytes-requires
-    cast-t12
-    add-t13
+    cast-t13
+    add-t14
     returns-3)

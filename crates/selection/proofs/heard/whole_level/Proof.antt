@@ -6,14 +6,17 @@ use lib.ListN.{take}
 use mathlib.Core.Path.{_≡_, refl, sym, ap, _∙_}
 use native.Mathlib.Omega.{arith}
 use lib.ListN.{length}
-use Rattle.selection.specs.RestLaws.{says-parity, says-check, says-whole, made-whole}
+use Rattle.selection.specs.RestLaws.{place-right, says-parity, says-check, says-whole, made-whole}
 use Rattle.selection.specs.LevelLaws.{first-clean}
 use borrow.Author.Needs.{needs}
 use Rattle.selection.proofs.heard.whole_level.Statement.{statement}
 use Rattle.selection.proofs.heard.whole_level.Tie as tie
 
-is-faulty-requires : tie.Need-is-faulty-requires
-is-faulty-requires c κs = search needs
+first-wrong-requires : tie.Need-first-wrong-requires
+first-wrong-requires c κs = search needs
+
+cast-t7 : tie.Need-cast-t7
+cast-t7 c = search needs
 
 not-rest-requires : tie.Need-not-rest-requires
 not-rest-requires c κs = search needs
@@ -22,7 +25,7 @@ returns : tie.Need-returns
 returns c =
     let a = c .before .before .before .args in
     c .not-rest .ensures
-    ∙ sym (says-parity (a .k) (a .w) (a .d) (search needs) (search needs) (λ l m. omega arith) (sym (c .before .before .is-faulty .ensures) ∙ c .before .if1 .taken))
+    ∙ sym (says-parity (a .k) (a .w) (a .d) (search needs) (search needs) (λ l m. omega arith) _ (search needs) (c .before .before .first-wrong .ensures) (c .before .if1 .taken))
 
 five-bytes-requires : tie.Need-five-bytes-requires
 five-bytes-requires c κs = let n : length (c .before .before .args .d) ≡ 40 = search needs in first-clean (c .before .before .args .d) (omega arith) .0
@@ -37,21 +40,22 @@ returns-2 : tie.Need-returns-2
 returns-2 c =
     let a = c .before .before .before .before .before .before .args in
     c .not-rest2 .ensures
-    ∙ sym (says-check (a .k) (a .w) (a .d) (search needs) (search needs) (λ l m. omega arith) (sym (c .before .before .before .before .before .is-faulty .ensures) ∙ c .before .before .before .before .if1 .left) (search needs)
+    ∙ sym (says-check (a .k) (a .w) (a .d) (search needs) (search needs) (λ l m. omega arith) (place-right (a .k) _ (a .w) (search needs) (c .before .before .before .before .before .first-wrong .ensures) (c .before .before .before .before .if1 .left)) (search needs)
     (rw (← c .before .before .before .five-bytes .ensures) (sym (c .before .before .is-checked .ensures) ∙ not-true _ (c .before .if2 .taken))))
 
 returns-3 : tie.Need-returns-3
 returns-3 c =
     let a = c .before .before .before .before .before .args in
     made-whole (a .d) _ (search needs) (c .before .before .five-bytes .ensures)
-    ∙ sym (says-whole (a .k) (a .w) (a .d) (search needs) (search needs) (λ l m. omega arith) (sym (c .before .before .before .before .is-faulty .ensures) ∙ c .before .before .before .if1 .left) (search needs)
+    ∙ sym (says-whole (a .k) (a .w) (a .d) (search needs) (search needs) (λ l m. omega arith) (place-right (a .k) _ (a .w) (search needs) (c .before .before .before .before .first-wrong .ensures) (c .before .before .before .if1 .left)) (search needs)
     (rw (← c .before .before .five-bytes .ensures) (sym (c .before .is-checked .ensures) ∙ not-false _ (c .if2 .left))))
 
 pub whole-level-spec : {M : Type 1} → statement M
 whole-level-spec =
     tie.close
     (tie.spec
-    is-faulty-requires
+    first-wrong-requires
+    cast-t7
     not-rest-requires
     returns
     five-bytes-requires
