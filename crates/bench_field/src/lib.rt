@@ -49,7 +49,7 @@ pub struct Collecting {
 pub fn collect(c: Collected, talk: Talk) -> Collected {
     let line = talk.line;
     let bytes = talk.bytes;
-    let l = collecting(c, bench_talk::text(line, &bytes));
+    let l = line_taken(c, bench_talk::text(line, &bytes));
     if !l.is_understood {
         bench_talk::say(talk, bench_talk::none());
     }
@@ -57,7 +57,7 @@ pub fn collect(c: Collected, talk: Talk) -> Collected {
 }
 
 // By the line's first word.
-fn collecting(c: Collected, text: &[u8]) -> Collecting {
+fn line_taken(c: Collected, text: &[u8]) -> Collecting {
     let k = bench_talk::which(b"room", 1, bench::word(text, 0));
     match k {
         0 => directives::room(c, text),
