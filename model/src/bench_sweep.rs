@@ -1,21 +1,44 @@
 //! The programs `bench_sweep` and `vectors_sweep`.
 
 use crate::card::{Card, State};
+use crate::coverage::note;
 use crate::language::{read_hex, read_number, show_hex, Program};
 use crate::log::trace;
 use crate::reader::Reader;
 use crate::refusal;
 use crate::sweep::{sweep, LIST_ROOM, LOG_ROOM};
+use crate::uid::MOST_CARDS;
 
-/// The cards collected so far.
-#[derive(Default)]
+/// The most bytes that `room` can ask to be lent.
+const MOST_ROOM: usize = 65_535;
+
+/// The cards collected so far, and what is lent to the sweep.
 struct Collected {
     cards: Vec<Card>,
-    /// A card that cannot be made, or a seventeenth: the whole answer is `refused 6`.
+    /// A card that cannot be made: the whole answer is `refused 6`.
     refused: bool,
+    log_room: usize,
+    list_room: usize,
+}
+
+impl Default for Collected {
+    fn default() -> Collected {
+        Collected { cards: Vec::new(), refused: false, log_room: LOG_ROOM, list_room: LIST_ROOM }
+    }
 }
 
 impl Collected {
+    /// A line that is no command of the program: a directive or a card. `None`: not understood.
+    fn line(&mut self, words: &[&str]) -> Option<()> {
+        if words[0] != "room" {
+            return self.card_line(words);
+        }
+        let [_, log, list] = *words else { return None };
+        let rooms = (read_number(log, MOST_ROOM)?, read_number(list, MOST_ROOM)?);
+        (self.log_room, self.list_room) = rooms;
+        Some(())
+    }
+
     /// A card line: `UID [STATE [SAK [INDEX]]]`. `None`: not understood.
     fn card_line(&mut self, words: &[&str]) -> Option<()> {
         if words.len() > 4 {
@@ -34,9 +57,6 @@ impl Collected {
             Ok(card) => self.cards.push(Card { state, ..card }),
             Err(_) => self.refused = true,
         }
-        if self.cards.len() > 16 {
-            self.refused = true;
-        }
         Some(())
     }
 
@@ -46,7 +66,9 @@ impl Collected {
         if self.refused {
             return vec![format!("refused {}", refusal::ARGUMENT)];
         }
-        let swept = match sweep(&mut Reader::new(), &mut cards, LOG_ROOM, LIST_ROOM) {
+        note("field lent", against(self.log_room, LOG_ROOM), against(self.list_room, LIST_ROOM));
+        note("field cards", against(cards.len(), MOST_CARDS), if self.log_room < LOG_ROOM { "short log" } else { "log" });
+        let swept = match sweep(&mut Reader::new(), &mut cards, self.log_room, self.list_room) {
             Ok(swept) => swept,
             Err(number) => return vec![format!("refused {number}")],
         };
@@ -69,6 +91,15 @@ impl Collected {
     }
 }
 
+/// A number beside a limit.
+fn against(number: usize, limit: usize) -> &'static str {
+    match number {
+        n if n < limit => "under",
+        n if n == limit => "as many",
+        _ => "over",
+    }
+}
+
 /// The last SAK: exactly `20` or `00`.
 pub fn read_sak(word: &str) -> Option<bool> {
     match word {
@@ -85,7 +116,7 @@ pub struct BenchSweep {
 
 impl Program for BenchSweep {
     fn words(&mut self, words: &[&str]) -> Option<Vec<String>> {
-        self.collected.card_line(words)?;
+        self.collected.line(words)?;
         Some(Vec::new())
     }
 
@@ -108,7 +139,7 @@ impl Program for VectorsSweep {
         if words == ["sweep"] {
             return Some(std::mem::take(&mut self.collected).sweep(false));
         }
-        self.collected.card_line(words)?;
+        self.collected.line(words)?;
         Some(Vec::new())
     }
 }
@@ -165,5 +196,9 @@ mod tests {
         assert_eq!(ask(&["01020304 halt 00 9"]), "refused 6");
         assert_eq!(ask(&["01020304 halt"]), "frames 1\ncard 01020304 halt 20 8\nlog 000764C000");
         assert_eq!(ask(&["01020304 sleep"]), "frames 1\nlog 000764C000");
+        assert_eq!(ask(&["room 24576 351"]), "refused 1");
+        assert_eq!(ask(&["room 0 0", "room 65535 352"]), "frames 1\nlog 000764C000");
+        assert_eq!(ask(&["room 0 0", "88020304"]), "refused 6");
+        assert_eq!(ask(&["room 0", "room 0 65536", "room 0 0 0"]), "frames 1\nlog 000764C000");
     }
 }

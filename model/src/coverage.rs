@@ -55,6 +55,10 @@ fn expected() -> Vec<Key> {
         add("reader call", &[phase], &["select", "sweep", "RATS", "message", "DESELECT", "row"]);
     }
 
+    // T-06: what is lent to a sweep, and how many cards, beside the limits.
+    add("field lent", &["under", "as many", "over"], &["under", "as many", "over"]);
+    add("field cards", &["under", "as many", "over"], &["short log", "log"]);
+
     // T-04: a good SAK at each level, by the level's first byte.
     for level in 1..=3 {
         for first in ["88", "another"] {
@@ -213,13 +217,16 @@ fn expected_of_calls() -> Vec<Key> {
 /// Plays the stored scripts and prints what they reached; an error names what they did not.
 pub fn report() -> Result<(), String> {
     // Each table is to be reached by its own scripts: those of the card and of the reader by the two benches, the exchanges by theirs, the
-    // calls by theirs. The fields of `vectors_sweep` and the cards with which the random reader scripts were drawn up do not count.
+    // calls by theirs, and of the fields of `vectors_sweep` only what is lent and how many cards there are. The cards with which the random reader
+    // scripts were drawn up do not count.
     crate::write::bench_scripts();
     let benches = reached();
     crate::write::exchange_script();
     let exchanges = reached();
     crate::write::calls_script();
     let calls = reached();
+    crate::write::field_script();
+    let fields = reached();
     let expected = expected();
     let of_calls = expected_of_calls();
     let mut missing = Vec::new();
@@ -228,6 +235,7 @@ pub fn report() -> Result<(), String> {
         let from = match is_call {
             true => &calls,
             false if key.0.starts_with("exchange") => &exchanges,
+            false if key.0.starts_with("field") => &fields,
             false => &benches,
         };
         if *key.0 != table {

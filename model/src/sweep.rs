@@ -7,9 +7,9 @@ use crate::reader::{Answer, Phase, Reader};
 use crate::refusal::{self, Refusal};
 use crate::uid;
 
-/// What the sweep asks for.
-pub const LOG_ROOM: usize = 8192;
-pub const LIST_ROOM: usize = 176;
+/// What the sweep asks for, by T-06.
+pub const LOG_ROOM: usize = 24_576;
+pub const LIST_ROOM: usize = 352;
 
 #[derive(Clone, Debug, PartialEq)]
 pub struct Swept {
@@ -37,7 +37,7 @@ pub fn field_takes(cards: &mut [Card], frame: &Row) -> Row {
     merge(&answers)
 }
 
-/// Over 16 cards, an invalid or repeated UID, an index over 8, a card neither Idle nor Halt.
+/// Over 32 cards, an invalid or repeated UID, an index over 8, a card neither Idle nor Halt.
 fn field_is_taken(cards: &[Card]) -> bool {
     let uids: Vec<Vec<u8>> = cards.iter().map(|c| c.uid.clone()).collect();
     uid::sweepable(&uids)

@@ -93,9 +93,12 @@ pub fn frame_sum(idle: &[Vec<u8>]) -> usize {
     sum
 }
 
-/// Valid, all different, and at most 16 of them.
+/// The most cards of a field, by T-06.
+pub const MOST_CARDS: usize = 32;
+
+/// Valid, all different, and no more than the limit.
 pub fn sweepable(uids: &[Vec<u8>]) -> bool {
-    uids.len() <= 16 && uids.iter().all(|u| valid(u)) && uids.iter().enumerate().all(|(i, u)| !uids[..i].contains(u))
+    uids.len() <= MOST_CARDS && uids.iter().all(|u| valid(u)) && uids.iter().enumerate().all(|(i, u)| !uids[..i].contains(u))
 }
 
 #[cfg(test)]

@@ -104,9 +104,9 @@ fn reader_at(sent: usize) -> Reader {
     reader
 }
 
-/// Sixteen idle cards, as many as the call is told to take, and one thing off.
+/// As many idle cards as a sweep takes, of them as many as the call is told to take, and one thing off.
 fn swept(log: usize, list: usize, count: usize, off: &str) -> Option<Told> {
-    let mut cards: Vec<Card> = (0..16u8)
+    let mut cards: Vec<Card> = (0..uid::MOST_CARDS as u8)
         .map(|n| {
             let mut card = Card::new(&[n, 2, 3, 4], true, 8).expect("a good card");
             card.power_on();
@@ -125,8 +125,8 @@ fn swept(log: usize, list: usize, count: usize, off: &str) -> Option<Told> {
         _ => return None,
     }
     // More cards than there are: any that are good, so that their number is what is off.
-    while cards.len() < count.min(17) {
-        cards.push(Card { uid: vec![99, cards.len() as u8, 3, 4], ..cards[15].clone() });
+    while cards.len() < count.min(uid::MOST_CARDS + 1) {
+        cards.push(Card { uid: vec![99, cards.len() as u8, 3, 4], ..cards[0].clone() });
     }
     cards.truncate(count);
     Some(sweep::sweep(&mut reader, &mut cards, log, list).map(|s| format!("frames {}", s.frames())))
@@ -242,8 +242,8 @@ mod tests {
         let mut s = Script::new(VectorsCalls::new());
         assert_eq!(s.say("write_short 6"), "refused 1");
         assert_eq!(s.say("write_short 7"), "bits 7");
-        assert_eq!(s.say("sweep 8192 176 17 none"), "refused 6");
-        assert_eq!(s.say("sweep 0 0 17 used"), "refused 11");
+        assert_eq!(s.say("sweep 24576 352 33 none"), "refused 6");
+        assert_eq!(s.say("sweep 0 0 33 used"), "refused 11");
         assert_eq!(s.say("rats 0 9"), "refused 11");
         assert_eq!(s.say("selected"), "ok");
         assert_eq!(s.say("rats 2303 9"), "refused 1");

@@ -24,13 +24,18 @@ pub fn all() -> Vec<Stored> {
     let (card, reader) = benches();
     vec![
         stored("vectors_frame", scripts::frame::script(SEED + 1)),
-        stored("vectors_sweep", scripts::field::script(SEED + 2)),
+        stored("vectors_sweep", fields()),
         stored("vectors_exchange", exchange()),
         stored("vectors_calls", scripts::calls::script()),
         stored("bench_card", card),
         stored("bench_reader", reader),
         stored("bench_sweep", scripts::field::locker()),
     ]
+}
+
+/// The script of the fields.
+fn fields() -> Script<crate::bench_sweep::VectorsSweep> {
+    scripts::field::script(SEED + 2)
 }
 
 /// The script of both ends.
@@ -71,6 +76,14 @@ pub fn calls_script() {
     let input = scripts::calls::script().input;
     crate::coverage::forget();
     let mut replayed = Script::new(crate::vectors_calls::VectorsCalls::new());
+    input.lines().for_each(|line| drop(replayed.say(line)));
+}
+
+/// Plays the script of the fields again, for what it reaches.
+pub fn field_script() {
+    let input = fields().input;
+    crate::coverage::forget();
+    let mut replayed = Script::new(crate::bench_sweep::VectorsSweep::default());
     input.lines().for_each(|line| drop(replayed.say(line)));
 }
 

@@ -1,14 +1,10 @@
 // The cards of a field, from their lines.
 use crate::Collected;
+use crate::Collecting;
 use card::Card;
 use card::CardState;
+use limits::MOST_CARDS;
 use uid::Made;
-
-// The cards after a line, if it was understood.
-pub struct Collecting {
-    pub is_understood: bool,
-    pub collected: Collected,
-}
 
 // One card more, from a line. What is left out is `idle`, `20` and `8`.
 pub fn card_line(c: Collected, text: &[u8]) -> Collecting {
@@ -79,19 +75,17 @@ fn with_state(c: Card, state: CardState) -> Card {
     }
 }
 
-// .. refused, too, where it is the seventeenth.
+// A card over the limit is counted and not kept: the call declines so many, whatever they are.
 fn with_card(c: Collected, card: Card) -> Collected {
     let n = c.count;
-    if n > 15 {
-        return refused(c);
+    let mut after = c;
+    if n < MOST_CARDS {
+        let mut cards = c.cards;
+        cards[n] = card;
+        after.cards = cards;
     }
-    let mut cards = c.cards;
-    cards[n] = card;
-    Collected {
-        cards,
-        count: n + 1,
-        is_refused: c.is_refused,
-    }
+    after.count = bench_talk::counted(n);
+    after
 }
 
 fn refused(c: Collected) -> Collected {

@@ -1,16 +1,24 @@
 // A field of cards from text, its sweep, and what came of it as lines: BENCH.md's `UID [STATE [SAK [INDEX]]]`, and the answer of a sweep.
 mod cards;
+mod directives;
 mod report;
 
 use bench_talk::Talk;
 use card::Card;
+use limits::MOST_CARDS;
 
-// The cards so far, in the order given; and whether a card was not to be made, or there were more than 16.
+// The cards so far, in the order given: their number, and as many of them as a sweep takes; whether a card was not to be made; and how many
+// bytes of log and list are lent to the sweep.
 pub struct Collected {
-    pub cards: [Card; 16],
+    pub cards: [Card; MOST_CARDS],
     pub count: usize,
     pub is_refused: bool,
+    pub log: usize,
+    pub list: usize,
 }
+
+// The most bytes of a log or a list that a line can ask to be lent.
+const MOST_ROOM: usize = 65535;
 
 // How the cards are swept: as values, or as a row that is lent and changed in place. The answer is the same.
 pub enum Way {
@@ -23,21 +31,38 @@ pub fn none() -> Collected {
     let new = card::new_card(b"", false, 0);
     let c = new.card;
     Collected {
-        cards: [c; 16],
+        cards: [c; MOST_CARDS],
         count: 0,
         is_refused: false,
+        log: limits::LOG_ROOM,
+        list: limits::LIST_ROOM,
     }
 }
 
-// The cards after a line of words, which is a card's; a line that is not understood is answered.
+// The cards after a line, if it was understood.
+pub struct Collecting {
+    pub is_understood: bool,
+    pub collected: Collected,
+}
+
+// The cards after a line of words, which is a directive or a card's; a line that is not understood is answered.
 pub fn collect(c: Collected, talk: Talk) -> Collected {
     let line = talk.line;
     let bytes = talk.bytes;
-    let l = cards::card_line(c, bench_talk::text(line, &bytes));
+    let l = line_taken(c, bench_talk::text(line, &bytes));
     if !l.is_understood {
         bench_talk::say(talk, bench_talk::none());
     }
     l.collected
+}
+
+// By the line's first word.
+fn line_taken(c: Collected, text: &[u8]) -> Collecting {
+    let k = bench_talk::which(b"room", 1, bench::word(text, 0));
+    match k {
+        0 => directives::room(c, text),
+        _ => cards::card_line(c, text),
+    }
 }
 
 // Sweeps the cards on a new reader and says what came of it, with or without the trace for people.
@@ -46,6 +71,13 @@ pub fn answer(c: Collected, way: Way, has_trace: bool) {
         bench_talk::put_line(bench_talk::refused(6));
         return;
     }
-    let r = report::swept(c, way);
-    report::say(r, c.count, has_trace);
+    let mut log = [0u8; MOST_ROOM];
+    let mut list = [0u8; MOST_ROOM];
+    let s = report::swept(
+        c,
+        way,
+        bench_talk::room(&mut log, c.log),
+        bench_talk::room(&mut list, c.list),
+    );
+    report::say(s, c.count, has_trace, &log, &list);
 }

@@ -4,14 +4,8 @@ use crate::Way;
 use bench_talk::Answer;
 use card::Card;
 use card::CardState;
+use limits::MOST_CARDS;
 use sweep::Swept;
-
-// What a sweep gave, with its log and its list.
-pub struct Report {
-    pub swept: Swept,
-    pub log: [u8; 8192],
-    pub list: [u8; 176],
-}
 
 // The words of the lines, by their numbers in the list of said.
 const FRAMES: usize = 0;
@@ -22,61 +16,60 @@ const CARD: usize = 2;
 
 const LOG: usize = 3;
 
+// The most bytes that an answer holds in hexadecimal, and how many such pieces the longest log has.
+const PIECE: usize = 8192;
+
+const PIECES: usize = 8;
+
 fn said(k: usize) -> Answer {
     bench_talk::word(bench_talk::none(), b"frames found card log", k)
 }
 
 // The cards swept on a new reader.
-pub fn swept(c: Collected, way: Way) -> Report {
+pub fn swept(c: Collected, way: Way, log: &mut [u8], list: &mut [u8]) -> Swept {
     let cards = c.cards;
+    let r = reader::new_reader();
     match way {
-        Way::Values => by_values(cards, c.count),
-        Way::Row => by_row(cards, c.count),
+        Way::Values => sweep::sweep(r, cards, c.count, log, list),
+        Way::Row => sweep_row::within::sweep_by_row(r, cards, c.count, log, list),
     }
 }
 
-fn by_values(cards: [Card; 16], count: usize) -> Report {
-    let mut log = [0u8; 8192];
-    let mut list = [0u8; 176];
-    let swept = sweep::sweep(reader::new_reader(), cards, count, &mut log, &mut list);
-    Report { swept, log, list }
-}
-
-fn by_row(cards: [Card; 16], count: usize) -> Report {
-    let mut log = [0u8; 8192];
-    let mut list = [0u8; 176];
-    let swept = sweep_row::within::sweep_by_row(
-        reader::new_reader(),
-        cards,
-        count,
-        &mut log,
-        &mut list,
-    );
-    Report { swept, log, list }
-}
-
 // `refused N`, or the lines of a sweep.
-pub fn say(r: Report, count: usize, has_trace: bool) {
-    let s = r.swept;
+pub fn say(s: Swept, count: usize, has_trace: bool, log: &[u8], list: &[u8]) {
     let last = s.answer;
     let reader::Answer::Declines(e) = last else {
-        say_swept(r, count, has_trace);
+        say_swept(s, count, has_trace, log, list);
         return;
     };
     bench_talk::put_line(bench_lines::refused(e));
 }
 
-fn say_swept(r: Report, count: usize, has_trace: bool) {
-    let s = r.swept;
-    let list = r.list;
-    let log = r.log;
+fn say_swept(s: Swept, count: usize, has_trace: bool, log: &[u8], list: &[u8]) {
     let cards = s.cards;
-    let written = bench::front(&log, s.logged);
+    let written = bench::front(log, s.logged);
     say_trace(has_trace, written);
     bench_talk::put_line(bench_talk::number(said(FRAMES), s.frames));
-    say_found(&list, s.found);
+    say_found(list, s.found);
     say_cards(cards, count);
-    bench_talk::put_line(bench_talk::hex(said(LOG), written));
+    say_log(written);
+}
+
+// `log HEX`, in pieces: an answer does not hold all of it.
+fn say_log(log: &[u8]) {
+    bench_talk::put_piece(bench_talk::raw(said(LOG), b" "));
+    for i in 0..PIECES {
+        say_piece(bench::front(behind(log, PIECE * i), PIECE));
+    }
+    bench_talk::put_line(bench_talk::none());
+}
+
+// No bytes are no text here: `-` stands for them only where they are all that is said.
+fn say_piece(bytes: &[u8]) {
+    if bytes.len() == 0 {
+        return;
+    }
+    bench_talk::put_piece(bench_talk::hex(bench_talk::none(), bytes));
 }
 
 // A line for each record, where the trace is wanted.
@@ -97,18 +90,18 @@ fn say_trace(has_trace: bool, log: &[u8]) {
 // `found UID` for each entry of the list.
 fn say_found(list: &[u8], found: usize) {
     for i in 0..found {
-        if i > 15 {
+        if i >= MOST_CARDS {
             return;
         }
         say_entry(behind(list, 11 * i));
     }
 }
 
-fn behind(list: &[u8], at: usize) -> &[u8] {
-    if list.len() < at {
-        return bench::front(list, 0);
+fn behind(bytes: &[u8], at: usize) -> &[u8] {
+    if bytes.len() < at {
+        return bench::front(bytes, 0);
     }
-    &list[at..]
+    &bytes[at..]
 }
 
 // An entry of the list: its length, and its bytes.
@@ -124,9 +117,9 @@ fn wide(n: u8) -> usize {
 }
 
 // `card UID STATE SAK INDEX` for each card.
-fn say_cards(cards: [Card; 16], count: usize) {
+fn say_cards(cards: [Card; MOST_CARDS], count: usize) {
     for i in 0..count {
-        if i > 15 {
+        if i >= MOST_CARDS {
             return;
         }
         say_card(cards[i]);

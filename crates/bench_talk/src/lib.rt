@@ -73,7 +73,7 @@ fn collected(number: usize, line: Line, bytes: [u8; 16385]) -> Talk {
 }
 
 // One more, and no more than there are numbers.
-fn counted(n: usize) -> usize {
+pub fn counted(n: usize) -> usize {
     if n < 0xffff_ffff_ffff_ffff { n + 1 } else { n }
 }
 
@@ -127,9 +127,13 @@ fn not_understood(number: usize) -> Answer {
 
 // Writes a text and a line feed to standard output.
 pub fn put_line(a: Answer) {
-    let mut text = a.text;
-    let end = bench_text::put(&mut text, a.length, b"\n");
-    io::write_all(STDOUT_FILENO, bench::front(&text, end));
+    put_piece(raw(a, b"\n"));
+}
+
+// Writes a text to standard output: a piece of a line that is longer than an answer.
+pub fn put_piece(a: Answer) {
+    let text = a.text;
+    io::write_all(STDOUT_FILENO, bench::front(&text, a.length));
 }
 
 // Which of the first n words of a list is this one? n where none is.

@@ -1,16 +1,16 @@
--- The limits as document 01 states them, and what follows from them: one table of theorems.
+-- The limits as document 01 and T-06 state them, and what follows from them: one table of theorems.
 use mathlib.Core.Path.{_≡_, refl}
 use Prim.Native.Nat.{ℕ, _*_, _≤_}
 use native.Mathlib.Omega.{arith}
 use Rattle.limits.specs.Limits.{mostCards, logRoom, listRoom, mostFrames, mostBytes, rowRoom, frameRoom, answerRoom, messageMax}
 
 pub record LimitTable : Type 0 where
-  -- "over 16 cards" is 6; "8,192 bytes of log and 176 of list"
-  pub cards : mostCards ≡ 16
-  pub log : logRoom ≡ 8192
-  pub list : listRoom ≡ 176
-  -- the comb of 16 cards needs them all
-  pub frames : mostFrames ≡ 249
+  -- T-06: "The limit of 16 becomes 32, the log asked for 24,576 bytes, the list 352"
+  pub cards : mostCards ≡ 32
+  pub log : logRoom ≡ 24576
+  pub list : listRoom ≡ 352
+  -- the comb of 32 cards needs them all
+  pub frames : mostFrames ≡ 753
   -- a frame and what was heard take at most 19 bytes of log (demand 3): the log asked for always holds a sweep
   pub log-holds : 19 * mostFrames ≤ logRoom
   -- "1 to 256 bytes, each followed by odd parity"; SELECT is nine bytes, a level five

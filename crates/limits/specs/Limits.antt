@@ -1,13 +1,13 @@
 -- The core's limits, each once. src/lib.rt has the same numbers for the code.
 use Prim.Native.Nat.{ℕ, _+_, _-_, _*_, _/_}
 
--- "over 16 cards": 6
+-- more cards are 6; T-06: "The limit of 16 becomes 32"
 abbrev pub mostCards : ℕ
-mostCards = 16
+mostCards = 32
 
--- "The sweep asks for 8,192 bytes of log and 176 of list"; an entry of the list has 11 bytes
+-- T-06: "the log asked for 24,576 bytes, the list 352"; an entry of the list has 11 bytes
 abbrev pub logRoom : ℕ
-logRoom = 8192
+logRoom = 24576
 
 abbrev pub listRoom : ℕ
 listRoom = 11 * mostCards

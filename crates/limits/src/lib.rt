@@ -3,11 +3,11 @@ ghost use mathlib.Core.Path.{_≡_};
 ghost use mathlib.Core.List.{[], _∷_};
 ghost use Rattle.limits.specs.Limits.{mostCards, logRoom, listRoom, mostFrames, mostBytes, rowRoom, frameRoom, answerRoom, messageMax};
 
-// Document 01, "When the core declines": a field of more cards is 6.
-pub const MOST_CARDS: usize = 16;
+// Document 01, "When the core declines", with T-06's limit: a field of more cards is 6.
+pub const MOST_CARDS: usize = 32;
 
-// Document 01, "The log": what a sweep asks for, in bytes. A UID takes 11 bytes of the list.
-pub const LOG_ROOM: usize = 8192;
+// Document 01, "The log", with T-06's room: what a sweep asks for, in bytes. A UID takes 11 bytes of the list.
+pub const LOG_ROOM: usize = 24576;
 
 pub const LIST_ROOM: usize = 11 * MOST_CARDS;
 

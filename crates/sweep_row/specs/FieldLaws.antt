@@ -1,4 +1,4 @@
--- What the plain sweep's definition says of a row: over 16 cards are 6, any other row is the field, whole. Assumes nothing.
+-- What the plain sweep's definition says of a row: more cards than the limit are 6, any other row is the field, whole. Assumes nothing.
 use mathlib.Core.Path.{_≡_, refl}
 use Prim.Native.Nat.{ℕ}
 use mathlib.Core.Bool.{not, cond, _||_}

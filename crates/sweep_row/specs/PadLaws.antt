@@ -1,4 +1,4 @@
--- A row of at most 16 cards as an array of 16, so that the laws of the plain sweep tell of it. Assumes nothing.
+-- A row of at most the limit of cards as an array of as many as the limit, so that the laws of the plain sweep tell of it. Assumes nothing.
 use mathlib.Core.Path.{_≡_, refl, sym, ap, subst, _∙_}
 use Prim.Native.Nat.{ℕ, suc, _-_, _≤_, _<_}
 use native.Mathlib.Omega.{arith}

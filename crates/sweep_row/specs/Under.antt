@@ -21,7 +21,7 @@ use Rattle.sweep_row.specs.declared.pass.Progress.{Progress}
 use Rattle.sweep_row.specs.Row.{sweptRow, noCard, refusedRow, goesOn}
 use Rattle.sweep_row.specs.SeenLaws.{SeenFrom}
 
--- a row of at most 16 cards as an array of 16, of which the first n are the field: the laws of the plain sweep are told of such arrays
+-- a row of at most the limit of cards as an array of as many as the limit, of which the first n are the field: the laws of the plain sweep are told of such arrays
 abbrev pub padded : ℕ → List Card → List Card
 padded n cards = cards ++ replicate (mostCards - n) noCard
 

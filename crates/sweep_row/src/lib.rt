@@ -26,8 +26,8 @@ pub struct RowSwept {
 }
 
 // The reader finds every idle card of the lent row and halts it. Each frame and what was heard after it goes into the lent log, each UID into
-// the lent list, from their fronts on. Declined, with all unchanged: 11, the reader is not new; 1, log or list is too short; 6, the row has over
-// 16 cards or is not a field that a sweep takes.
+// the lent list, from their fronts on. Declined, with all unchanged: 11, the reader is not new; 1, log or list is too short; 6, the row has more
+// cards than the limit or is not a field that a sweep takes.
 pub fn sweep_row(r: Reader, cards: &mut [Card], log: &mut [u8], list: &mut [u8]) -> RowSwept
     ensures { λ s. ⌜ call (sweptRow s (now (cards .exit))) (now (log .exit)) (now (list .exit)) ≡ sweepOf r (now (cards .entry)) (length (now (cards .entry))) (now (log .entry)) (now (list .entry)) ⌝ }
     ensures { λ s. ⌜ Sweeps r (now (cards .entry)) (length (now (cards .entry))) (now (log .entry)) (now (list .entry)) (sweptRow s (now (cards .exit))) (now (log .exit)) (now (list .exit)) ⌝ }

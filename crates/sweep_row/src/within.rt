@@ -35,7 +35,7 @@ pub fn sweep_array(
     }
 }
 
-// The plain sweep's answer, by the lent row. An array holds no row of over 16 cards, which the plain sweep declines.
+// The plain sweep's answer, by the lent row. An array holds no row of more cards than the limit, which the plain sweep declines.
 pub fn sweep_by_row(
     r: Reader,
     cards: [Card; MOST_CARDS],

@@ -17,9 +17,9 @@ use Rattle.uid.specs.Uid.{levels, rowOf, falling, frameSum, uidBytes}
 use Rattle.uid.specs.UidLaws.{name, Sound, rows-off, length-row, name-row}
 use Rattle.reader.specs.Reader.{blank, sends, turn}
 use Rattle.log.specs.CountLaws.{sent-counted}
-use Rattle.log.specs.Log.{exchangeBytes}
+use Rattle.log.specs.Log.{exchangeBytes, logBytes}
 use Rattle.sweep_rules.specs.Demand.{Typed, idle, halted, Descending, Demand3}
-use Rattle.limits.specs.Limits.{mostCards, mostFrames}
+use Rattle.limits.specs.Limits.{mostCards, mostFrames, framesBound}
 use Rattle.sweep_rules.specs.Run.{sweep}
 use Rattle.sweep_rules.specs.Terms.{within}
 use Rattle.sweep_rules.proofs.Abstract.{sort, frames, Apart}
@@ -130,6 +130,13 @@ module _ (cs : List Card) (s : All Fits cs) (few : length cs ≤ mostCards) (d :
   unfolding view
   smalls = small-all (sweep cs .exchanges) (ap (λ w. w .2 .1) swept)
 
+  -- the log of a sweep in which at most n cards are idle, n free: the limit's room follows from it
+  log-bound : (n : ℕ) → length (idle cs) ≤ n → length (logBytes (sweep cs .exchanges)) ≤ 19 * framesBound n
+  log-bound n few =
+      let short : All (λ e. length (exchangeBytes e) ≤ 19) (sweep cs .exchanges) = all-weaken (sweep cs .exchanges) (λ e h. h .1) smalls in
+      let most : frames (sort (idles cs)) ≤ framesBound n = frames-small n (idles cs) whole (omega (arith, length-idles, few)) in
+      omega (arith, log-length (sweep cs .exchanges) short, count, sum-is, most)
+
   is-list : sweep cs .found ≡ map uidBytes (falling (idle cs))
   unfolding view found
   is-list = ap (λ w. w .0) swept
@@ -149,7 +156,7 @@ module _ (cs : List Card) (s : All Fits cs) (few : length cs ≤ mostCards) (d :
         counted = sent-counted (sweep cs .exchanges) (unfold sweep in run-loggable mostFrames (sends (blank ReqaSent true)) cs (unfold sweep in smalls)) ∙ count;
         bound = rw (count, ← sum-is) (rw length-idles at (sweep-bound (idles cs) whole));
         short = e;
-        log-fits = omega (arith, log-length (sweep cs .exchanges) e, count, sum-is, sum-small);
+        log-fits = omega (arith, log-bound mostCards few-idles);
         list-fits = rw (is-list, list-length (map uidBytes found) fits-found, length-map (falling (idle cs)) uidBytes, length-falling (idle cs)) (omega (arith, few-idles));
       }
 

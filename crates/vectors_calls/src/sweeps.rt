@@ -3,20 +3,21 @@ use crate::Given;
 use bench_talk::Answer;
 use card::Card;
 use card::CardState;
+use limits::MOST_CARDS;
 use reader::Reader;
 use sweep::Swept;
 use uid::Level;
 use uid::Uid;
 
-// `sweep LOG LIST N OFF`, `sweep_row LOG LIST N OFF`: the call is handed 16 cards, of which N count. What is off: the first card's index is 9, its
+// `sweep LOG LIST N OFF`, `sweep_row LOG LIST N OFF`: the call is handed as many cards as a sweep takes, of which N count. What is off: the first card's index is 9, its
 // UID is not valid, it is Ready or Off, its UID is the second card's, or the reader is not new.
 pub fn line(k: usize, g: Given, word: &[u8]) -> Answer {
     let off = bench_talk::which(b"none index uid ready off twice used", 7, word);
     if off > 6 {
         return bench_talk::none();
     }
-    let mut log = [0u8; 8192];
-    let mut list = [0u8; 176];
+    let mut log = [0u8; limits::LOG_ROOM];
+    let mut list = [0u8; limits::LIST_ROOM];
     let s = sweep_by(
         k,
         g,
@@ -57,17 +58,17 @@ fn reader_for(off: usize) -> Reader {
 }
 
 // The cards with one thing off in the first.
-fn spoil(cards: [Card; 16], off: usize) -> [Card; 16] {
+fn spoil(cards: [Card; MOST_CARDS], off: usize) -> [Card; MOST_CARDS] {
     let mut after = cards;
     after[0] = spoilt(cards[0], off);
     after
 }
 
-// Sixteen cards in Idle: card i has the UID i 2 3 4.
-fn good() -> [Card; 16] {
-    let mut cards = [numbered(0); 16];
+// As many cards as a sweep takes, in Idle: card i has the UID i 2 3 4.
+fn good() -> [Card; MOST_CARDS] {
+    let mut cards = [numbered(0); MOST_CARDS];
     let mut n: u8 = 0;
-    for i in 0..16usize {
+    for i in 0..MOST_CARDS {
         cards[i] = numbered(n);
         n = std::num::wrapping_add_u8(n, 1);
     }

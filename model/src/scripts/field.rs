@@ -5,12 +5,12 @@ use crate::language::{show_hex, Script};
 use crate::random::Random;
 use crate::uid;
 
-/// Sixteen ten-byte UIDs whose rows form a comb: all ones but for a single 0 at places that differ, so that each card parts
+/// As many ten-byte UIDs as a sweep takes, whose rows form a comb: all ones but for a single 0 at places that differ, so that each card parts
 /// from each later one at a place of its own. In a random order.
 pub fn comb(random: &mut Random) -> Vec<Vec<u8>> {
     let mut uids = vec![vec![0xFF; 10]];
     let mut places: Vec<usize> = (0..80).collect();
-    while uids.len() < 16 {
+    while uids.len() < uid::MOST_CARDS {
         let place = places.remove(random.below(places.len()));
         let mut uid = vec![0xFF; 10];
         uid[place / 8] ^= 1 << (place % 8);
@@ -26,9 +26,9 @@ fn shuffle<T>(random: &mut Random, list: &mut [T]) {
     }
 }
 
-/// Different valid UIDs of mixed sizes, up to sixteen, many with shared prefixes.
+/// Different valid UIDs of mixed sizes, up to the limit, many with shared prefixes.
 pub fn random_uids(random: &mut Random) -> Vec<Vec<u8>> {
-    let most = random.pick(&[1, 2, 3, 4, 5, 6, 8, 16]);
+    let most = random.pick(&[1, 2, 3, 4, 5, 6, 8, 16, 32]);
     let count = random.below(most + 1);
     let mut uids: Vec<Vec<u8>> = Vec::new();
     while uids.len() < count {
@@ -138,11 +138,13 @@ pub fn script(seed: u64) -> Script<VectorsSweep> {
     parting_fields(&mut s);
     combs(&mut s, &mut random);
     refused_fields(&mut s);
+    rooms(&mut s);
     s.remark("random fields");
     let mut fields = 0;
     while fields < 260 && s.output.len() < 252_000 {
         let lines = random_field(&mut random);
-        if lines.len() > 10 && random.chance(70) {
+        // Large fields are rare: their logs take most of the room.
+        if lines.len() > 5 && random.chance(if lines.len() > 12 { 95 } else { 70 }) {
             continue;
         }
         nth(&mut s, fields, &lines);
@@ -246,11 +248,19 @@ fn parting_fields(s: &mut Script<VectorsSweep>) {
 }
 
 fn combs(s: &mut Script<VectorsSweep>, random: &mut Random) {
-    s.remark("combs of sixteen ten-byte UIDs: the most frames");
-    for way in [both, field] {
-        let lines: Vec<String> = comb(random).iter().map(|u| show_hex(u)).collect();
-        assert!(way(s, &lines).starts_with("frames 249\n"));
+    s.remark("a comb of thirty-two ten-byte UIDs: the most frames");
+    let lines: Vec<String> = comb(random).iter().map(|u| show_hex(u)).collect();
+    assert!(both(s, &lines).starts_with("frames 753\n"));
+    s.remark("thirty-two cards of any kind");
+    let mut uids: Vec<Vec<u8>> = Vec::new();
+    while uids.len() < uid::MOST_CARDS {
+        let uid = random.uid();
+        if uid::valid(&uid) && !uids.contains(&uid) {
+            uids.push(uid);
+        }
     }
+    let lines: Vec<String> = uids.iter().map(|u| show_hex(u)).collect();
+    assert!(field(s, &lines).starts_with("frames "));
 }
 
 fn refused_fields(s: &mut Script<VectorsSweep>) {
@@ -274,16 +284,45 @@ fn refused_fields(s: &mut Script<VectorsSweep>) {
         assert_eq!(both(s, &texts(lines)), "refused 6");
     }
     let many = |count: u8| -> Vec<String> { (0..count).map(|i| format!("0102{:02X}04", i * 5)).collect() };
-    assert_eq!(both(s, &many(17)), "refused 6");
-    assert!(both(s, &many(16)).starts_with("frames "));
-    let halted: Vec<String> = many(17).iter().map(|l| format!("{l} halt")).collect();
+    assert_eq!(both(s, &many(33)), "refused 6");
+    assert!(both(s, &many(32)).starts_with("frames "));
+    let halted: Vec<String> = many(33).iter().map(|l| format!("{l} halt")).collect();
     assert_eq!(both(s, &halted), "refused 6");
-    let mut repeated = many(16);
+    let mut repeated = many(32);
     repeated.push("0102".to_string());
     assert_eq!(both(s, &repeated), "refused 6");
     s.remark("a shorter UID that begins a longer one is no repetition");
     both(s, &texts(&["01020304", "01020304050607", "01020304050607080910"]));
     assert_eq!(both(s, &[]), "frames 1\nlog 000764C000");
+}
+
+/// T-06: what is lent, on either side of what a sweep asks for; 1 goes ahead of 6, and a card that is not made ahead of both.
+fn rooms(s: &mut Script<VectorsSweep>) {
+    s.remark("rooms that are lent, one byte under what is asked for, as asked, and more");
+    for log in [0, 24_575, 24_576, 65_535] {
+        for list in [0, 351, 352, 353] {
+            let answer = both(s, &[format!("room {log} {list}"), "01020304".to_string()]);
+            assert_eq!(answer == "refused 1", log < 24_576 || list < 352);
+        }
+    }
+    let with = |count: u8, line: &str| -> Vec<String> {
+        let mut lines: Vec<String> = (0..count).map(|i| format!("0102{:02X}04 halt", i * 5)).collect();
+        lines.push(line.to_string());
+        lines
+    };
+    for (count, line, answer) in
+        [(33, "room 24575 352", "refused 1"), (33, "room 24576 352", "refused 6"), (32, "room 24575 352", "refused 1")]
+    {
+        assert_eq!(both(s, &with(count, line)), answer);
+    }
+    assert!(both(s, &with(32, "room 24576 352")).starts_with("frames 1\n"));
+    assert_eq!(both(s, &texts(&["88020304", "room 0 0"])), "refused 6");
+    s.remark("the last line that is understood counts, wherever it stands");
+    assert_eq!(both(s, &texts(&["room 0 0", "01020304 halt", "room 65535 65535"])).lines().next(), Some("frames 1"));
+    assert_eq!(both(s, &texts(&["room 65535 65535", "01020304 halt", "room 0 0"])), "refused 1");
+    for line in ["room", "room 0", "room 0 0 0", "room 65536 0", "room 0 65536", "room - 0", "room 0 x", "Room 0 0", "rooms 0 0"] {
+        assert_eq!(both(s, &texts(&[line])).lines().last(), Some("log 000764C000"));
+    }
 }
 
 /// A locker field of four wristbands that part at the last bit of a byte.

@@ -1,14 +1,15 @@
--- `bench_field::report::say_cards` meets its contract. The loop's invariant: there are 16 cards. Assumes nothing.
+-- `bench_field::report::say_cards` meets its contract. The loop's invariant: there are as many cards as the limit. Assumes nothing.
 use Prim.Native.Nat.{_-_}
 use mathlib.Core.Path.{_≡_}
 use native.Mathlib.Omega.{arith}
 use borrow.Author.Needs.{needs}
 use lib.ListN.{length}
+use Rattle.limits.specs.Limits.{mostCards}
 use Rattle.bench_field.proofs.report.say_cards.Statement.{statement}
 use Rattle.bench_field.proofs.report.say_cards.Tie as tie
 
 abbrev Inv-loop : tie.InvT-loop
-Inv-loop count cards i₀ i = length cards ≡ 16
+Inv-loop count cards i₀ i = length cards ≡ mostCards
 
 abbrev μ-loop : tie.MeasureT-loop
 μ-loop count cards i₀ i = count - i

@@ -5,13 +5,14 @@ use native.Mathlib.Omega.{arith}
 use borrow.Author.Needs.{needs}
 use denote.Ref.{now}
 use lib.ListN.{length, length-set}
+use Rattle.limits.specs.Limits.{mostCards}
 use Rattle.field.specs.TakeLaws.{Under, under-turn, from-none, from-done, heard-none, front-fits}
 use Rattle.rows.specs.RowLaws.{overlay-nil}
 use Rattle.field.proofs.within.take_all.Statement.{statement}
 use Rattle.field.proofs.within.take_all.Tie as tie
 
 abbrev Inv-loop : tie.InvT-loop
-Inv-loop n frame heard₀ cards₀ bits₀ i₀ heard cards bits i = (i ≤ n) × (length cards ≡ 16) × (length cards₀ ≡ 16) × (length heard ≡ length heard₀) × Under heard₀ cards₀ n frame heard cards bits i
+Inv-loop n frame heard₀ cards₀ bits₀ i₀ heard cards bits i = (i ≤ n) × (length cards ≡ mostCards) × (length cards₀ ≡ mostCards) × (length heard ≡ length heard₀) × Under heard₀ cards₀ n frame heard cards bits i
 
 abbrev μ-loop : tie.MeasureT-loop
 μ-loop n frame heard₀ cards₀ bits₀ i₀ heard cards bits i = i

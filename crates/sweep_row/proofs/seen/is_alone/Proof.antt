@@ -4,6 +4,7 @@ use mathlib.Core.Bool.{not}
 use native.Mathlib.Omega.{arith}
 use borrow.Author.Needs.{needs}
 use lib.ListN.{length, take, drop}
+use Rattle.limits.specs.Limits.{mostCards}
 use Rattle.rows.specs.Rows.{any, same}
 use Rattle.uid.specs.Uid.{uidBytes}
 use Rattle.sweep_row.specs.SeenLaws.{any-next, any-here, any-done}
@@ -12,7 +13,7 @@ use Rattle.sweep_row.proofs.seen.is_alone.Tie as tie
 
 abbrev Inv-loop : tie.InvT-loop
 Inv-loop u start n uids i₀ i =
-    (start ≤ i) × (i ≤ n) × (length uids ≡ 16)
+    (start ≤ i) × (i ≤ n) × (length uids ≡ mostCards)
     × (any (λ v. same (uidBytes u) (uidBytes v)) (drop i (take n uids)) ≡ any (λ v. same (uidBytes u) (uidBytes v)) (drop start (take n uids)))
 
 abbrev μ-loop : tie.MeasureT-loop

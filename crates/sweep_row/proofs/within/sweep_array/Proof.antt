@@ -42,6 +42,7 @@ use denote.Triple.Walked.{says, needs, Stays, stay-dropped, gave-slice, walkOf, 
 use denote.Exit.{yes}
 use borrow.Table.Elements.{length-take-le, same-len}
 use borrow.Rule.Array.Share.{room-take}
+use Rattle.limits.specs.Limits.{mostCards}
 use Rattle.card.specs.declared.Card.{Card}
 use Rattle.reader.specs.declared.Reader.{Reader}
 use Rattle.sweep_row.specs.declared.RowSwept.{RowSwept}
@@ -70,7 +71,7 @@ use Rattle.sweep_row.proofs.within.sweep_array.Statement as stated
 use Rattle.sweep_row.proofs.within.sweep_array.Code as code
 
 abbrev stayed : Stays (self.ended .signature .params) (self.ended .kept)
-stayed = (stay-dropped (plain (λ _. E.the-row)) yes, (stay-dropped (ArrayOf (plain (λ _. T.the-row)) (λ _. tt) 16) yes, (stay-dropped (plain (λ _. usize)) yes, (gave-slice (0 ∷ []) tt (plain (λ _. u8)), (gave-slice (1 ∷ []) tt (plain (λ _. u8)), tt)))))
+stayed = (stay-dropped (plain (λ _. E.the-row)) yes, (stay-dropped (ArrayOf (plain (λ _. T.the-row)) (λ _. tt) mostCards) yes, (stay-dropped (plain (λ _. usize)) yes, (gave-slice (0 ∷ []) tt (plain (λ _. u8)), (gave-slice (1 ∷ []) tt (plain (λ _. u8)), tt)))))
 
 abbrev Bytes : Type 0
 Bytes = List ℕ
@@ -93,10 +94,10 @@ mswept s = vstruct (vcons (mcards (s .cards)) (vcons (mrow (s .swept)) vnil))
 
 -- the cards in an array, and in an array that is a struct's field
 abbrev Cards : RattleType
-Cards = Array T.the-row 16
+Cards = Array T.the-row mostCards
 
 tells-cards : Tells Cards (Is Cards) (λ k. mcards k ∷ [])
-tells-cards = array-tells T.the-row (LL.vals T.the-type T′.the-laws) (LL.tells T.the-type T′.the-laws) 16
+tells-cards = array-tells T.the-row (LL.vals T.the-type T′.the-laws) (LL.tells T.the-type T′.the-laws) mostCards
 
 each-field : (k : List Card) (us : List Val) → shadow (each Card (T.the-row .own) k us) → shadow (each (T.the-field .row .Denot) (T.the-field .row .own) (map (T.the-field .into) k) us)
 each-field [] [] h = h
@@ -104,7 +105,7 @@ each-field [] (u ∷ us) h = h
 each-field (c ∷ k) [] h = h
 each-field (c ∷ k) (u ∷ us) h = (h .0, each-field k us (h .1))
 
-in-field : (k : List Card) (vs : List Val) → Is Cards k vs → Is (array-field T.the-field 16 .row) (map (T.the-field .into) k) vs
+in-field : (k : List Card) (vs : List Val) → Is Cards k vs → Is (array-field T.the-field mostCards .row) (map (T.the-field .into) k) vs
 in-field k vs h = (h .0, ((h .1 .0 .0, length-map k (T.the-field .into) ∙ h .1 .0 .1), each-field k (h .0) (h .1 .1)))
 
 -- the contract that the proof cites
@@ -156,10 +157,10 @@ module _ {M : Type 1} (𝓤 : URA M) (H : Heap 𝓤) (A : Atoms 𝓤) (W : Given
     x₀ δ = record { ptr = (b, 0); name = δ; now = front }
 
     abbrev frontOf : ℕ → GName → Item 𝓤
-    frontOf ν δ = ‵ (frontAt T.the-row tt 16 b (named 0) (ν ∷ []) n δ front)
+    frontOf ν δ = ‵ (frontAt T.the-row tt mostCards b (named 0) (ν ∷ []) n δ front)
 
     abbrev keptOf : ℕ → GName → Item 𝓤
-    keptOf ν δ = ‵ (KeptOf T.the-row tt 16 b n ν δ rest)
+    keptOf ν δ = ‵ (KeptOf T.the-row tt mostCards b n ν δ rest)
 
     -- what the callee's triple binds outside: the row at a lifetime ν of its own, log and list at theirs
     abbrev to-row : ℕ → GName → Sweeping 𝓤 H A mem run .Ghost
@@ -180,12 +181,12 @@ module _ {M : Type 1} (𝓤 : URA M) (H : Heap 𝓤) (A : Atoms 𝓤) (W : Given
   abbrev Keeps : RowSwept → List Card → Bytes → Bytes → Type 0
   Keeps p ws lg ls = Sweeps r front (length front) log₀ list₀ (sweptRow p ws) lg ls
 
-  walk : (𝓣 : Tables 𝓤 H) → Triple 𝓤 (𝓣 .C #row) (Sweeping 𝓤 H A mem run) → n ≤ 16 → n < 2 ^ 64 → Room u8 (length log₀) → Room u8 (length list₀) → Is E.the-row r (mreader r ∷ []) → Is Cards cards (mcards cards ∷ [])
+  walk : (𝓣 : Tables 𝓤 H) → Triple 𝓤 (𝓣 .C #row) (Sweeping 𝓤 H A mem run) → n ≤ mostCards → n < 2 ^ 64 → Room u8 (length log₀) → Room u8 (length list₀) → Is E.the-row r (mreader r ∷ []) → Is Cards cards (mcards cards ∷ [])
       → ent 𝓤 (onEntry 𝓤 H A self.signature (κ₁, (κ₂, tt)) (q₁, (q₂, tt)) x at) (WpFn 𝓤 H (𝓣 .C) (𝓣 .Λ) code.function (mreader r ∷ mcards cards ∷ vint w64 n ∷ s₁ ∷ s₂ ∷ []) Post)
   walk 𝓣 known few gn gn₁ gn₂ gr gc =
       let long : length front ≡ n = length-take-le n cards (subst (λ (m : ℕ). n ≤ m) (sym (gc .1 .0 .1)) few) in
       let parted : Is Cards (front ++ rest) (mcards cards ∷ []) = subst (λ (k : List Card). Is Cards k (mcards cards ∷ [])) (sym (take-append-drop n cards)) gc in
-      let typed = array-lawful 𝓤 H A W T.the-row (LL.lawful T.the-type T′.the-laws 𝓤 H A W) 16 .typed in
+      let typed = array-lawful 𝓤 H A W T.the-row (LL.lawful T.the-type T′.the-laws 𝓤 H A W) mostCards .typed in
       qed W (Tokens ∷ ‵ (owns (E.the-row ∷ Cards ∷ usize ∷ MutSlice (named 0) κ₁ u8 ∷ MutSlice (named 1) κ₂ u8 ∷ []) x at) ∷ []) ∵
       enter ! (𝓣 .C) (𝓣 .Λ) code.function (mreader r ∷ mcards cards ∷ vint w64 n ∷ s₁ ∷ s₂ ∷ []) _ $
       alloc1 ! (λ l₀. alloc1 ! (λ l₁. alloc1 ! (λ l₂. alloc1 ! (λ l₃. alloc1 ! (λ l₄. alloc1 ! (λ l₅. alloc1 ! (λ l₆. alloc1 ! (λ l₇. alloc1 ! (λ l₈. alloc1 ! (λ l₉. alloc1 ! (λ l₁₀. alloc1 ! (λ l₁₁. alloc1 ! (λ l₁₂. alloc1 ! (λ l₁₃. alloc1 ! (λ l₁₄. alloc0 ! $ params1 ! $
@@ -202,7 +203,7 @@ module _ {M : Type 1} (𝓤 : URA M) (H : Heap 𝓤) (A : Atoms 𝓤) (W : Given
       move ! (31 ∷ []) $ fsplit ! $ drop ! $ fsplit ! $ drop ! $ fsplit ! $ drop ! $ fsplit ! $ move ! (1 ∷ []) $ fsplit ! $ move ! (1 ∷ []) $ drop ! $
       -- [list; log; the locals; the tokens]: the first n cards of _6 are lent
       move ! (18 ∷ []) $ use1 W (later (some (λ (ν : ℕ). some (λ (δ : GName). ‵ (flft (ν ∷ []) fullShare) ⊛ (frontOf l₆ ν δ ⊛ keptOf l₆ ν δ)))))
-      (lends-front T.the-row tt 16 l₆ 𝓤 H A W (array-makes 𝓤 H A W T.the-row (LL.makes T.the-type T′.the-plain 𝓤 H A) 16) (named 0) front rest (mcards cards) n long (room-take T.the-row 16 n cards (gc .1 .0 .1) (lit< tt, lit< tt)) parted) $
+      (lends-front T.the-row tt mostCards l₆ 𝓤 H A W (array-makes 𝓤 H A W T.the-row (LL.makes T.the-type T′.the-plain 𝓤 H A) mostCards) (named 0) front rest (mcards cards) n long (room-take T.the-row mostCards n cards (gc .1 .0 .1) (lit< tt, lit< tt)) parted) $
       await ! tt $ pick ! (λ ν. pick ! (λ δ. split ! $ move ! (1 ∷ []) $ split ! $
       -- [the row; what is kept; its token; list; log; the locals but _6; the tokens]
       move ! (2 ∷ 34 ∷ 0 ∷ 4 ∷ 3 ∷ []) $ group ! 5 $ use1 W (raw (Sweeping 𝓤 H A mem run .pre (to-row l₆ ν δ))) (asks l₆ ν δ gr) $
@@ -218,8 +219,8 @@ module _ {M : Type 1} (𝓤 : URA M) (H : Heap 𝓤) (A : Atoms 𝓤) (W : Given
       move ! (4 ∷ []) $ split ! $ split ! $ move ! (2 ∷ []) $ peeks ! R.the-row (Is R.the-row) (shows 𝓤 H A R.the-row) p (u ∷ []) (λ got.
       land ! (from ! (stop !)) (init ! 22 refl (LL.lawful R.the-type R′.the-laws 𝓤 H A W .typed p _ got .0)) $
       rewrite ! 22 (λ (w : Val). ‵ (fat fullShare R′.mir l₇ 0 w)) (ap only (LL.tells R.the-type R′.the-laws p (u ∷ []) got)) refl $ drop ! $
-      move ! (0 ∷ 6 ∷ 5 ∷ []) $ use3 W (later (given (Is Cards (zs .1 .0 ++ rest) (mcards (zs .1 .0 ++ rest) ∷ [])) (‵ (fat fullShare (arr-ty T.the-row tt 16 l₆) l₆ 0 (mcards (zs .1 .0 ++ rest))))))
-      (front-back T.the-row tt 16 l₆ 𝓤 H A W mcards tells-cards ν δ (zs .1 .0) rest n (e₀ ∙ long) (same-len n cards (zs .1 .0) e₀ ∙ gc .1 .0 .1)) $ await ! tt $ learn ! (λ ga.
+      move ! (0 ∷ 6 ∷ 5 ∷ []) $ use3 W (later (given (Is Cards (zs .1 .0 ++ rest) (mcards (zs .1 .0 ++ rest) ∷ [])) (‵ (fat fullShare (arr-ty T.the-row tt mostCards l₆) l₆ 0 (mcards (zs .1 .0 ++ rest))))))
+      (front-back T.the-row tt mostCards l₆ 𝓤 H A W mcards tells-cards ν δ (zs .1 .0) rest n (e₀ ∙ long) (same-len n cards (zs .1 .0) e₀ ∙ gc .1 .0 .1)) $ await ! tt $ learn ! (λ ga.
       let v : ArraySwept = record { cards = zs .1 .0 ++ rest; swept = p } in
       let gv : Is S.the-row v (mswept v ∷ []) = ((mcards (v .cards) ∷ [], (mrow p ∷ [], tt)), (refl, (in-field (v .cards) _ ga, (subst (λ (vs : List Val). Is R.the-row p vs) (LL.tells R.the-type R′.the-laws p (u ∷ []) got) got, tt)))) in
       -- [_6; the tokens; list's last; ..; log's last; the other locals]
@@ -235,13 +236,13 @@ module _ {M : Type 1} (𝓤 : URA M) (H : Heap 𝓤) (A : Atoms 𝓤) (W : Given
   array-walks = walked 𝓤 H A self.ended stayed (self.clauses 𝓤 H A mem run) (WpFn 𝓤 H (𝓣 .C) (𝓣 .Λ) code.function)
       (λ κs. (LL.vals E.the-type E′.the-laws, ((λ k. mcards k ∷ []), (uint-vals w64, (slice-vals, (slice-vals, tt))))))
       (λ κs. (LL.tells E.the-type E′.the-laws, (tells-cards, (uint-tells w64, (mut-slice-tells (named 0) (κs .0) u8, (mut-slice-tells (named 1) (κs .1 .0) u8, tt))))))
-      (λ κs qs bounds a g are. needs 𝓤 (a .1 .1 .0 ≤ 16) _ (λ few.
+      (λ κs qs bounds a g are. needs 𝓤 (a .1 .1 .0 ≤ mostCards) _ (λ few.
       walk 𝓤 H A W mem run (κs .0) (κs .1 .0) (qs .0) (qs .1 .0) (a .0) (a .1 .0) (a .1 .1 .0) (a .1 .1 .1 .0) (a .1 .1 .1 .1 .0) 𝓣 known few (are .1 .1 .0 .1) (are .1 .1 .1 .0 .0 .1) (are .1 .1 .1 .1 .0 .0 .1) (are .0) (are .1 .0)))
 
   array-meets : Meets 𝓤 H A self.signature (WpFn 𝓤 H (𝓣 .C) (𝓣 .Λ) code.function) (self.spec 𝓤 H A mem run)
   array-meets =
       walk-meets 𝓤 H A self.ended stayed W
-      (goes-dropped 𝓤 H A W 2 (plain (λ _. E.the-row)) yes (λ κs x f. refl), (goes-dropped 𝓤 H A W 2 (ArrayOf (plain (λ _. T.the-row)) (λ _. tt) 16) yes (λ κs x f. refl), (goes-dropped 𝓤 H A W 2 (plain (λ _. usize)) yes (λ κs x f. refl), (goes-gave-slice 𝓤 H A W 2 0 tt (plain (λ _. u8)), (goes-gave-slice 𝓤 H A W 2 1 tt (plain (λ _. u8)), tt)))))
+      (goes-dropped 𝓤 H A W 2 (plain (λ _. E.the-row)) yes (λ κs x f. refl), (goes-dropped 𝓤 H A W 2 (ArrayOf (plain (λ _. T.the-row)) (λ _. tt) mostCards) yes (λ κs x f. refl), (goes-dropped 𝓤 H A W 2 (plain (λ _. usize)) yes (λ κs x f. refl), (goes-gave-slice 𝓤 H A W 2 0 tt (plain (λ _. u8)), (goes-gave-slice 𝓤 H A W 2 1 tt (plain (λ _. u8)), tt)))))
       (self.clauses 𝓤 H A mem run) (WpFn 𝓤 H (𝓣 .C) (𝓣 .Λ) code.function) (WpFn-mono 𝓤 H (W .laws) 𝓣 code.function) array-walks
 
 pub sweep-array-spec : {M : Type 1} → stated.statement M

@@ -1,17 +1,18 @@
--- `vectors_calls::sweeps::good` meets its contract. The loop's invariant: there are 16 cards. Assumes nothing.
+-- `vectors_calls::sweeps::good` meets its contract. The loop's invariant: there are as many cards as the limit. Assumes nothing.
 use Prim.Native.Nat.{_-_, _≤_}
 use mathlib.Core.Path.{_≡_}
 use native.Mathlib.Omega.{arith}
 use borrow.Author.Needs.{needs}
 use lib.ListN.{length, length-set}
+use Rattle.limits.specs.Limits.{mostCards}
 use Rattle.vectors_calls.proofs.sweeps.good.Statement.{statement}
 use Rattle.vectors_calls.proofs.sweeps.good.Tie as tie
 
 abbrev Inv-loop : tie.InvT-loop
-Inv-loop cards₀ n₀ i₀ cards n i = (length cards ≡ 16) × (i ≤ 16)
+Inv-loop cards₀ n₀ i₀ cards n i = (length cards ≡ mostCards) × (i ≤ mostCards)
 
 abbrev μ-loop : tie.MeasureT-loop
-μ-loop cards₀ n₀ i₀ cards n i = 16 - i
+μ-loop cards₀ n₀ i₀ cards n i = mostCards - i
 
 numbered-requires : tie.Need-numbered-requires Inv-loop μ-loop
 numbered-requires c κs = tt
