@@ -1,0 +1,75 @@
+// What is refused with 13.
+use crate::Gate;
+use crate::Profile;
+ghost use mathlib.Core.Path.{_≡_};
+ghost use Rattle.front.specs.Front.{energy, energies, levelTaken, shareTaken, gateTaken, taken};
+
+// Is this number an energy: no NaN, no infinity, not below zero? Minus zero is zero. 1.0 / 0.0 is the infinity
+// above zero.
+fn is_energy(x: f32) -> bool
+    ensures { λ r. ⌜ r ≡ energy x ⌝ }
+{
+    if x >= 0.0 { x < 1.0 / 0.0 } else { false }
+}
+
+fn are_energies(halves: &[f32]) -> bool
+    ensures { λ r. ⌜ r ≡ energies (now (halves .entry)) ⌝ }
+{
+    for i in 0..halves.len() {
+        if !is_energy(halves[i]) {
+            return false;
+        }
+    }
+    true
+}
+
+// Is this a fixed level: an energy, and not zero?
+fn is_level(level: f32) -> bool
+    ensures { λ r. ⌜ r ≡ levelTaken level ⌝ }
+{
+    if is_energy(level) {
+        return level != 0.0;
+    }
+    false
+}
+
+fn is_share(share: f32, peak: f32) -> bool
+    ensures { λ r. ⌜ r ≡ shareTaken share peak ⌝ }
+{
+    if share > 0.0 {
+        if share <= 1.0 {
+            return share * peak != 0.0;
+        }
+    }
+    false
+}
+
+fn is_gate(gate: Gate, peak: f32) -> bool
+    ensures { λ r. ⌜ r ≡ gateTaken gate peak ⌝ }
+{
+    match gate {
+        Gate::Level(level) => is_level(level),
+        Gate::Share(share) => is_share(share, peak),
+        Gate::Off => true,
+    }
+}
+
+// Is all that was handed over taken? Else it is refused with 13.
+pub fn is_taken(profile: Profile, halves: &[f32]) -> bool
+    ensures { λ r. ⌜ r ≡ taken profile (now (halves .entry)) ⌝ }
+{
+    if halves.len() % 2 != 0 {
+        return false;
+    }
+    if !are_energies(halves) {
+        return false;
+    }
+    if !is_energy(profile.floor) {
+        return false;
+    }
+    if !is_energy(profile.peak) {
+        return false;
+    }
+    let gate = profile.gate;
+    is_gate(gate, profile.peak)
+}
