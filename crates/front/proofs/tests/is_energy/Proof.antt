@@ -1,5 +1,5 @@
 -- `front::tests::is_energy` meets its contract: it makes two comparisons. Assumes nothing.
-use Rattle.front.specs.FrontLaws.{energy-compared}
+use Rattle.front.specs.NumberLaws.{energy-compared}
 use Rattle.front.proofs.tests.is_energy.Statement.{statement}
 use Rattle.front.proofs.tests.is_energy.Tie as tie
 
