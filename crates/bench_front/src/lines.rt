@@ -3,7 +3,6 @@ use crate::Bench;
 use crate::Reply;
 use bench_talk::Answer;
 use front::Heard;
-use front::Profile;
 
 // The words of the answers, by their numbers in the list of with_word.
 const OK: usize = 0;
@@ -43,10 +42,11 @@ fn profile(bench: Bench, text: &[u8]) -> Reply {
     if !l.is_understood {
         return none(bench);
     }
+    let after = l.profile;
     let places = bench.places;
     Reply {
         bench: Bench {
-            profile: l.profile,
+            profile: after,
             places,
             room: bench.room,
         },
