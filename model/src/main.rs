@@ -1,6 +1,7 @@
 //! The independent model of document 01. README.md says how to run it.
 
 mod bench_card;
+mod bench_front;
 mod bench_reader;
 mod bench_sweep;
 mod blocks;
@@ -10,6 +11,7 @@ mod coverage;
 mod crc;
 mod exchange;
 mod frames;
+mod front;
 mod known;
 mod language;
 mod log;
@@ -26,7 +28,7 @@ mod vectors_frame;
 mod write;
 
 const USAGE: &str = "\
-model vectors_frame | vectors_sweep | vectors_exchange | vectors_calls | bench_sweep | bench_card | bench_reader
+model vectors_frame | vectors_front | vectors_sweep | vectors_exchange | vectors_calls | bench_sweep | bench_card | bench_reader | bench_front
                                          play a script from standard input
 model write DIR                          write the stored scripts and their answers
 model check DIR                          compare the stored ones with what would be written
@@ -64,6 +66,8 @@ fn main() {
         ["vectors_calls"] => language::play(vectors_calls::VectorsCalls::new()),
         ["bench_sweep"] => language::play(bench_sweep::BenchSweep::default()),
         ["bench_card"] => language::play(bench_card::BenchCard::new()),
+        ["bench_front"] => language::play(bench_front::BenchFront::new()),
+        ["vectors_front"] => language::play(bench_front::VectorsFront::new()),
         ["bench_reader"] => language::play(bench_reader::BenchReader::new()),
         ["write", folder] => report(write::write(folder)),
         ["check", folder] => report(write::check(folder)),
