@@ -38,6 +38,11 @@ minus-floor level e = rw (as-zero e .minus-lt)
 
 -- ---- rows
 
+-- the halves of a row that is sent with a strong and a weak energy
+unfoldable pub halvesOf : Float → Float → List ℕ → List Float
+halvesOf strong weak [] = []
+halvesOf strong weak (b ∷ r) = cond (eqb b 0) weak strong ∷ cond (eqb b 1) weak strong ∷ halvesOf strong weak r
+
 module _ (level floor : Float) where
   -- 0, 1, and 2 for a collided bit: what the frame code reads
   pub row-elements : (h : List Float) → All (λ x. x < 3) (rowAt level floor h)
@@ -62,11 +67,6 @@ module _ (level floor : Float) where
       ap
       (λ (r : List ℕ). cond (ending (loaded level floor u) (loaded level floor v)) [] (bitOf (loaded level floor u) (loaded level floor v) ∷ r))
       (behind-end a x y b (omega arith) p q)
-
-  -- the halves of a row that is sent with a strong and a weak energy
-  unfoldable pub halvesOf : Float → Float → List ℕ → List Float
-  halvesOf strong weak [] = []
-  halvesOf strong weak (b ∷ r) = cond (eqb b 0) weak strong ∷ cond (eqb b 1) weak strong ∷ halvesOf strong weak r
 
   -- every row of 0, 1 and 2 is received as it was sent
   pub as-sent : (strong weak : Float) → loaded level floor strong ≡ true → loaded level floor weak ≡ false

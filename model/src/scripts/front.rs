@@ -75,7 +75,7 @@ pub fn script(seed: u64) -> S {
     every_length(&mut s, &mut random);
     every_end(&mut s, &mut random);
     s.remark("random rows");
-    for _ in 0..90 {
+    for _ in 0..80 {
         random_row(&mut s, &mut random);
     }
     s.remark("random numbers");
@@ -438,6 +438,17 @@ fn longest(s: &mut S) {
     s.say(&halves_line(&[ONE; 2047]));
     s.say("room 1023");
     s.say(&halves_line(&[ONE; 2046]));
+}
+
+/// Random rows and random numbers, for larger comparisons.
+pub fn random_scripts(count: usize, seed: u64) -> S {
+    let mut s = Script::new(BenchFront::new());
+    let mut random = Random::new(seed);
+    for _ in 0..count {
+        random_row(&mut s, &mut random);
+        random_numbers(&mut s, &mut random);
+    }
+    s
 }
 
 // ---- from energies to a selected card
