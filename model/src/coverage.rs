@@ -269,7 +269,9 @@ pub fn report() -> Result<(), String> {
             missing.push(format!("not reached: {} / {} / {}", key.0, key.1, key.2));
         }
     }
-    for (key, count) in benches.iter().chain(&exchanges).chain(&fronts).chain(calls.iter().filter(|(key, _)| key.0.starts_with("call"))) {
+    for (key, count) in
+        benches.iter().chain(&exchanges).chain(&fronts).chain(calls.iter().filter(|(key, _)| key.0.starts_with("call")))
+    {
         if !expected.contains(key) && !of_calls.contains(key) {
             missing.push(format!("reached {count} times but not in the list: {} / {} / {}", key.0, key.1, key.2));
         }

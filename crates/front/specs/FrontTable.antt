@@ -45,6 +45,9 @@ pub record FrontTable : Type 0 where
   -- floor 0.1, a quarter of a peak of 4: first half alone, second alone (the first is at the floor), both; the end; a half behind it
   pub row : rowOf share (map f worked) ≡ 1 ∷ 0 ∷ 2 ∷ []
   pub row-taken : taken share (map f worked) ≡ true
+  -- .. a strong half and a weak one, for `as-sent`
+  pub strong : loaded (f 0x3F800000) (f 0x3DCCCCCD) (f 0x40800000) ≡ true
+  pub weak : loaded (f 0x3F800000) (f 0x3DCCCCCD) (f 0x3F7FFFFF) ≡ false
   -- .. off
   pub off : rowOf (record { floor = f 0; peak = f 0; gate = Off }) (map f worked) ≡ []
 
@@ -70,5 +73,7 @@ front-table = record {
   peak-zero = refl;
   row = refl;
   row-taken = refl;
+  strong = refl;
+  weak = refl;
   off = refl;
 }
