@@ -29,22 +29,31 @@ unfoldable pub energies : List Float → Bool
 energies [] = true
 energies (x ∷ h) = energy x && energies h
 
+-- the level: the gate's own, or "a share times the profile's peak is rounded once"; off has none, and 0 stands in its place
+abbrev pub levelOf : Gate → Float → Float
+levelOf (Level l) peak = l
+levelOf (Share s) peak = mul binary32 s peak
+levelOf Off peak = zero
+
 -- not "a level that comes out 0"
 unfoldable pub levelTaken : Float → Bool
 levelTaken l = energy l && ne l zero
 
--- not "a share not above 0 and at most 1, or a level that comes out 0": "a share times the profile's peak is rounded once"
+-- not "a share not above 0 and at most 1, or a level that comes out 0"
 unfoldable pub shareTaken : Float → Float → Bool
-shareTaken s peak = lt zero s && le s one && ne (mul binary32 s peak) zero
+shareTaken s level = lt zero s && le s one && ne level zero
 
 abbrev pub gateTaken : Gate → Float → Bool
-gateTaken (Level l) peak = levelTaken l
-gateTaken (Share s) peak = shareTaken s peak
-gateTaken Off peak = true
+gateTaken (Level l) level = levelTaken l
+gateTaken (Share s) level = shareTaken s level
+gateTaken Off level = true
 
--- the whole test for 13: "A lone last half is 13"
-unfoldable pub taken : Profile → List Float → Bool
-taken p h = eqb (length h % 2) 0 && energies h && energy (p .floor) && energy (p .peak) && gateTaken (p .gate) (p .peak)
+-- the whole test for 13, at a level: "A lone last half is 13"
+unfoldable pub takenAt : Profile → Float → List Float → Bool
+takenAt p level h = eqb (length h % 2) 0 && energies h && energy (p .floor) && energy (p .peak) && gateTaken (p .gate) level
+
+abbrev pub taken : Profile → List Float → Bool
+taken p h = takenAt p (levelOf (p .gate) (p .peak)) h
 
 -- ---- halves, bits, the end, the row
 
@@ -72,9 +81,9 @@ rowAt level floor (a ∷ b ∷ h) =
 
 -- "The gate is a fixed level, a share of the strongest half heard, or off (then every row is silence)"
 abbrev pub gated : Gate → Float → Float → List Float → List ℕ
-gated (Level l) floor peak h = rowAt l floor h
-gated (Share s) floor peak h = rowAt (mul binary32 s peak) floor h
-gated Off floor peak h = []
+gated (Level l) level floor h = rowAt level floor h
+gated (Share s) level floor h = rowAt level floor h
+gated Off level floor h = []
 
 abbrev pub rowOf : Profile → List Float → List ℕ
-rowOf p h = gated (p .gate) (p .floor) (p .peak) h
+rowOf p h = gated (p .gate) (levelOf (p .gate) (p .peak)) (p .floor) h

@@ -16,7 +16,7 @@ use Rattle.rows.specs.ListLaws.{both}
 use Rattle.front.specs.declared.Gate.{Gate}
 use Rattle.front.specs.declared.Gate.the-variants.{Level, Share, Off}
 use Rattle.front.specs.declared.Profile.{Profile}
-use Rattle.front.specs.Front.{zero, one, energy, energies, levelTaken, shareTaken, gateTaken, taken}
+use Rattle.front.specs.Front.{zero, one, energy, energies, levelOf, levelTaken, shareTaken, gateTaken, takenAt, taken}
 
 -- two comparisons of the machine tell an energy
 pub energy-compared : (x : Float) → energy x ≡ (le zero x && lt x (div binary32 one zero))
@@ -53,28 +53,29 @@ energies-append [] b p q = q
 energies-append (x ∷ a) b p q = let e = both (energy x) (energies a) p in rw (e .0) (energies-append a b (e .1) q)
 
 -- "a share not above 0 and at most 1" keeps out whatever is no energy
-pub share-energy : (s peak : Float) → shareTaken s peak ≡ true → energy s ≡ true
+pub share-energy : (s l : Float) → shareTaken s l ≡ true → energy s ≡ true
 unfolding energy shareTaken lt le eq ofBits
-share-energy nan peak t = absurd (false≢true t)
-share-energy (inf true) peak t = absurd (false≢true t)
-share-energy (inf false) peak t = absurd (false≢true t)
-share-energy (fin true m e) peak t = absurd (false≢true t)
-share-energy (fin false m e) peak t = refl
+share-energy nan l t = absurd (false≢true t)
+share-energy (inf true) l t = absurd (false≢true t)
+share-energy (inf false) l t = absurd (false≢true t)
+share-energy (fin true m e) l t = absurd (false≢true t)
+share-energy (fin false m e) l t = refl
 
-gate-energies : (g : Gate) (peak : Float) → gateTaken g peak ≡ true → energies (gateNumbers g) ≡ true
+gate-energies : (g : Gate) (v : Float) → gateTaken g v ≡ true → energies (gateNumbers g) ≡ true
 unfolding energies levelTaken
-gate-energies (Level l) peak t = rw (both (energy l) (ne l zero) t .0)
-gate-energies (Share s) peak t = rw (share-energy s peak t)
-gate-energies Off peak t = refl
+gate-energies (Level l) v t = rw (both (energy l) (ne l zero) t .0)
+gate-energies (Share s) v t = rw (share-energy s v t)
+gate-energies Off v t = refl
 
 pub handed-energies : (p : Profile) (h : List Float) → taken p h ≡ true → energies (handedIn p h) ≡ true
-unfolding taken energies
+unfolding takenAt energies
 handed-energies p h t =
-    let g = both _ (gateTaken (p .gate) (p .peak)) t in
+    let v = levelOf (p .gate) (p .peak) in
+    let g = both _ (gateTaken (p .gate) v) t in
     let k = both _ (energy (p .peak)) (g .0) in
     let f = both _ (energy (p .floor)) (k .0) in
     let e = both (eqb (length h % 2) 0) (energies h) (f .0) in
-    energies-append h _ (e .1) (rw (f .1, k .1) (gate-energies (p .gate) (p .peak) (g .1)))
+    energies-append h _ (e .1) (rw (f .1, k .1) (gate-energies (p .gate) v (g .1)))
 
 any-wrong : (l : List Float) → any (λ x. not (energy x)) l ≡ true → energies l ≡ false
 unfolding any energies

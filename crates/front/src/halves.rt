@@ -1,9 +1,21 @@
-// Which halves are loaded, and the bits that they make.
+// The level, which halves are loaded, and the bits that they make.
+use crate::Gate;
 ghost use mathlib.Core.Path.{_≡_};
 ghost use Prim.Native.Nat.{_/_, _≤_};
 ghost use lib.ListN.{length};
 ghost use Rattle.rows.specs.Rows.{overlay};
-ghost use Rattle.front.specs.Front.{loaded, ending, bitOf, rowAt};
+ghost use Rattle.front.specs.Front.{levelOf, loaded, ending, bitOf, rowAt};
+
+// The gate's own level, or "a share times the profile's peak"; 0 where the gate is off and has none.
+pub fn level_of(gate: Gate, peak: f32) -> f32
+    ensures { λ r. ⌜ r ≡ levelOf gate peak ⌝ }
+{
+    match gate {
+        Gate::Level(level) => level,
+        Gate::Share(share) => share * peak,
+        Gate::Off => 0.0,
+    }
+}
 
 // "A half is loaded when its energy is at least the level and above the floor"
 fn is_loaded(level: f32, floor: f32, energy: f32) -> bool

@@ -41,16 +41,14 @@ pub fn receive(profile: Profile, halves: &[f32], places: &mut [u8]) -> Heard
     if places.len() < halves.len() / 2 {
         return Heard::NoRoom;
     }
-    if !tests::is_taken(profile, halves) {
+    let gate = profile.gate;
+    let level = halves::level_of(gate, profile.peak);
+    if !tests::is_taken(profile, level, halves) {
         return Heard::NotEnergies;
     }
-    let gate = profile.gate;
     match gate {
-        Gate::Level(level) => Heard::Bits(halves::write(level, profile.floor, halves, places)),
-        Gate::Share(share) => {
-            let level = share * profile.peak;
-            Heard::Bits(halves::write(level, profile.floor, halves, places))
-        }
+        Gate::Level(_) => Heard::Bits(halves::write(level, profile.floor, halves, places)),
+        Gate::Share(_) => Heard::Bits(halves::write(level, profile.floor, halves, places)),
         Gate::Off => Heard::Bits(0),
     }
 }

@@ -2,7 +2,7 @@
 use crate::Gate;
 use crate::Profile;
 ghost use mathlib.Core.Path.{_≡_};
-ghost use Rattle.front.specs.Front.{energy, energies, levelTaken, shareTaken, gateTaken, taken};
+ghost use Rattle.front.specs.Front.{energy, energies, levelTaken, shareTaken, gateTaken, takenAt};
 
 // Is this number an energy: no NaN, no infinity, not below zero? Minus zero is zero. 1.0 / 0.0 is the infinity
 // above zero.
@@ -24,39 +24,40 @@ fn are_energies(halves: &[f32]) -> bool
 }
 
 // Is this a fixed level: an energy, and not zero?
-fn is_level(level: f32) -> bool
-    ensures { λ r. ⌜ r ≡ levelTaken level ⌝ }
+fn is_level(own: f32) -> bool
+    ensures { λ r. ⌜ r ≡ levelTaken own ⌝ }
 {
-    if is_energy(level) {
-        return level != 0.0;
+    if is_energy(own) {
+        return own != 0.0;
     }
     false
 }
 
-fn is_share(share: f32, peak: f32) -> bool
-    ensures { λ r. ⌜ r ≡ shareTaken share peak ⌝ }
+// Is this a share, above 0 and at most 1, and the level that it comes to not zero?
+fn is_share(share: f32, level: f32) -> bool
+    ensures { λ r. ⌜ r ≡ shareTaken share level ⌝ }
 {
     if share > 0.0 {
         if share <= 1.0 {
-            return share * peak != 0.0;
+            return level != 0.0;
         }
     }
     false
 }
 
-fn is_gate(gate: Gate, peak: f32) -> bool
-    ensures { λ r. ⌜ r ≡ gateTaken gate peak ⌝ }
+fn is_gate(gate: Gate, level: f32) -> bool
+    ensures { λ r. ⌜ r ≡ gateTaken gate level ⌝ }
 {
     match gate {
-        Gate::Level(level) => is_level(level),
-        Gate::Share(share) => is_share(share, peak),
+        Gate::Level(own) => is_level(own),
+        Gate::Share(share) => is_share(share, level),
         Gate::Off => true,
     }
 }
 
-// Is all that was handed over taken? Else it is refused with 13.
-pub fn is_taken(profile: Profile, halves: &[f32]) -> bool
-    ensures { λ r. ⌜ r ≡ taken profile (now (halves .entry)) ⌝ }
+// Is all that was handed over taken, the gate coming to this level? Else it is refused with 13.
+pub fn is_taken(profile: Profile, level: f32, halves: &[f32]) -> bool
+    ensures { λ r. ⌜ r ≡ takenAt profile level (now (halves .entry)) ⌝ }
 {
     if halves.len() % 2 != 0 {
         return false;
@@ -71,5 +72,5 @@ pub fn is_taken(profile: Profile, halves: &[f32]) -> bool
         return false;
     }
     let gate = profile.gate;
-    is_gate(gate, profile.peak)
+    is_gate(gate, level)
 }

@@ -3,19 +3,19 @@ use mathlib.Core.Path.{_≡_, sym, _∙_}
 use mathlib.Core.Bool.{true, false}
 use borrow.Author.Needs.{needs}
 use borrow.Author.Tests.{eq-eqb, ne-eqb, not-true, not-false}
-use Rattle.front.specs.Front.{taken}
+use Rattle.front.specs.Front.{takenAt}
 use Rattle.front.proofs.tests.is_taken.Statement.{statement}
 use Rattle.front.proofs.tests.is_taken.Tie as tie
 
 returns : tie.Need-returns
-unfolding taken
+unfolding takenAt
 returns c = simp (ne-eqb _ _ (c .if1 .taken))
 
 are-energies-requires : tie.Need-are-energies-requires
 are-energies-requires c κs = search needs
 
 returns-2 : tie.Need-returns-2
-unfolding taken
+unfolding takenAt
 returns-2 c =
     simp (eq-eqb _ _ (c .before .before .if1 .left), sym (c .before .are-energies .ensures) ∙ not-true _ (c .if2 .taken))
 
@@ -23,7 +23,7 @@ is-energy-requires : tie.Need-is-energy-requires
 is-energy-requires c κs = search needs
 
 returns-3 : tie.Need-returns-3
-unfolding taken
+unfolding takenAt
 returns-3 c =
     let d = c .before .before in
     simp
@@ -33,7 +33,7 @@ is-energy-requires-2 : tie.Need-is-energy-requires-2
 is-energy-requires-2 c κs = search needs
 
 returns-4 : tie.Need-returns-4
-unfolding taken
+unfolding takenAt
 returns-4 c =
     let e = c .before .before in
     let d = e .before .before in
@@ -44,7 +44,7 @@ is-gate-requires : tie.Need-is-gate-requires
 is-gate-requires c κs = search needs
 
 returns-5 : tie.Need-returns-5
-unfolding taken
+unfolding takenAt
 returns-5 c =
     let f = c .before in
     let e = f .before .before in
