@@ -250,7 +250,8 @@ mod tests {
         for round in 0..400_000 {
             let mut draw = || {
                 let field = if round % 2 == 0 { random.below(255) } else { random.pick(&[0, 0, 1, 2, 23, 24, 63, 64, 126, 127]) };
-                ((field as u32) << 23) + random.pick(&[0, 1, 2, 3, 0x40_0000, 0x7F_FFFF, random.below(0x80_0000) as u32])
+                let any = random.below(0x80_0000) as u32;
+                ((field as u32) << 23) + random.pick(&[0, 1, 2, 3, 0x40_0000, 0x7F_FFFF, any])
             };
             let (a, b) = (draw(), draw());
             let (x, y) = (f32::from_bits(a), f32::from_bits(b));

@@ -10,6 +10,7 @@ use Rattle.front.specs.declared.Gate.{Gate}
 use Rattle.front.specs.declared.Gate.the-variants.{Level, Share, Off}
 use Rattle.front.specs.declared.Profile.{Profile}
 
+-- 0 and 1, by their bits
 abbrev pub zero : Float
 zero = ofBits binary32 0
 

@@ -4,14 +4,14 @@ use crate::Profile;
 ghost use mathlib.Core.Path.{_≡_};
 ghost use Rattle.front.specs.Front.{energy, energies, levelTaken, shareTaken, gateTaken, takenAt};
 
-// Is this number an energy: no NaN, no infinity, not below zero? Minus zero is zero. 1.0 / 0.0 is the infinity
-// above zero.
+// Is this number an energy: no NaN, no infinity, not below zero? Minus zero is zero. 1.0 / 0.0 is the infinity above zero.
 fn is_energy(x: f32) -> bool
     ensures { λ r. ⌜ r ≡ energy x ⌝ }
 {
     if x >= 0.0 { x < 1.0 / 0.0 } else { false }
 }
 
+// Are all halves energies, those after the end too?
 fn are_energies(halves: &[f32]) -> bool
     ensures { λ r. ⌜ r ≡ energies (now (halves .entry)) ⌝ }
 {
@@ -45,6 +45,7 @@ fn is_share(share: f32, level: f32) -> bool
     false
 }
 
+// Is this a gate, and does it come to a level that is not zero? Off comes to none.
 fn is_gate(gate: Gate, level: f32) -> bool
     ensures { λ r. ⌜ r ≡ gateTaken gate level ⌝ }
 {
