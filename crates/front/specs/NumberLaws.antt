@@ -110,6 +110,37 @@ below-zero-wrong (fin true none e) l = absurd (omega (arith, ltb-true 0 (0 * up 
 below-zero-wrong (fin true (suc m) e) l = ne-eqb (suc m) 0 (λ z. omega arith)
 below-zero-wrong (fin false m e) l = absurd (omega (arith, ltb-true (m * up e * 1) (0 * down e) l, zero-mul (down e)))
 
+-- ---- 13: the count of halves, the share, the level
+
+no-and : (a b : Bool) → b ≡ false → (a && b) ≡ false
+no-and true b h = h
+no-and false b h = refl
+
+-- "A lone last half is 13"
+pub lone-wrong : (p : Profile) (h : List Float) → length h % 2 ≡ 1 → taken p h ≡ false
+unfolding takenAt
+lone-wrong p h e = rw (ne-eqb (length h % 2) 0 (λ z. omega arith))
+
+-- a gate that is not taken
+pub gate-wrong : (p : Profile) (h : List Float) → gateTaken (p .gate) (levelOf (p .gate) (p .peak)) ≡ false → taken p h ≡ false
+unfolding takenAt
+gate-wrong p h e =
+    no-and (eqb (length h % 2) 0 && energies h && energy (p .floor) && energy (p .peak)) (gateTaken (p .gate) (levelOf (p .gate) (p .peak))) e
+
+-- "a share not above 0 and at most 1"
+pub share-wrong : (s peak : Float) → (lt zero s && le s one) ≡ false → gateTaken (Share s) (levelOf (Share s) peak) ≡ false
+unfolding shareTaken
+share-wrong s peak e = rw e
+
+-- "a level that comes out 0", as the product and as a fixed level
+pub product-wrong : (s peak : Float) → ne (mul binary32 s peak) zero ≡ false → gateTaken (Share s) (levelOf (Share s) peak) ≡ false
+unfolding shareTaken
+product-wrong s peak e = no-and (lt zero s && le s one) (ne (mul binary32 s peak) zero) e
+
+pub level-wrong : (l peak : Float) → ne l zero ≡ false → gateTaken (Level l) (levelOf (Level l) peak) ≡ false
+unfolding levelTaken
+level-wrong l peak e = no-and (energy l) (ne l zero) e
+
 -- ---- comparisons of a number with itself, and of minus zero
 
 pub lt-self : (x : Float) → lt x x ≡ false
