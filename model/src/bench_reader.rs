@@ -19,7 +19,7 @@ impl BenchReader {
     }
 }
 
-fn result(answer: Answer) -> String {
+pub fn result(answer: Answer) -> String {
     match answer {
         Answer::Send(row) => format!("send {}", show_row(&row)),
         Answer::Selected { uid, sak } => format!("selected {} {sak:02X}", show_hex(&uid)),

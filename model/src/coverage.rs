@@ -170,6 +170,31 @@ fn expected() -> Vec<Key> {
     keys
 }
 
+/// The places that `bench_front` must reach (T-01): what is no energy, by where it stands; the gate; halves, bits, the end; rows of every length.
+fn expected_of_front() -> Vec<Key> {
+    let mut keys = Vec::new();
+    let mut add = |table: &str, rows: &[&str], columns: &[&str]| {
+        for row in rows {
+            keys.extend(columns.iter().map(|column| (table.to_string(), row.to_string(), column.to_string())));
+        }
+    };
+    let kinds = ["NaN", "infinity", "minus infinity", "below zero", "minus zero"];
+    add("front number", &["half", "half behind the end", "floor", "peak", "level", "share"], &kinds);
+    add("front gate", &["share"], &["0", "under 1", "1", "over 1"]);
+    add("front gate", &["level", "product"], &["0, peak 0", "0, peak above 0", "subnormal", "normal"]);
+    add("front gate", &["off"], &["silence"]);
+    let floors = ["below the floor", "at the floor", "above the floor"];
+    add("front half", &["below the level", "at the level", "above the level"], &floors);
+    add("front bit", &["0", "1", "x"], &["heard"]);
+    add("front bit", &["the end"], &["first", "later"]);
+    add("front room", &["too small"], &["whole bits", "a lone half"]);
+    add("front room", &["just enough", "more"], &["taken"]);
+    add("front count", &["odd"], &["13"]);
+    let lengths: Vec<String> = (0..=64).chain([1023]).map(|bits| bits.to_string()).collect();
+    add("front row", &["length"], &lengths.iter().map(|length| length.as_str()).collect::<Vec<_>>());
+    keys
+}
+
 /// The places that `vectors_calls` must reach: every refusal of every call, and what a bench cannot lend.
 fn expected_of_calls() -> Vec<Key> {
     let mut keys = Vec::new();
@@ -217,8 +242,8 @@ fn expected_of_calls() -> Vec<Key> {
 /// Plays the stored scripts and prints what they reached; an error names what they did not.
 pub fn report() -> Result<(), String> {
     // Each table is to be reached by its own scripts: those of the card and of the reader by the two benches, the exchanges by theirs, the
-    // calls by theirs, and of the fields of `vectors_sweep` only what is lent and how many cards there are. The cards with which the random reader
-    // scripts were drawn up do not count.
+    // calls and the front end by theirs, and of the fields of `vectors_sweep` only what is lent and how many cards there are. The cards with which the
+    // random reader scripts were drawn up do not count.
     crate::write::bench_scripts();
     let benches = reached();
     crate::write::exchange_script();
@@ -227,7 +252,10 @@ pub fn report() -> Result<(), String> {
     let calls = reached();
     crate::write::field_script();
     let fields = reached();
-    let expected = expected();
+    crate::write::front_script();
+    let fronts = reached();
+    let mut expected = expected();
+    expected.extend(expected_of_front());
     let of_calls = expected_of_calls();
     let mut missing = Vec::new();
     let mut table = String::new();
@@ -236,6 +264,7 @@ pub fn report() -> Result<(), String> {
             true => &calls,
             false if key.0.starts_with("exchange") => &exchanges,
             false if key.0.starts_with("field") => &fields,
+            false if key.0.starts_with("front") => &fronts,
             false => &benches,
         };
         if *key.0 != table {
@@ -248,7 +277,9 @@ pub fn report() -> Result<(), String> {
             missing.push(format!("not reached: {} / {} / {}", key.0, key.1, key.2));
         }
     }
-    for (key, count) in benches.iter().chain(&exchanges).chain(calls.iter().filter(|(key, _)| key.0.starts_with("call"))) {
+    for (key, count) in
+        benches.iter().chain(&exchanges).chain(&fronts).chain(calls.iter().filter(|(key, _)| key.0.starts_with("call")))
+    {
         if !expected.contains(key) && !of_calls.contains(key) {
             missing.push(format!("reached {count} times but not in the list: {} / {} / {}", key.0, key.1, key.2));
         }

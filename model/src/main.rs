@@ -1,6 +1,7 @@
 //! The independent model of document 01. README.md says how to run it.
 
 mod bench_card;
+mod bench_front;
 mod bench_reader;
 mod bench_sweep;
 mod blocks;
@@ -10,6 +11,7 @@ mod coverage;
 mod crc;
 mod exchange;
 mod frames;
+mod front;
 mod known;
 mod language;
 mod log;
@@ -26,12 +28,12 @@ mod vectors_frame;
 mod write;
 
 const USAGE: &str = "\
-model vectors_frame | vectors_sweep | vectors_exchange | vectors_calls | bench_sweep | bench_card | bench_reader
+model vectors_frame | vectors_front | vectors_sweep | vectors_exchange | vectors_calls | bench_sweep | bench_card | bench_reader | bench_front
                                          play a script from standard input
 model write DIR                          write the stored scripts and their answers
 model check DIR                          compare the stored ones with what would be written
 model coverage                           what the stored scripts reach
-model scripts card|reader|field|exchange COUNT SEED   random scripts for larger comparisons";
+model scripts card|reader|field|exchange|front COUNT SEED   random scripts for larger comparisons";
 
 fn report(outcome: Result<(), String>) {
     if let Err(what) = outcome {
@@ -48,7 +50,8 @@ fn random_scripts(kind: &str, count: &str, seed: &str) -> Result<(), String> {
         "reader" => scripts::reader::random_scripts(count, seed).input,
         "field" => scripts::field::random_scripts(count, seed).input,
         "exchange" => scripts::exchange::random_scripts(count, seed).input,
-        _ => return Err("scripts for card, reader, field or exchange".to_string()),
+        "front" => scripts::front::random_scripts(count, seed).input,
+        _ => return Err("scripts for card, reader, field, exchange or front".to_string()),
     };
     print!("{text}");
     Ok(())
@@ -64,6 +67,8 @@ fn main() {
         ["vectors_calls"] => language::play(vectors_calls::VectorsCalls::new()),
         ["bench_sweep"] => language::play(bench_sweep::BenchSweep::default()),
         ["bench_card"] => language::play(bench_card::BenchCard::new()),
+        ["bench_front"] => language::play(bench_front::BenchFront::new()),
+        ["vectors_front"] => language::play(bench_front::VectorsFront::new()),
         ["bench_reader"] => language::play(bench_reader::BenchReader::new()),
         ["write", folder] => report(write::write(folder)),
         ["check", folder] => report(write::check(folder)),

@@ -1,4 +1,4 @@
-//! Document 01, "When the core declines": the twelve numbers by name; and the byte index that T-07 adds.
+//! Document 01, "When the core declines": the twelve numbers by name; the byte index that T-07 adds; and T-01's number.
 
 use std::fmt;
 
@@ -30,6 +30,7 @@ pub const FORBIDDEN: Refusal = numbered(9);
 pub const MESSAGE: Refusal = numbered(10);
 pub const NOT_DUE: Refusal = numbered(11);
 pub const REPEATS: Refusal = numbered(12);
+pub const ENERGY: Refusal = numbered(13);
 
 /// As the programs print it behind `refused `: `3 B`, and every other number alone.
 impl fmt::Display for Refusal {

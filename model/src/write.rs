@@ -30,6 +30,8 @@ pub fn all() -> Vec<Stored> {
         stored("bench_card", card),
         stored("bench_reader", reader),
         stored("bench_sweep", scripts::field::locker()),
+        stored("bench_front", scripts::front::script(SEED + 8)),
+        stored("vectors_front", scripts::front::selections(SEED + 9)),
     ]
 }
 
@@ -68,6 +70,14 @@ pub fn exchange_script() {
     let input = exchange().input;
     crate::coverage::forget();
     let mut replayed = Script::new(crate::vectors_exchange::VectorsExchange::default());
+    input.lines().for_each(|line| drop(replayed.say(line)));
+}
+
+/// Plays the script of the front end again, for what it reaches.
+pub fn front_script() {
+    let input = scripts::front::script(SEED + 8).input;
+    crate::coverage::forget();
+    let mut replayed = Script::new(crate::bench_front::BenchFront::new());
     input.lines().for_each(|line| drop(replayed.say(line)));
 }
 
