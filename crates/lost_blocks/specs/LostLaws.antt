@@ -2,7 +2,7 @@
 use mathlib.Core.Path.{_≡_, refl, sym, ap, _∙_}
 use mathlib.Core.Bool.{Bool, true, false, cond, Bool·beq as same}
 use mathlib.Core.List.{List, [], _∷_, _++_}
-use Prim.Native.Nat.{ℕ, suc, _+_, _-_, _≤_}
+use Prim.Native.Nat.{ℕ, suc, _+_, _-_, _*_, _≤_}
 use native.Mathlib.Nat.{zero-add, add-zero, sub-zero}
 use native.Mathlib.Omega.{arith}
 use lib.ListN.{length, replicate, replicate-append-replicate}
@@ -16,11 +16,11 @@ use Rattle.limits.specs.Limits.{messageMax}
 use Rattle.block.specs.Cut.{payloadMax}
 use Rattle.block.specs.CutLaws.{fewest-some}
 use Rattle.reader_blocks.specs.ReaderFrames.{readerSend}
-use Rattle.exchange.specs.Exchange.{Answers, Round, Ends, Run, exchange, talk, Between, Answered}
+use Rattle.exchange.specs.Exchange.{Answers, Round, Ends, Run, exchange, talk, Between}
 use Rattle.exchange.specs.StepLaws.{reader-start}
 use Rattle.exchange.specs.ExchangeLaws.{exchange-over}
-use Rattle.lost_blocks.specs.Lost.{Ending, Safe, within, marks, marksOf, Prompt, Mild}
-use Rattle.lost_blocks.specs.Places.{Fresh, Acked, Owed, Asked, Shown, Joined, Place, place, Case, endsOf, frameOf, OkAt, done, numberAt, Count, cost}
+use Rattle.lost_blocks.specs.Lost.{Ending, Brought, Safe, within, lostAll, marks, marksOf, Prompt, FewLosses}
+use Rattle.lost_blocks.specs.Places.{Fresh, Acked, Owed, Asked, Shown, Joined, Place, place, Case, endsOf, frameOf, OkAt, done, numberAt, Count, need}
 use Rattle.lost_blocks.specs.RoundLaws.{same-self, lostIn, Has, Room, Outcome, on, stop, round}
 
 pub ending-map : {A B : Type 0} → (A → B) → (t : Told) → Ending A t → Ending B t
@@ -75,18 +75,18 @@ module _ (z : Case) (hm : length (z .m) ≤ messageMax) (ha : length (z .a) ≤ 
 
   -- ---- second claim
 
-  cost-some : (s : Place) (b : ℕ) → Count z s b → 11 ≤ cost z s b
-  cost-some (place n at again rep (Fresh last k) true) b c = omega (arith, fewest-some (z .j) (length (z .m) - at), fewest-some (z .i) (length (z .a)))
-  cost-some (place n at again rep (Fresh last k) false) b c = omega (arith, fewest-some (z .j) (length (z .m) - at), fewest-some (z .i) (length (z .a)))
-  cost-some (place n at again rep Acked own) b c = omega (arith, fewest-some (z .j) (length (z .m) - at), fewest-some (z .i) (length (z .a)))
-  cost-some (place n at again rep Owed own) b c = absurd c
-  cost-some (place n at again rep (Asked v) own) b c = absurd c
-  cost-some (place n at again rep (Shown t k) own) b c = omega (arith, fewest-some (z .i) (length (z .a) - k))
-  cost-some (place n at again rep (Joined k) own) b c = omega (arith, fewest-some (z .i) (length (z .a) - (k + payloadMax (z .i))))
+  need-some : (s : Place) (b : ℕ) → Count z s b → 2 ≤ need z s
+  need-some (place n at again rep (Fresh last k) true) b c = omega (arith, fewest-some (z .j) (length (z .m) - at), fewest-some (z .i) (length (z .a)))
+  need-some (place n at again rep (Fresh last k) false) b c = omega (arith, fewest-some (z .j) (length (z .m) - at), fewest-some (z .i) (length (z .a)))
+  need-some (place n at again rep Acked own) b c = omega (arith, fewest-some (z .j) (length (z .m) - at), fewest-some (z .i) (length (z .a)))
+  need-some (place n at again rep Owed own) b c = absurd c
+  need-some (place n at again rep (Asked v) own) b c = absurd c
+  need-some (place n at again rep (Shown t k) own) b c = omega (arith, fewest-some (z .i) (length (z .a) - k))
+  need-some (place n at again rep (Joined k) own) b c = omega (arith, fewest-some (z .i) (length (z .a) - (k + payloadMax (z .i))))
 
   module _ (room : Room z) where
     abbrev Lives : List Round → Type 0
-    Lives xs = (s : Place) (b : ℕ) → OkAt z s → Count z s b → cost z s b ≤ length xs + 10 → Prompt xs
+    Lives xs = (s : Place) (b : ℕ) → OkAt z s → Count z s b → need z s + 2 * lostAll (marks (z .m) (z .a) xs (endsOf z s) Quiet (frameOf z s)) ≤ suc (length xs) → Prompt xs
         → within b (numberAt z s) (marks (z .m) (z .a) xs (endsOf z s) Quiet (frameOf z s)) ≡ true → run xs s .told ≡ Message (length (z .a))
 
     -- the number of the next round counts
@@ -96,19 +96,21 @@ module _ (z : Case) (hm : length (z .m) ≤ messageMax) (ha : length (z .a) ≤ 
     numbered [] s left n h = refl
     numbered (x ∷ xs) s left n h = rw (same-self (numberAt z s)) h
 
-    live-step : (x : Round) (xs : List Round) → Lives xs → (s : Place) (b : ℕ) → Count z s b → cost z s b ≤ suc (length xs) + 10 → x .host ≡ Answers → Prompt xs
+    live-step : (x : Round) (xs : List Round) → Lives xs → (s : Place) (b : ℕ) → Count z s b
+        → need z s + 2 * lostAll (marks (z .m) (z .a) (x ∷ xs) (endsOf z s) Quiet (frameOf z s)) ≤ suc (suc (length xs)) → x .host ≡ Answers → Prompt xs
         → within b (numberAt z s) (marks (z .m) (z .a) (x ∷ xs) (endsOf z s) Quiet (frameOf z s)) ≡ true → Outcome z s x → run (x ∷ xs) s .told ≡ Message (length (z .a))
-    unfolding exchange marks within
+    unfolding exchange marks within lostAll
     live-step x xs ih s b c q hx hs w (on s′ times reply e ok ed cnt) =
         let v = both (leb (lostIn x reply) b) _ (rw (e, same-self (numberAt z s)) at w) in
         let k = cnt room hx b c (leb-true (lostIn x reply) b (v .0)) in
-        rw e (ih s′ (cond (same (numberAt z s) (numberAt z s′)) (b - lostIn x reply) 2) ok (k .0) (omega (arith, k .1)) hs (numbered xs s′ (b - lostIn x reply) (numberAt z s) (v .1)))
+        let q′ = rw e at q in
+        rw e (ih s′ (cond (same (numberAt z s) (numberAt z s′)) (b - lostIn x reply) 2) ok (k .0) (omega (arith, k .1, q′)) hs (numbered xs s′ (b - lostIn x reply) (numberAt z s) (v .1)))
     live-step x xs ih s b c q hx hs w (stop p times e eq eg h en win) =
         let v = both (leb (lostIn x (p .reply)) b) _ (rw (e, same-self (numberAt z s)) at w) in
         rw (e, exchange-over (z .m) (z .a) xs (p .ends) (p .told) (p .next) eq) (win room hx b c (leb-true (lostIn x (p .reply)) b (v .0)))
 
     live-run : (xs : List Round) → Lives xs
-    live-run [] s b ok c q hs w = absurd (omega (arith, cost-some s b c))
+    live-run [] s b ok c q hs w = absurd (omega (arith, need-some s b c))
     live-run (x ∷ xs) s b ok c q hs w = live-step x xs (live-run xs) s b c q (hs .0) (hs .1) w (round z hm ha (x .down) (x .host) (x .up) s ok)
 
 -- ---- from a state between messages: the reader's first I is out, and the card has not taken it
@@ -133,7 +135,7 @@ module _ (i j : ℕ) (m a : List ℕ) (xs : List Round) (e : Ends) (hm : length 
   }
 
   -- T-11, first claim
-  pub safe : Safe i j m a (e .up) (talk m a xs e)
+  pub safe : Safe i j m a e (talk m a xs e)
   unfolding talk
   safe =
       let s : SafeFrom case hm ha 0 (talk m a xs e) = rw (begins, ends-first) (safe-run case hm ha xs first (omega arith, omega arith, bt .last)) in
@@ -142,16 +144,16 @@ module _ (i j : ℕ) (m a : List ℕ) (xs : List Round) (e : Ends) (hm : length 
         times = s .times;
         once = rw zero-add at (s .once);
         got = s .got;
-        end = ending-map (λ h. record { got = s .got ∙ ap (λ n. replicate n m) (h .once); told = h .told; up = h .up; lent = h .lent; between = h .between }) (talk m a xs e .told) h;
+        end = ending-map (λ h. record { answered = record { got = s .got ∙ ap (λ n. replicate n m) (h .once); told = h .told; up = h .up; lent = h .lent; between = h .between }; down = h .down }) (talk m a xs e .told) h;
       }
 
   -- T-11, second claim
-  pub answered : Mild i j m a xs e → Answered i j m a (e .up) (talk m a xs e)
+  pub brought : FewLosses i j m a xs e → Brought i j m a e (talk m a xs e)
   unfolding talk marksOf
-  answered t =
+  brought t =
       let room : Room case = record { down = t .down; up = t .up } in
       let few = rw (two (same false (e .reader .number))) at (numbered case hm ha room xs first 2 false (rw (begins, ends-first) at (t .few))) in
       let told : talk m a xs e .told ≡ Message (length a) =
       rw (begins, ends-first) (live-run case hm ha room xs first 2 (omega arith, omega arith, bt .last) (omega arith, refl)
-      (rw sub-zero (omega (arith, t .enough))) (t .prompt) few) in
+      (rw sub-zero (omega (arith, rw (begins, ends-first) at (t .enough)))) (t .prompt) few) in
       ending-has (talk m a xs e .told) (length a) told (safe .end)

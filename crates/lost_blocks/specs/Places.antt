@@ -1,5 +1,5 @@
 -- Where both ends stand between two rounds of an exchange in which frames are lost: the invariant of T-11's proofs. A reader's frame is out.
-use Prim.Native.Nat.{ℕ, _+_, _-_, _*_, _≤_, _<_}
+use Prim.Native.Nat.{ℕ, _+_, _-_, _≤_, _<_}
 use mathlib.Core.Path.{_≡_}
 use mathlib.Core.Bool.{Bool, true, false, cond, not}
 use mathlib.Core.List.{List, []}
@@ -194,16 +194,15 @@ module _ (z : Case) where
   toggles at (Shown t k) = 1 + fewest i (length a - k)
   toggles at (Joined k) = 1 + fewest i (length a - (k + payloadMax i))
 
-  -- at most so many rounds up to the next toggle, never over 5
-  abbrev pub soon : Stage → Bool → ℕ → ℕ
-  soon (Fresh last k) true b = 1 + 2 * b
-  soon (Fresh last k) false b = 2 + 2 * b
-  soon Acked own b = 1 + b
-  soon Owed own b = 0
-  soon (Asked v) own b = 0
-  soon (Shown t k) own b = 1 + b
-  soon (Joined k) own b = 1 + b
+  -- so many rounds up to the end, and one more, if nothing is lost from now on: one for each toggle, and one where R(NAK) is out for an I that
+  -- the card has not taken
+  abbrev pub extra : Stage → Bool → ℕ
+  extra (Fresh last k) own = cond own 0 1
+  extra Acked own = 0
+  extra Owed own = 0
+  extra (Asked v) own = 0
+  extra (Shown t k) own = 0
+  extra (Joined k) own = 0
 
-  -- .. and so many up to the end, and ten more
-  abbrev pub cost : Place → ℕ → ℕ
-  cost (place n at again rep g own) b = 5 * toggles at g + soon g own b
+  abbrev pub need : Place → ℕ
+  need (place n at again rep g own) = toggles at g + extra g own

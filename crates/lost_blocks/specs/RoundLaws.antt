@@ -2,7 +2,7 @@
 use mathlib.Core.Path.{_≡_, refl, sym, ap, ap₂, _∙_}
 use mathlib.Core.Bool.{Bool, true, false, cond, not, Bool·not-not, false≢true, Bool·beq as same}
 use mathlib.Core.List.{List, []}
-use Prim.Native.Nat.{ℕ, suc, _+_, _-_, _≤_, _<_}
+use Prim.Native.Nat.{ℕ, suc, _+_, _-_, _*_, _≤_, _<_}
 use native.Mathlib.Nat.{add-zero, sub-zero}
 use native.Mathlib.Omega.{arith}
 use lib.ListN.{length, take, replicate}
@@ -39,7 +39,7 @@ use Rattle.exchange.specs.StepLaws.{card, reader, card-chained, card-last, card
 use Rattle.exchange.specs.ExchangeLaws.{passed, owes-none, joined-next, joined-all}
 use Rattle.lost_blocks.specs.Lost.{Ending, failed, failedOf}
 use Rattle.lost_blocks.specs.LossLaws.{card-fails, card-full, card-nak, card-again, card-next, card-owing, card-granted, card-asks, reader-fails, reader-again, reader-echo, reader-full, wtx-range}
-use Rattle.lost_blocks.specs.Places.{Stage, Fresh, Acked, Owed, Asked, Shown, Joined, Place, place, Case, turnOf, joinedOf, upOf, cardOf, downOf, lentOf, doneOf, readerOf, endsOf, frameOf, replyOf, Ok, OkAt, done, numberAt, Count, toggles, soon, cost}
+use Rattle.lost_blocks.specs.Places.{Stage, Fresh, Acked, Owed, Asked, Shown, Joined, Place, place, Case, turnOf, joinedOf, upOf, cardOf, downOf, lentOf, doneOf, readerOf, endsOf, frameOf, replyOf, Ok, OkAt, done, numberAt, Count, toggles, extra, need}
 
 asks-nak : (b n : Bool) → asksAgain (cond b Sending Awaiting) n ≡ Nak n
 asks-nak true n = refl
@@ -83,7 +83,7 @@ abbrev pub Counts : Case → Place → Round → Place → List ℕ → Type 0
 Counts z s x s′ reply =
     Room z → x .host ≡ Answers → (b : ℕ) → Count z s b → lostIn x reply ≤ b
     → Count z s′ (cond (same (numberAt z s) (numberAt z s′)) (b - lostIn x reply) 2)
-    × (cost z s′ (cond (same (numberAt z s) (numberAt z s′)) (b - lostIn x reply) 2) < cost z s b)
+    × (need z s′ < need z s + 2 * lostIn x reply)
 
 -- .. or the run ends with the answer
 abbrev pub Wins : Case → Place → Round → Passed → Type 0
@@ -93,6 +93,7 @@ Wins z s x p = Room z → x .host ≡ Answers → (b : ℕ) → Count z s b → 
 pub record Has (z : Case) (times : ℕ) (t : Told) (e : Ends) : Type 0 where
   pub once : times ≡ 1
   pub told : t ≡ Message (length (z .a))
+  pub down : e .down ≡ overlay (z .d) 0 (z .m)
   pub up : e .up ≡ overlay (z .u) 0 (z .a)
   pub lent : e .lent ≡ z .a
   pub between : Between (z .i) (z .j) e
@@ -177,7 +178,7 @@ module _ (z : Case) (hm : length (z .m) ≤ messageMax) (ha : length (z .a) ≤ 
     -- the reader may ask once more, and still have frames to lose
     abbrev Again : Stage → ℕ → Type 0
     Again g′ b =
-        (rep ≤ 1) × Count z (place n at again (rep + 1) g′ false) (b - 1) × (cost z (place n at again (rep + 1) g′ false) (b - 1) < cost z s b)
+        (rep ≤ 1) × Count z (place n at again (rep + 1) g′ false) (b - 1) × (need z (place n at again (rep + 1) g′ false) < need z s + 2)
 
     -- the reader hears silence or a damaged frame
     silent : (g′ : Stage) (reply : List ℕ) (times : ℕ) (e : Refusal) → Ok z at g′ → doneOf z g + times ≡ doneOf z g′ → Half g′ reply times → carried (x .up) i reply ≡ Fault e
@@ -223,7 +224,7 @@ module _ (z : Case) (hm : length (z .m) ≤ messageMax) (ha : length (z .a) ≤ 
 
     -- R(ACK) of the other number: the I goes again
     heard-fresh : (last : Block) (k times : ℕ) → Ok z at (Fresh last k) → doneOf z g + times ≡ 0 → Half (Fresh last k) (replyOf z n (Fresh last k)) times → x .up ≡ Arrives
-        → (Room z → x .host ≡ Answers → (b : ℕ) → Count z s b → (failed (x .down) ≡ 0) × (again + 1 + b ≤ 2) × (cost z (place n at (again + 1) 0 (Fresh last k) true) b < cost z s b)) → Outcome z s x
+        → (Room z → x .host ≡ Answers → (b : ℕ) → Count z s b → (failed (x .down) ≡ 0) × (again + 1 + b ≤ 2) × (need z (place n at (again + 1) 0 (Fresh last k) true) < need z s)) → Outcome z s x
     heard-fresh last k times ok ed h eu cnt = go (ltb again 2) refl
       where
         more : Bool
@@ -234,7 +235,7 @@ module _ (z : Case) (hm : length (z .m) ≤ messageMax) (ha : length (z .a) ≤ 
             on (place n at (again + 1) 0 (Fresh last k) true) times (blockBytes (Ack (not n)) [])
             (h (record { link = readerOf z n at (again + 1) 0 (Fresh last k); sent = frameOf z (place n at (again + 1) 0 (Fresh last k) true); told = Quiet; buffer = u })
             (rw eu (reader-again i j m u at 0 again rep (ok .0) hm n (follows j at (length m)) true et)))
-            ok ed (λ q hs b c l. let w = cnt q hs b c in let e : lostIn x (blockBytes (Ack (not n)) []) ≡ 0 = ap₂ (λ p q. p + q) (w .0) (ap failed eu) in rw (same-self n, e, sub-zero) ((w .1, refl), w .2))
+            ok ed (λ q hs b c l. let w = cnt q hs b c in let e : lostIn x (blockBytes (Ack (not n)) []) ≡ 0 = ap₂ (λ p q. p + q) (w .0) (ap failed eu) in rw (same-self n, e, sub-zero) ((w .1, refl), omega (arith, w .2)))
         go false et =
             stop (passedTo z n at (Fresh last k) times (blockBytes (Ack (not n)) []) (record { link = readerDone Stopped; sent = []; told = Refused Forbidden; buffer = u })) times
             (h (record { link = readerDone Stopped; sent = []; told = Refused Forbidden; buffer = u }) (rw eu (reader-again i j m u at 0 again rep (ok .0) hm n (follows j at (length m)) false et)))
@@ -242,7 +243,7 @@ module _ (z : Case) (hm : length (z .m) ≤ messageMax) (ha : length (z .a) ≤ 
 
     -- what the counts need where the reader toggles: the card's half has cost no toggle and no frame
     abbrev Due : Stage → Type 0
-    Due g′ = Room z → x .host ≡ Answers → (b : ℕ) → Count z s b → (failed (x .down) ≡ 0) × (toggles z at g′ ≤ toggles z at g) × (1 ≤ soon z g own b)
+    Due g′ = Room z → x .host ≡ Answers → (b : ℕ) → Count z s b → (failed (x .down) ≡ 0) × (toggles z at g′ ≤ toggles z at g)
 
     -- R(ACK) of the own number: the next I
     heard-acked : (times : ℕ) → Ok z at Acked → doneOf z g + times ≡ 0 → Half Acked (replyOf z n Acked) times → x .up ≡ Arrives → Due Acked → Outcome z s x
@@ -254,7 +255,7 @@ module _ (z : Case) (hm : length (z .m) ≤ messageMax) (ha : length (z .a) ≤ 
         on (place (not n) at′ 0 0 (Fresh (Ack n) 0) true) times (blockBytes (Ack n) [])
         (h r (rw eu (reader-acked i j at again rep n m u (omega arith) hm))
         ∙ ap (λ c. record { got = replicate times m; reply = blockBytes (Ack n) []; told = Quiet; next = r .sent; ends = record { reader = r .link; card = card j i c Receiving (Ack n) at′ 0; down = downOf z at Acked; up = u; lent = z .lent } }) (sym (Bool·not-not n)))
-        (omega arith, ok .1, tt) ed (λ q hs b c l. let w = due q hs b c in rw (same-not n) ((omega arith, refl), omega (arith, w .1, w .2)))
+        (omega arith, ok .1, tt) ed (λ q hs b c l. let w = due q hs b c in rw (same-not n) ((omega arith, refl), omega (arith, w .1)))
 
     -- WTX is echoed
     heard-asked : (v times : ℕ) → Ok z at (Asked v) → doneOf z g + times ≡ 1 → Half (Asked v) (replyOf z n (Asked v)) times → x .up ≡ Arrives
@@ -288,7 +289,7 @@ module _ (z : Case) (hm : length (z .m) ≤ messageMax) (ha : length (z .a) ≤ 
           on (place (not n) 0 0 0 (Joined k) true) times (replyOf z n (Shown t k))
           (h r (rw (eu, ef, reader-chained i j at k again rep shown-part m joined-up (part-fits i k a) (hf .0) (hf .1) t n (ok .3), full, joined-next i k a u (ok .1) (omega (arith, joined-length))))
           ∙ ap₂ (λ f c. record { got = replicate times m; reply = replyOf z n (Shown t k); told = Quiet; next = r .sent; ends = record { reader = r .link; card = card j i c (cond f Answering Receiving) (I c f) 0 k; down = overlay d 0 m; up = r .buffer; lent = a } }) ef (sym (Bool·not-not n)))
-          (omega arith, l, omega (arith, joined-length)) ed (λ q hs b c l. let w = due q hs b c in rw (same-not n) (omega arith, omega (arith, w .1, w .2)))
+          (omega arith, l, omega (arith, joined-length)) ed (λ q hs b c l. let w = due q hs b c in rw (same-not n) (omega arith, omega (arith, w .1)))
 
       heard-last : follows i k (length a) ≡ false → fits (k + length shown-part) (length joined-up) ≡ true → Outcome z s x
       unfolding follows
@@ -305,6 +306,7 @@ module _ (z : Case) (hm : length (z .m) ≤ messageMax) (ha : length (z .a) ≤ 
           (record {
             once = ed;
             told = refl;
+            down = refl;
             up = refl;
             lent = refl;
             between = record { reader = refl; number = sym (Bool·not-not n); phase = refl; joined = refl; own = refl; other = refl; last = tt };
@@ -344,7 +346,7 @@ module _ (z : Case) (hm : length (z .m) ≤ messageMax) (ha : length (z .a) ≤ 
     -- what the counts need where it answers at once
     abbrev Prompts : Type 0
     Prompts = Room z → (b : ℕ) → Count z (place n at again rep g own) b
-        → (failed dn ≡ 0) × (toggles z at (Shown Awaiting 0) ≤ toggles z at g) × (1 ≤ soon z g own b)
+        → (failed dn ≡ 0) × (toggles z at (Shown Awaiting 0) ≤ toggles z at g)
         × (1 ≤ b → Again n at again rep g own (record { down = dn; host = Answers; up = uf }) (Shown Awaiting 0) b)
 
     abbrev owed : Out CardLink
@@ -357,8 +359,8 @@ module _ (z : Case) (hm : length (z .m) ≤ messageMax) (ha : length (z .a) ≤ 
         let ok : Ok z at g′ = (h, omega arith, omega arith, refl) in
         let hf : Half n at again rep g own x g′ (replyOf z n g′) times =
         half n at again rep g own x g′ (replyOf z n g′) times owed Quiet ec (ap (λ o. (o, a)) (card-reply j i Nothing 0 0 n a (overlay d 0 m) ha)) er (eu ∙ sym (overlay-nil u 0)) eg in
-        speaks n at again rep g own x g′ times ok ed hf (λ y. refl) (λ q hs b c. (k q b c .0, k q b c .3))
-        (λ ex. heard-shown n at again rep g own x Awaiting 0 times ok ed hf ex (λ q hs b c. (k q b c .0, k q b c .1, k q b c .2)))
+        speaks n at again rep g own x g′ times ok ed hf (λ y. refl) (λ q hs b c. (k q b c .0, k q b c .2))
+        (λ ex. heard-shown n at again rep g own x Awaiting 0 times ok ed hf ex (λ q hs b c. (k q b c .0, k q b c .1)))
     hosts (Asks v) k = go (wtxOk v) refl
       where
         x : Round
@@ -418,7 +420,7 @@ module _ (z : Case) (hm : length (z .m) ≤ messageMax) (ha : length (z .a) ≤ 
         (rw ef (rw (full, joined-next j at m d (ok .0) (omega (arith, down-length))) at (card-chained j i last k at out-part (z .lent) joined-down (part-fits j at m) (hf .0) (hf .1) n)))
         refl (ap (λ b. reader i j n (cond b Sending Awaiting) at 0 again rep) ef) refl refl in
         speaks n at again rep (Fresh last k) true x Acked 0 okA refl h (λ y. refl) (λ q hs b c. (refl, λ g. (omega arith, omega arith, omega arith)))
-        (λ ex. heard-acked n at again rep (Fresh last k) true x 0 okA refl h ex (λ q hs b c. (refl, omega arith, omega arith)))
+        (λ ex. heard-acked n at again rep (Fresh last k) true x 0 okA refl h ex (λ q hs b c. (refl, omega arith)))
 
     arrives-last : fits (at + length out-part) (length joined-down) ≡ true → follows j at (length m) ≡ false → Outcome z (place n at again rep (Fresh last k) true) x
     unfolding follows
@@ -431,7 +433,7 @@ module _ (z : Case) (hm : length (z .m) ≤ messageMax) (ha : length (z .a) ≤ 
         hosts n at again rep (Fresh last k) true Arrives uf 1 (Message (length m)) (ok .0)
         (rw ef (rw (full, joined-all j at m d (ok .0) (omega (arith, down-length)) l) at (card-last j i last k at out-part (z .lent) joined-down (part-fits j at m) (hf .0) (hf .1) n)))
         (ap (λ b. reader i j n (cond b Sending Awaiting) at 0 again rep) ef) refl refl (rw (overlay-front d m) refl) refl hs
-        (λ q b c. rw none (refl, omega arith, omega arith, λ g. (omega arith, omega arith, omega arith)))
+        (λ q b c. rw none (refl, omega arith, λ g. (omega arith, omega arith, omega arith)))
 
     arrives : Outcome z (place n at again rep (Fresh last k) true) x
     arrives = go (fits (at + length out-part) (length joined-down)) refl (follows j at (length m)) refl
@@ -479,7 +481,7 @@ module _ (z : Case) (hm : length (z .m) ≤ messageMax) (ha : length (z .a) ≤ 
       let h : Half n at again rep Acked own x Acked (replyOf z n Acked) 0 =
       repeated n at again rep Acked own hs uf (card-again j i Receiving (Ack n) (at + payloadMax j) 0 (z .lent) (downOf z at Acked) Sending n refl (lent-any (cardOf z n at Acked) (length (z .lent)) (cardSends (cardOf z n at Acked)) refl)) refl in
       speaks n at again rep Acked own x Acked 0 ok refl h (λ y. refl) (λ q hs b c. (refl, λ l. (omega arith, omega arith, omega arith)))
-      (λ ex. heard-acked n at again rep Acked own x 0 ok refl h ex (λ q hs b c. (refl, omega arith, omega arith)))
+      (λ ex. heard-acked n at again rep Acked own x 0 ok refl h ex (λ q hs b c. (refl, omega arith)))
   comes hs uf (place n at again rep Owed own) ok =
       hosts n at again rep Owed own Arrives uf 0 (Refused NotDue) ok (card-owing j i n (verdict j (blockBytes (Nak n) [])) (z .lent) (overlay d 0 m)) refl refl refl refl refl hs (λ q b c. absurd c)
   comes hs uf (place n at again rep (Asked v) true) ok =
@@ -495,7 +497,7 @@ module _ (z : Case) (hm : length (z .m) ≤ messageMax) (ha : length (z .a) ≤ 
       let h : Half n at again rep (Shown t k) own x (Shown t k) (replyOf z n (Shown t k)) 0 =
       repeated n at again rep (Shown t k) own hs uf (card-again j i (cond f Answering Receiving) (I n f) 0 k a (overlay d 0 m) t n (owes-none f) (lent-fits (cardOf z n at (Shown t k)) (length a) (cardSends (cardOf z n at (Shown t k))) (ok .1) ha)) (owes-none f) in
       speaks n at again rep (Shown t k) own x (Shown t k) 0 ok refl h (λ y. refl) (λ q hs b c. (refl, λ l. (omega arith, omega arith, omega arith)))
-      (λ ex. heard-shown n at again rep (Shown t k) own x t k 0 ok refl h ex (λ q hs b c. (refl, omega arith, omega arith)))
+      (λ ex. heard-shown n at again rep (Shown t k) own x t k 0 ok refl h ex (λ q hs b c. (refl, omega arith)))
   comes hs uf (place n at again rep (Joined k) own) ok =
       let x : Round = record { down = Arrives; host = hs; up = uf } in
       let k′ : ℕ = k + payloadMax i in
@@ -506,7 +508,7 @@ module _ (z : Case) (hm : length (z .m) ≤ messageMax) (ha : length (z .a) ≤ 
       half n at again rep (Joined k) own x g′ (replyOf z n g′) 0 (record { link = cardOf z n at g′; sent = replyOf z n g′; told = Quiet; buffer = overlay d 0 m }) Quiet
       (card-next j i k a (overlay d 0 m) n (omega arith) ha) (rw (owes-none f) refl) refl refl refl in
       speaks n at again rep (Joined k) own x g′ 0 ok′ refl h (λ y. refl) (λ q hs b c. (refl, λ l. (omega arith, omega arith, omega arith)))
-      (λ ex. heard-shown n at again rep (Joined k) own x Joining k′ 0 ok′ refl h ex (λ q hs b c. (refl, omega arith, omega arith)))
+      (λ ex. heard-shown n at again rep (Joined k) own x Joining k′ 0 ok′ refl h ex (λ q hs b c. (refl, omega arith)))
 
   pub round : (dn : Fate) (hs : Act) (uf : Fate) (s : Place) → OkAt z s → Outcome z s (record { down = dn; host = hs; up = uf })
   round Arrives hs uf s ok = comes hs uf s ok

@@ -1,17 +1,18 @@
 -- The whole ends on rows that are not what was sent: each does what its block rules say of what it hears. Assumes nothing.
 use mathlib.Core.Path.{_≡_, refl}
-use mathlib.Core.Bool.{Bool, true, false, cond, false≢true}
+use mathlib.Core.Bool.{Bool, true, false, cond, not, false≢true}
 use mathlib.Core.List.{List, [], _∷_}
-use Prim.Native.Nat.{ℕ, _≤_, _<_}
+use Prim.Native.Nat.{ℕ, _-_, _/_, _≤_, _<_}
 use native.Mathlib.Omega.{arith}
-use lib.ListN.{length}
+use lib.ListN.{length, take}
 use borrow.Author.Tests.{le-ltb}
-use Rattle.rows.specs.Rows.{Bytes, isNil}
+use Rattle.rows.specs.Rows.{Bytes, isNil, same, clean}
 use Rattle.crc.specs.Crc.{withCrc}
 use Rattle.parity.specs.Bits.{bitsOf}
 use Rattle.refusal.specs.declared.Refusal.{Refusal}
 use Rattle.refusal.specs.declared.Refusal.the-variants.{Silence, Argument, NotDue}
-use Rattle.frame.specs.Frame.{airByte, standard, Verdict, Good, Fault}
+use Rattle.frame.specs.Frame.{airByte, standard, Verdict, Good, Fault, wholeBytes, faulty, readFrame, withoutCrc, crcChecked, readCrc}
+use Rattle.selection.specs.Selection.{size}
 use Rattle.card.specs.declared.CardState.the-variants.{Protocol}
 use Rattle.block.specs.declared.Block.{Block}
 use Rattle.block.specs.declared.Block.the-variants.{Wtx}
@@ -37,8 +38,9 @@ use Rattle.exchange.specs.Exchange.{Fate, Arrives, Fails, Round, carried, Fine}
 use Rattle.exchange.specs.FineLaws.{FineCard, takes-fine, fine-heard}
 use Rattle.exchange.specs.RowExchangeLaws.{FineOut, sent-fine}
 use Rattle.lost_blocks.specs.Lost.{failed, failedOf}
-use Rattle.lost_blocks.specs.LossLaws.{wtx-range}
-use Rattle.lost_blocks.specs.RowLost.{Passage, Whole, Instead, heardAs, isFault, noticed, RowRound, spoilt}
+use Rattle.lost_blocks.specs.LossLaws.{wtx-range, card-fails}
+use Rattle.exchange.specs.Lossy.{Passage, Whole, Instead, heardAs, RowRound}
+use Rattle.lost_blocks.specs.RowLost.{caught, noticed, spoilt}
 
 -- ---- a round on rows as a round on bytes
 
@@ -54,7 +56,28 @@ fateOf i (Instead h) = Fails (faultIn (heardRow i h))
 abbrev pub roundOf : ℕ → ℕ → RowRound → Round
 roundOf i j x = record { down = fateOf j (x .down); host = x .host; up = fateOf i (x .up) }
 
-fault-is : (v : Verdict) → isFault v ≡ true → v ≡ Fault (faultIn v)
+-- the tests of a row come to a good frame or to one of these numbers: what is not heard whole is silence or caught
+abbrev Known : Verdict → Type 0
+Known (Good l) = Unit
+Known (Fault e) = caught (Fault e) ≡ true
+
+known-either : (t : Bool) (v w : Verdict) → Known v → Known w → Known (cond t v w)
+known-either true v w x y = x
+known-either false v w x y = y
+
+known-crc : (v : Verdict) → Known v → Known (crcChecked v)
+unfolding withoutCrc
+known-crc (Good l) k = known-either (same l (withCrc (take (length l - 2) l))) _ _ tt refl
+known-crc (Fault e) k = k
+
+pub known-row : (i : ℕ) (h : List ℕ) → Known (heardRow i h)
+unfolding heardRow readCrc readFrame
+known-row i h =
+    known-either (isNil h) _ _ refl
+    (known-crc (readFrame 3 (size i) h)
+    (known-either (not (wholeBytes 3 (size i) (length h))) _ _ refl (known-either (not (clean h)) _ _ refl (known-either (faulty (length h / 9) h) _ _ refl tt))))
+
+fault-is : (v : Verdict) → caught v ≡ true → v ≡ Fault (faultIn v)
 fault-is (Good l) e = absurd (false≢true e)
 fault-is (Fault x) e = refl
 
@@ -82,6 +105,16 @@ module _ (x : LinkCard) (i room : ℕ) (s : x .card .state ≡ Protocol i) (h : 
       go : (t : Bool) → owes (x .link .phase) ≡ t → takeCall x row m buffer room ≡ withRow (x .card) (cardBlock (x .link) (heardRow (x .link .own) row) m buffer)
       go false o = rw (s, o, le-ltb room rowRoom h)
       go true o = rw (s, o, owing-block (x .link) (heardRow (x .link .own) row) m buffer o)
+
+  -- a frame that is lost is handed to the card as silence: as if nothing had been handed to it
+  pub unheard : (m buffer : List ℕ) → (takeCall x [] m buffer room .link ≡ x) × (takeCall x [] m buffer room .sent ≡ []) × (takeCall x [] m buffer room .buffer ≡ buffer)
+  unfolding heardRow isNil
+  unheard m buffer = rw (take-row [] m buffer) (go (owes (x .link .phase)) refl)
+    where
+      go : (t : Bool) → owes (x .link .phase) ≡ t → (withRow (x .card) (cardBlock (x .link) (Fault Silence) m buffer) .link ≡ x)
+          × (withRow (x .card) (cardBlock (x .link) (Fault Silence) m buffer) .sent ≡ []) × (withRow (x .card) (cardBlock (x .link) (Fault Silence) m buffer) .buffer ≡ buffer)
+      go false o = rw (card-fails (x .link) Silence m buffer o) (refl, refl, refl)
+      go true o = rw (owing-block (x .link) (Fault Silence) m buffer o) (refl, refl, refl)
 
   -- the host asks for WTX, where its answer is due
   pub ask-block : (v : ℕ) → owes (x .link .phase) ≡ true → askCall x v room ≡ withRow (x .card) (cardWtx (x .link) v [])

@@ -41,11 +41,12 @@ use Rattle.exchange.specs.ExchangeLaws.{passed, exchange-over}
 use Rattle.exchange.specs.FineLaws.{fine-bytes, part-bytes, talks}
 use Rattle.exchange.specs.RowExchange.{RowEnds, RowPassed, rowPasses, RowRun, rowOver, rowExchange, rowTalk, RowBetween}
 use Rattle.exchange.specs.RowExchangeLaws.{linked-talks, linked-open, talks-awaits, wide, FineOut, reply-fine, reply-out}
-use Rattle.lost_blocks.specs.Lost.{Safe, marks, marksOf, Prompt}
+use Rattle.lost_blocks.specs.Lost.{Brought, Safe, marks, marksOf, Prompt, FewLosses}
 use Rattle.lost_blocks.specs.Places.{Stage, Fresh, Acked, Owed, Asked, Shown, Joined, Place, place, Case, cardOf, lentOf, endsOf, frameOf, OkAt}
 use Rattle.lost_blocks.specs.RoundLaws.{Outcome, on, stop, round}
-use Rattle.lost_blocks.specs.LostLaws.{ending-map, first, begins, ends-first, safe, answered}
-use Rattle.lost_blocks.specs.RowLost.{Passage, heardAs, noticed, RowRound, rowClean, Noticed, RowStart, rowActs, lossyPasses, lossyExchange, lossyTalk, RowAnswered, RowSafe, rowMarks, rowMarksOf, RowMild}
+use Rattle.lost_blocks.specs.LostLaws.{ending-map, first, begins, ends-first, safe, brought}
+use Rattle.exchange.specs.Lossy.{Passage, heardAs, RowRound, rowActs, lossyPasses, lossyExchange, lossyTalk}
+use Rattle.lost_blocks.specs.RowLost.{noticed, Noticed, RowStart, RowBrought, RowSafe, rowMarks, rowMarksOf, RowFewLosses, LostBlocks}
 use Rattle.lost_blocks.specs.RowLossLaws.{fateOf, roundOf, carried-row, spoilt-fails, spoilt-sent, take-row, ask-block, hear-row, heard-fine, carried-fine, ask-fine, ask-out}
 
 -- a frame that goes from an end in an exchange
@@ -271,28 +272,34 @@ module _ (c : Card) (ix : ℕ) (s : c .state ≡ Protocol ix) (r : Reader) (room
         ∙ marks-run i j (l .down) (l .up) (l .lent) hl lm la xs ns one (omega arith, omega arith, bt .last)
         ∙ ap (λ e. marks m a bytesRounds e Quiet (frameOf start one)) (sym (ends-first i j m a bytesRounds l lm la bt)))
 
-    lifted : Answered i j m a (l .up) (talk m a bytesRounds l) → RowAnswered i j m a (wide c r l) (rowsOf (talk m a bytesRounds l))
+    lifted : Brought i j m a l (talk m a bytesRounds l) → RowBrought i j m a (wide c r l) (rowsOf (talk m a bytesRounds l))
     lifted x =
         let e : Ends = talk m a bytesRounds l .ends in
-        let o : isOpen (e .reader .phase) ≡ true = ap (λ k. isOpen (k .phase)) (x .between .reader) in
+        let o : isOpen (e .reader .phase) ≡ true = ap (λ k. isOpen (k .phase)) (x .answered .between .reader) in
         record {
-          got = x .got;
-          told = x .told;
-          up = x .up;
-          lent = x .lent;
-          ready = record { links = e; reader = ap (λ k. k .link) (linked-open r (e .reader .phase) (e .reader) o); card = refl; index = ix; protocol = s; between = x .between };
+          got = x .answered .got;
+          told = x .answered .told;
+          down = x .down;
+          up = x .answered .up;
+          lent = x .answered .lent;
+          ready = record { links = e; reader = ap (λ k. k .link) (linked-open r (e .reader .phase) (e .reader) o); card = refl; index = ix; protocol = s; between = x .answered .between };
         }
 
     wide-safe : RowSafe i j m a (wide c r l) (lossyTalk m a room xs (wide c r l))
     wide-safe =
-        let x : Safe i j m a (l .up) (talk m a bytesRounds l) = safe i j m a bytesRounds l lm la bt in
+        let x : Safe i j m a l (talk m a bytesRounds l) = safe i j m a bytesRounds l lm la bt in
         rw talk-rows (record { times = x .times; once = x .once; got = x .got; end = ending-map lifted (talk m a bytesRounds l .told) (x .end) })
 
-    wide-answered : RowMild i j m a room xs (wide c r l) → RowAnswered i j m a (wide c r l) (lossyTalk m a room xs (wide c r l))
-    wide-answered t =
+    -- the terms of the second claim on rows are those on bytes
+    pub few-rows : FewLosses i j m a bytesRounds l → All (λ x. x .host ≡ Answers) xs → RowFewLosses i j m a room xs (wide c r l)
+    few-rows t p =
+        record { prompt = p; down = t .down; up = t .up; few = rw marks-rows (t .few); enough = rw marks-rows (rw length-map at (t .enough)) }
+
+    wide-brought : RowFewLosses i j m a room xs (wide c r l) → RowBrought i j m a (wide c r l) (lossyTalk m a room xs (wide c r l))
+    wide-brought t =
         rw talk-rows
-        (lifted (answered i j m a bytesRounds l lm la bt
-        (record { prompt = prompts xs (t .prompt); down = t .down; up = t .up; few = rw marks-rows at (t .few); enough = rw length-map (t .enough) })))
+        (lifted (brought i j m a bytesRounds l lm la bt
+        (record { prompt = prompts xs (t .prompt); down = t .down; up = t .up; few = rw marks-rows at (t .few); enough = rw length-map (rw marks-rows at (t .enough)) })))
       where
         prompts : (ys : List RowRound) → All (λ y. y .host ≡ Answers) ys → Prompt (map (roundOf i j) ys)
         prompts [] p = tt
@@ -319,26 +326,16 @@ module _ (i j : ℕ) (e : RowEnds) (b : RowBetween i j e) where
         lent = e .lent;
       }
 
--- T-11, first claim: whatever is lost or damaged, and whatever the card's host does
-pub lossy-safe : (i j : ℕ) (m a : List ℕ) (room : ℕ) (xs : List RowRound) (e : RowEnds) → RowStart i j m a room e → Noticed i j xs → RowSafe i j m a e (lossyTalk m a room xs e)
-lossy-safe i j m a room xs e t ns =
-    rw (links-wide i j e (t .ends)) at
-    (wide-safe (e .card .card) (t .ends .index) (t .ends .protocol) (e .reader .reader) room (t .rows) m a (t .message-bytes) (t .answer-bytes) i j (linksOf i j e (t .ends)) (t .lent-bytes) (t .message) (t .answer)
-    (links-between i j e (t .ends)) xs ns)
-
--- T-11, second claim
-pub lossy-answered : (i j : ℕ) (m a : List ℕ) (room : ℕ) (xs : List RowRound) (e : RowEnds) → RowStart i j m a room e → Noticed i j xs → RowMild i j m a room xs e → RowAnswered i j m a e (lossyTalk m a room xs e)
-lossy-answered i j m a room xs e t ns k =
-    rw (links-wide i j e (t .ends)) at
-    (wide-answered (e .card .card) (t .ends .index) (t .ends .protocol) (e .reader .reader) room (t .rows) m a (t .message-bytes) (t .answer-bytes) i j (linksOf i j e (t .ends)) (t .lent-bytes) (t .message) (t .answer)
-    (links-between i j e (t .ends)) xs ns (rw (links-wide i j e (t .ends)) k))
-
--- without errors it is crate exchange's run
-lossy-clean : (m a : List ℕ) (room g : ℕ) (e : RowEnds) (t : Told) (f : List ℕ) → lossyExchange m a room (replicate g rowClean) e t f ≡ rowExchange m a room g e t f
-unfolding lossyExchange rowExchange lossyPasses rowPasses
-lossy-clean m a room zero e t f = refl
-lossy-clean m a room (suc g) e t f = rw (lossy-clean m a room g)
-
-pub lossy-talk-clean : (m a : List ℕ) (room g : ℕ) (e : RowEnds) → lossyTalk m a room (replicate g rowClean) e ≡ rowTalk m a room g e
-unfolding lossyTalk rowTalk
-lossy-talk-clean m a room g e = rw (lossy-clean m a room g)
+-- T-11
+pub lost-blocks : (i j : ℕ) (m a : List ℕ) (room : ℕ) (xs : List RowRound) (e : RowEnds) → RowStart i j m a room xs e → LostBlocks i j m a room xs e (lossyTalk m a room xs e)
+lost-blocks i j m a room xs e t =
+    let b : RowBetween i j e = t .ends in
+    let w = links-wide i j e b in
+    let c : Card = e .card .card in
+    let r : Reader = e .reader .reader in
+    let l : Ends = linksOf i j e b in
+    let lb : Between i j l = links-between i j e b in
+    record {
+      safe = rw w at (wide-safe c (b .index) (b .protocol) r room (t .rows) m a (t .message-bytes) (t .answer-bytes) i j l (t .lent-bytes) (t .message) (t .answer) lb xs (t .damage));
+      brought = λ k. rw w at (wide-brought c (b .index) (b .protocol) r room (t .rows) m a (t .message-bytes) (t .answer-bytes) i j l (t .lent-bytes) (t .message) (t .answer) lb xs (t .damage) (rw w k));
+    }
