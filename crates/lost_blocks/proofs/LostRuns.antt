@@ -90,17 +90,13 @@ rounds =
     ∷ rowClean ∷ rowClean ∷ []
 
 module _ (c : Card) (i : ℕ) (s : c .state ≡ Protocol i) (r : Reader) where
-  pub starts : RowStart 0 0 (1 ∷ []) answer rowRoom rounds (wide c r ends)
+  pub starts : RowStart 0 0 (1 ∷ []) answer rounds (wide c r ends)
   unfolding heardRow isNil readCrc readFrame wholeBytes size clean faulty firstWrong odd ones
   starts =
       record {
         ends = record { links = ends; reader = refl; card = refl; index = i; protocol = s; between = after-ats 0 0 (0 ∷ 0 ∷ []) (0 ∷ 0 ∷ []) };
         message = lit≤ tt;
         answer = lit≤ tt;
-        message-bytes = (lit≤ tt, tt);
-        answer-bytes = (lit≤ tt, (lit≤ tt, tt));
-        lent-bytes = tt;
-        rows = lit≤ tt;
         damage = ((refl, refl), ((refl, refl), ((refl, refl), ((refl, refl), ((refl, refl), tt)))));
       }
 
@@ -113,5 +109,5 @@ module _ (c : Card) (i : ℕ) (s : c .state ≡ Protocol i) (r : Reader) where
 
   pub few : RowFewLosses 0 0 (1 ∷ []) answer rowRoom rounds (wide c r ends)
   few =
-      few-rows c i s r rowRoom (lit≤ tt) (1 ∷ []) answer (starts .message-bytes) (starts .answer-bytes) 0 0 ends tt (lit≤ tt) (lit≤ tt) (after-ats 0 0 (0 ∷ 0 ∷ []) (0 ∷ 0 ∷ [])) rounds (starts .damage)
+      few-rows c i s r rowRoom (lit≤ tt) (1 ∷ []) answer (lit≤ tt, tt) (lit≤ tt, (lit≤ tt, tt)) 0 0 ends tt (lit≤ tt) (lit≤ tt) (after-ats 0 0 (0 ∷ 0 ∷ []) (0 ∷ 0 ∷ [])) rounds (starts .damage)
       few-bytes (refl, (refl, (refl, (refl, (refl, tt)))))

@@ -16,7 +16,7 @@ use Rattle.exchange.specs.RowExchange.{RowEnds, RowPassed, rowTalk, numberIn, T
 use Rattle.exchange.specs.Lossy.{RowRound, rowClean, lossyPasses}
 use Rattle.exchange.specs.RunLaws.{talk-clean}
 use Rattle.lost_blocks.specs.Lost.{Mark, mostLost, within, lostAll}
-use Rattle.lost_blocks.specs.RowLost.{Noticed, RowStart, RowBrought, rowMarks, rowMarksOf, RowFewLosses}
+use Rattle.lost_blocks.specs.RowLost.{Noticed, RowBrought, rowMarks, rowMarksOf, RowFewLosses}
 use Rattle.lost_blocks.specs.RowLostLaws.{lost-blocks}
 
 none-lost : (t : Bool) → _≡_ {A = ℕ} (0 + cond t 0 0) 0
@@ -78,18 +78,7 @@ module _ (i j : ℕ) (m a : List ℕ) (room g : ℕ) (e : RowEnds) (t : Terms i 
         enough = rw (all-clean m a room g, length-replicate) (omega (arith, t .enough));
       }
 
-  pub start-clean : rowRoom ≤ room → Bytes m → Bytes a → Bytes (e .lent) → RowStart i j m a room (replicate g rowClean) e
-  start-clean h hm ha hl =
-      record {
-        ends = t .ends;
-        message = t .message;
-        answer = t .answer;
-        message-bytes = hm;
-        answer-bytes = ha;
-        lent-bytes = hl;
-        rows = h;
-        damage = noticed-clean i j g;
-      }
-
   pub brought-clean : rowRoom ≤ room → Bytes m → Bytes a → Bytes (e .lent) → RowBrought i j m a e (rowTalk m a room g e)
-  brought-clean h hm ha hl = rw (talk-clean m a room g e) at (lost-blocks i j m a room (replicate g rowClean) e (start-clean h hm ha hl) .brought few-clean)
+  brought-clean h hm ha hl =
+      rw (talk-clean m a room g e) at
+      (lost-blocks i j room m a (replicate g rowClean) e h hm ha hl (record { ends = t .ends; message = t .message; answer = t .answer; damage = noticed-clean i j g }) .brought few-clean)

@@ -6,12 +6,12 @@ use mathlib.Core.Bool.{Bool, true, false, cond, _||_}
 use mathlib.Core.List.{List, [], _∷_}
 use lib.ListN.{length, replicate}
 use lib.Dec.{eqb}
-use Rattle.rows.specs.Rows.{overlay, isNil, All, Bytes}
+use Rattle.rows.specs.Rows.{overlay, isNil, All}
 use Rattle.refusal.specs.Refusal.{numberOf}
 use Rattle.frame.specs.Frame.{Verdict, Good, Fault}
 use Rattle.block.specs.declared.Told.{Told}
 use Rattle.block.specs.declared.Told.the-variants.{Message}
-use Rattle.limits.specs.Limits.{messageMax, rowRoom}
+use Rattle.limits.specs.Limits.{messageMax}
 use Rattle.block.specs.Cut.{fewest}
 use Rattle.block.specs.Row.{heardRow}
 use Rattle.reader_link.specs.declared.Link.{Link}
@@ -38,15 +38,11 @@ Noticed i j xs = All (λ x. (noticed j (x .down) ≡ true) × (noticed i (x .up)
 -- ---- first claim
 
 -- its terms: both ends between messages, that is after RATS and ATS or after a message; the command m and the answer a of up to 4,096 bytes;
--- room for the rows; damage that is noticed
-pub record RowStart (i j : ℕ) (m a : List ℕ) (room : ℕ) (xs : List RowRound) (e : RowEnds) : Type 0 where
+-- damage that is noticed
+pub record RowStart (i j : ℕ) (m a : List ℕ) (xs : List RowRound) (e : RowEnds) : Type 0 where
   pub ends : RowBetween i j e
   pub message : length m ≤ messageMax
   pub answer : length a ≤ messageMax
-  pub message-bytes : Bytes m
-  pub answer-bytes : Bytes a
-  pub lent-bytes : Bytes (e .lent)
-  pub rows : rowRoom ≤ room
   pub damage : Noticed i j xs
 
 -- the run r from e brings the command m, once and whole, to the card's host and the answer a to the reader's, each into the buffer that was

@@ -327,8 +327,9 @@ module _ (i j : ℕ) (e : RowEnds) (b : RowBetween i j e) where
       }
 
 -- T-11
-pub lost-blocks : (i j : ℕ) (m a : List ℕ) (room : ℕ) (xs : List RowRound) (e : RowEnds) → RowStart i j m a room xs e → LostBlocks i j m a room xs e (lossyTalk m a room xs e)
-lost-blocks i j m a room xs e t =
+pub lost-blocks : (i j room : ℕ) (m a : List ℕ) (xs : List RowRound) (e : RowEnds) → rowRoom ≤ room → Bytes m → Bytes a → Bytes (e .lent)
+    → RowStart i j m a xs e → LostBlocks i j m a room xs e (lossyTalk m a room xs e)
+lost-blocks i j room m a xs e h hm ha hl t =
     let b : RowBetween i j e = t .ends in
     let w = links-wide i j e b in
     let c : Card = e .card .card in
@@ -336,6 +337,6 @@ lost-blocks i j m a room xs e t =
     let l : Ends = linksOf i j e b in
     let lb : Between i j l = links-between i j e b in
     record {
-      safe = rw w at (wide-safe c (b .index) (b .protocol) r room (t .rows) m a (t .message-bytes) (t .answer-bytes) i j l (t .lent-bytes) (t .message) (t .answer) lb xs (t .damage));
-      brought = λ k. rw w at (wide-brought c (b .index) (b .protocol) r room (t .rows) m a (t .message-bytes) (t .answer-bytes) i j l (t .lent-bytes) (t .message) (t .answer) lb xs (t .damage) (rw w k));
+      safe = rw w at (wide-safe c (b .index) (b .protocol) r room h m a hm ha i j l hl (t .message) (t .answer) lb xs (t .damage));
+      brought = λ k. rw w at (wide-brought c (b .index) (b .protocol) r room h m a hm ha i j l hl (t .message) (t .answer) lb xs (t .damage) (rw w k));
     }
