@@ -13,6 +13,7 @@ mod frames;
 mod known;
 mod language;
 mod log;
+mod lossy;
 mod random;
 mod reader;
 mod reader_link;
@@ -31,7 +32,7 @@ model vectors_frame | vectors_sweep | vectors_exchange | vectors_calls | bench_s
 model write DIR                          write the stored scripts and their answers
 model check DIR                          compare the stored ones with what would be written
 model coverage                           what the stored scripts reach
-model scripts card|reader|field|exchange COUNT SEED   random scripts for larger comparisons";
+model scripts card|reader|field|exchange|lossy COUNT SEED   random scripts for larger comparisons";
 
 fn report(outcome: Result<(), String>) {
     if let Err(what) = outcome {
@@ -48,7 +49,8 @@ fn random_scripts(kind: &str, count: &str, seed: &str) -> Result<(), String> {
         "reader" => scripts::reader::random_scripts(count, seed).input,
         "field" => scripts::field::random_scripts(count, seed).input,
         "exchange" => scripts::exchange::random_scripts(count, seed).input,
-        _ => return Err("scripts for card, reader, field or exchange".to_string()),
+        "lossy" => scripts::lossy::random_scripts(count, seed).input,
+        _ => return Err("scripts for card, reader, field, exchange or lossy".to_string()),
     };
     print!("{text}");
     Ok(())

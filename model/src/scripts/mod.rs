@@ -6,6 +6,7 @@ pub mod card_blocks;
 pub mod exchange;
 pub mod field;
 pub mod frame;
+pub mod lossy;
 pub mod reader;
 pub mod reader_blocks;
 
