@@ -19,7 +19,7 @@ use Rattle.reader_blocks.specs.ReaderFrames.{readerSend}
 use Rattle.exchange.specs.Exchange.{Answers, Round, Ends, Run, exchange, talk, Between}
 use Rattle.exchange.specs.StepLaws.{reader-start}
 use Rattle.exchange.specs.ExchangeLaws.{exchange-over}
-use Rattle.lost_blocks.specs.Lost.{Ending, Brought, Safe, within, lostAll, marks, marksOf, Prompt, FewLosses}
+use Rattle.lost_blocks.specs.Lost.{Ending, Brought, Safe, mostLost, within, lostAll, marks, marksOf, Prompt, FewLosses}
 use Rattle.lost_blocks.specs.Places.{Fresh, Acked, Owed, Asked, Shown, Joined, Place, place, Case, endsOf, frameOf, OkAt, done, numberAt, Count, need}
 use Rattle.lost_blocks.specs.RoundLaws.{same-self, lostIn, Has, Room, Outcome, on, stop, round}
 
@@ -33,9 +33,9 @@ ending-map f Deselected h = h
 pub ending-has : {A : Type 0} (t : Told) (n : ℕ) → t ≡ Message n → Ending A t → A
 ending-has t n e h = rw e at h
 
-two : (t : Bool) → _≡_ {A = ℕ} (cond t 2 2) 2
-two true = refl
-two false = refl
+most : (t : Bool) → cond t mostLost mostLost ≡ mostLost
+most true = refl
+most false = refl
 
 module _ (z : Case) (hm : length (z .m) ≤ messageMax) (ha : length (z .a) ≤ messageMax) where
   abbrev run : List Round → Place → Run
@@ -91,7 +91,7 @@ module _ (z : Case) (hm : length (z .m) ≤ messageMax) (ha : length (z .a) ≤ 
 
     -- the number of the next round counts
     numbered : (xs : List Round) (s : Place) (left : ℕ) (n : Bool) → within left n (marks (z .m) (z .a) xs (endsOf z s) Quiet (frameOf z s)) ≡ true
-        → within (cond (same n (numberAt z s)) left 2) (numberAt z s) (marks (z .m) (z .a) xs (endsOf z s) Quiet (frameOf z s)) ≡ true
+        → within (cond (same n (numberAt z s)) left mostLost) (numberAt z s) (marks (z .m) (z .a) xs (endsOf z s) Quiet (frameOf z s)) ≡ true
     unfolding marks within
     numbered [] s left n h = refl
     numbered (x ∷ xs) s left n h = rw (same-self (numberAt z s)) h
@@ -104,7 +104,7 @@ module _ (z : Case) (hm : length (z .m) ≤ messageMax) (ha : length (z .a) ≤ 
         let v = both (leb (lostIn x reply) b) _ (rw (e, same-self (numberAt z s)) at w) in
         let k = cnt room hx b c (leb-true (lostIn x reply) b (v .0)) in
         let q′ = rw e at q in
-        rw e (ih s′ (cond (same (numberAt z s) (numberAt z s′)) (b - lostIn x reply) 2) ok (k .0) (omega (arith, k .1, q′)) hs (numbered xs s′ (b - lostIn x reply) (numberAt z s) (v .1)))
+        rw e (ih s′ (cond (same (numberAt z s) (numberAt z s′)) (b - lostIn x reply) mostLost) ok (k .0) (omega (arith, k .1, q′)) hs (numbered xs s′ (b - lostIn x reply) (numberAt z s) (v .1)))
     live-step x xs ih s b c q hx hs w (stop p times e eq eg h en win) =
         let v = both (leb (lostIn x (p .reply)) b) _ (rw (e, same-self (numberAt z s)) at w) in
         rw (e, exchange-over (z .m) (z .a) xs (p .ends) (p .told) (p .next) eq) (win room hx b c (leb-true (lostIn x (p .reply)) b (v .0)))
@@ -152,8 +152,8 @@ module _ (i j : ℕ) (m a : List ℕ) (xs : List Round) (e : Ends) (hm : length 
   unfolding talk marksOf
   brought t =
       let room : Room case = record { down = t .down; up = t .up } in
-      let few = rw (two (same false (e .reader .number))) at (numbered case hm ha room xs first 2 false (rw (begins, ends-first) at (t .few))) in
+      let few = rw (most (same false (e .reader .number))) at (numbered case hm ha room xs first mostLost false (rw (begins, ends-first) at (t .few))) in
       let told : talk m a xs e .told ≡ Message (length a) =
-      rw (begins, ends-first) (live-run case hm ha room xs first 2 (omega arith, omega arith, bt .last) (omega arith, refl)
+      rw (begins, ends-first) (live-run case hm ha room xs first mostLost (omega arith, omega arith, bt .last) (omega arith, refl)
       (rw sub-zero (omega (arith, rw (begins, ends-first) at (t .enough)))) (t .prompt) few) in
       ending-has (talk m a xs e .told) (length a) told (safe .end)

@@ -37,7 +37,7 @@ use Rattle.reader_blocks.specs.ReaderFrames.{readerBlock}
 use Rattle.exchange.specs.Exchange.{Fate, Arrives, Fails, Act, Answers, Asks, Waits, Round, Ends, carried, acts, delivered, Passed, passes, isQuiet, Between}
 use Rattle.exchange.specs.StepLaws.{card, reader, card-chained, card-last, card-reply, reader-acked, reader-chained, reader-last}
 use Rattle.exchange.specs.ExchangeLaws.{passed, owes-none, joined-next, joined-all}
-use Rattle.lost_blocks.specs.Lost.{Ending, failed, failedOf}
+use Rattle.lost_blocks.specs.Lost.{Ending, mostLost, failed, failedOf}
 use Rattle.lost_blocks.specs.LossLaws.{card-fails, card-full, card-nak, card-again, card-next, card-owing, card-granted, card-asks, reader-fails, reader-again, reader-echo, reader-full, wtx-range}
 use Rattle.lost_blocks.specs.Places.{Stage, Fresh, Acked, Owed, Asked, Shown, Joined, Place, place, Case, turnOf, joinedOf, upOf, cardOf, downOf, lentOf, doneOf, readerOf, endsOf, frameOf, replyOf, Ok, OkAt, done, numberAt, Count, toggles, extra, need}
 
@@ -82,7 +82,7 @@ pub record Room (z : Case) : Type 0 where
 abbrev pub Counts : Case → Place → Round → Place → List ℕ → Type 0
 Counts z s x s′ reply =
     Room z → x .host ≡ Answers → (b : ℕ) → Count z s b → lostIn x reply ≤ b
-    → Count z s′ (cond (same (numberAt z s) (numberAt z s′)) (b - lostIn x reply) 2)
+    → Count z s′ (cond (same (numberAt z s) (numberAt z s′)) (b - lostIn x reply) mostLost)
     × (need z s′ < need z s + 2 * lostIn x reply)
 
 -- .. or the run ends with the answer
