@@ -23,7 +23,7 @@ use Rattle.card_blocks.specs.CardRules.{cardOpen, lentFor, cardTakes, cardRepli
 use Rattle.card_blocks.specs.CardFrames.{cardBlock, cardReply, cardWtx, cardOut}
 use Rattle.reader_blocks.specs.ReaderRules.{readerOpen, readerI, readerAgain, readerRepeats, readerEchoes, readerStarts, readerTakesI, readerTakesAck, lentFor as messageFor}
 use Rattle.reader_blocks.specs.ReaderFrames.{readerBlock, readerSend, readerOut}
-use Rattle.exchange.specs.Exchange.{Fate, Arrives, Fails, Act, Answers, Asks, Waits, Round, clean as whole, Ends, passes, Run, exchange, talk}
+use Rattle.exchange.specs.Exchange.{Fate, Arrives, Fails, Act, Answers, Asks, Waits, Round, clean as whole, Ends, passes, exchange, talk}
 use Rattle.exchange.specs.ExchangeLaws.{after-ats}
 use Rattle.exchange.specs.RowExchangeLaws.{wide}
 use Rattle.exchange.specs.Lossy.{Whole, Instead, RowRound, rowClean}

@@ -1,6 +1,6 @@
 -- "at most once": at every moment, since what the card's host has got over the first rounds stays the front of what it gets. Assumes nothing.
 use mathlib.Core.Path.{_≡_, refl, sym, ap, _∙_}
-use mathlib.Core.Bool.{Bool, true, false, cond}
+use mathlib.Core.Bool.{Bool, true, false}
 use mathlib.Core.List.{List, [], _∷_, _++_, append-assoc}
 use Prim.Native.Nat.{ℕ}
 use Rattle.block.specs.declared.Told.{Told}

@@ -1,19 +1,18 @@
 -- Without losses: the terms of T-11's second claim are those of demand 2, and what demand 2 says of both messages follows from that claim. (How
 -- many blocks went, and which, only demand 2 says.) Assumes nothing.
-use mathlib.Core.Path.{_≡_, refl, ap}
+use mathlib.Core.Path.{_≡_, refl}
 use mathlib.Core.Bool.{Bool, true, false, cond, Bool·beq as same}
 use mathlib.Core.List.{List, [], _∷_}
 use Prim.Native.Nat.{ℕ, zero, suc, _+_, _≤_}
 use native.Mathlib.Omega.{arith}
-use lib.ListN.{length, replicate, length-replicate}
-use lib.Dec.{leb}
+use lib.ListN.{replicate, length-replicate}
 use borrow.Author.Tests.{le-leb}
 use Rattle.rows.specs.Rows.{isNil, All, Bytes}
 use Rattle.limits.specs.Limits.{rowRoom}
 use Rattle.block.specs.declared.Told.{Told}
 use Rattle.exchange.specs.Exchange.{Answers, isQuiet}
 use Rattle.exchange.specs.RowExchange.{RowEnds, RowPassed, rowTalk, numberIn, Terms}
-use Rattle.exchange.specs.Lossy.{RowRound, rowClean, lossyPasses}
+use Rattle.exchange.specs.Lossy.{rowClean, lossyPasses}
 use Rattle.exchange.specs.RunLaws.{talk-clean}
 use Rattle.lost_blocks.specs.Lost.{Mark, mostLost, within, lostAll}
 use Rattle.lost_blocks.specs.RowLost.{Noticed, RowBrought, rowMarks, rowMarksOf, RowFewLosses}

@@ -35,11 +35,12 @@ use Rattle.card_blocks.specs.CardFrames.{cardBlock}
 use Rattle.reader_blocks.specs.ReaderRules.{asksAgain, readerOpen, readerDone}
 use Rattle.reader_blocks.specs.ReaderFrames.{readerBlock}
 use Rattle.exchange.specs.Exchange.{Fate, Arrives, Fails, Act, Answers, Asks, Waits, Round, Ends, carried, acts, delivered, Passed, passes, isQuiet, Between}
+use Rattle.exchange.specs.Steps.{gives}
 use Rattle.exchange.specs.StepLaws.{card, reader, card-chained, card-last, card-reply, reader-acked, reader-chained, reader-last}
 use Rattle.exchange.specs.ExchangeLaws.{passed, owes-none, joined-next, joined-all}
 use Rattle.lost_blocks.specs.Lost.{Ending, mostLost, failed, failedOf}
 use Rattle.lost_blocks.specs.LossLaws.{card-fails, card-full, card-nak, card-again, card-next, card-owing, card-granted, card-asks, reader-fails, reader-again, reader-echo, reader-full, wtx-range}
-use Rattle.lost_blocks.specs.Places.{Stage, Fresh, Acked, Owed, Asked, Shown, Joined, Place, place, Case, turnOf, joinedOf, upOf, cardOf, downOf, lentOf, doneOf, readerOf, endsOf, frameOf, replyOf, Ok, OkAt, done, numberAt, Count, toggles, extra, need}
+use Rattle.lost_blocks.specs.Places.{Stage, Fresh, Acked, Owed, Asked, Shown, Joined, Place, place, Case, turnOf, joinedOf, upOf, cardOf, downOf, lentOf, doneOf, readerOf, endsOf, frameOf, replyOf, Ok, OkAt, done, numberAt, Count, toggles, need}
 
 asks-nak : (b n : Bool) → asksAgain (cond b Sending Awaiting) n ≡ Nak n
 asks-nak true n = refl
@@ -52,11 +53,6 @@ same-self false = refl
 same-not : (n : Bool) → same n (not n) ≡ false
 same-not true = refl
 same-not false = refl
-
-abbrev answersAt : Act → Bool
-answersAt Answers = true
-answersAt (Asks v) = false
-answersAt Waits = false
 
 -- how many frames of a round are lost or damaged
 abbrev pub lostIn : Round → List ℕ → ℕ
@@ -367,7 +363,7 @@ module _ (z : Case) (hm : length (z .m) ≤ messageMax) (ha : length (z .a) ≤ 
         x = record { down = dn; host = Asks v; up = uf }
 
         late : x .host ≡ Answers → ⊥
-        late e = false≢true (ap answersAt e)
+        late e = false≢true (ap gives e)
 
         go : (t : Bool) → wtxOk v ≡ t → Outcome z (place n at again rep g own) (record { down = dn; host = Asks v; up = uf })
         go true et =
@@ -383,7 +379,7 @@ module _ (z : Case) (hm : length (z .m) ≤ messageMax) (ha : length (z .a) ≤ 
     hosts Waits k =
         mute n at again rep g own (record { down = dn; host = Waits; up = uf }) Owed times h ed
         (half n at again rep g own (record { down = dn; host = Waits; up = uf }) Owed [] times owed ct ec (ap (λ l. (owed, l)) el) er eu eg)
-        (λ q hs b c. absurd (false≢true (ap answersAt hs)))
+        (λ q hs b c. absurd (false≢true (ap gives hs)))
 
   -- the reader's I arrives
   module _ (n : Bool) (at again rep : ℕ) (last : Block) (k : ℕ) (hs : Act) (uf : Fate) (ok : Ok z at (Fresh last k)) where

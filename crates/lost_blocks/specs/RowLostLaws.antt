@@ -2,9 +2,9 @@
 use mathlib.Core.Path.{_≡_, refl, sym, ap, _∙_}
 use mathlib.Core.Bool.{Bool, true, false, cond}
 use mathlib.Core.List.{List, [], _∷_, map}
-use Prim.Native.Nat.{ℕ, suc, zero, _≤_}
+use Prim.Native.Nat.{ℕ, _≤_}
 use native.Mathlib.Omega.{arith}
-use lib.ListN.{length, replicate, length-map}
+use lib.ListN.{length, length-map}
 use Rattle.rows.specs.Rows.{Bytes, All}
 use Rattle.card.specs.declared.Card.{Card}
 use Rattle.card.specs.declared.CardState.the-variants.{Protocol}
@@ -35,11 +35,11 @@ use Rattle.reader_link.specs.declared.Link.the-variants.{Linked}
 use Rattle.reader_link.specs.declared.LinkAnswer.the-variants.{Blocks}
 use Rattle.reader_link.specs.ReaderCalls.{linked, linking, hearCall, sendCall}
 use Rattle.reader_link.specs.ReaderRowLaws.{send-block}
-use Rattle.exchange.specs.Exchange.{Act, Answers, Asks, Waits, Round, Ends, carried, acts, Passed, passes, Run, exchange, talk, isQuiet, Fine, Between, Answered}
+use Rattle.exchange.specs.Exchange.{Act, Answers, Asks, Waits, Round, Ends, carried, acts, Passed, passes, Run, exchange, talk, isQuiet, Fine, Between}
 use Rattle.exchange.specs.StepLaws.{reader-start}
 use Rattle.exchange.specs.ExchangeLaws.{passed, exchange-over}
 use Rattle.exchange.specs.FineLaws.{fine-bytes, part-bytes, talks}
-use Rattle.exchange.specs.RowExchange.{RowEnds, RowPassed, rowPasses, RowRun, rowOver, rowExchange, rowTalk, RowBetween}
+use Rattle.exchange.specs.RowExchange.{RowEnds, RowPassed, RowRun, rowOver, RowBetween}
 use Rattle.exchange.specs.RowExchangeLaws.{linked-talks, linked-open, talks-awaits, wide, FineOut, reply-fine, reply-out}
 use Rattle.lost_blocks.specs.Lost.{Brought, Safe, marks, marksOf, Prompt, FewLosses}
 use Rattle.lost_blocks.specs.Places.{Stage, Fresh, Acked, Owed, Asked, Shown, Joined, Place, place, Case, cardOf, lentOf, endsOf, frameOf, OkAt}
