@@ -160,6 +160,23 @@ fn expected() -> Vec<Key> {
     ] {
         add("exchange", &[end], phases);
     }
+    // T-11: what becomes of each frame, what the card's host does, how a lossy exchange ends, and what the claims say of it.
+    for frame in ["reader's I", "reader's R(ACK)", "reader's R(NAK)", "reader's WTX", "card's I", "card's R(ACK)", "card's WTX", "card's silence"] {
+        add("exchange lossy frame", &[frame], &["arrives", "lost", "damaged"]);
+    }
+    add("exchange lossy host", &["owing"], &["answers", "waits", "asks", "asks, refused 6"]);
+    for (end, phases) in [
+        ("message", &["last I out", "joining"][..]),
+        ("quiet", &["more to send", "last I out", "joining"]),
+        ("refused 9", &["more to send", "last I out"]),
+        ("refused 10", &["open", "last I out", "joining"]),
+        ("refused 11", &["stopped"]),
+        ("refused 12", &["more to send", "last I out", "joining"]),
+    ] {
+        add("exchange lossy end", &[end], phases);
+    }
+    add("exchange lossy claim", &["at most two lost"], &["message"]);
+    add("exchange lossy claim", &["three or more lost"], &["message", "refused 9", "refused 12"]);
     add("exchange ends", &["UID of 4 bytes", "UID of 7 bytes", "UID of 10 bytes"], &["open"]);
     add("exchange ends", &["UID", "reader's index", "card's index"], &["refused 6"]);
     add("exchange sizes", &["reader 8"], &["card 8"]);

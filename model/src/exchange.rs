@@ -14,9 +14,9 @@ pub struct Ends {
     pub reader: Reader,
     pub card: Card,
     /// The reader's own size index.
-    own: u8,
+    pub own: u8,
     /// The card's host lends its latest answer until it gives the next.
-    lent: Vec<u8>,
+    pub lent: Vec<u8>,
 }
 
 /// What the reader's host is told at the end of an exchange.

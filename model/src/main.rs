@@ -15,6 +15,7 @@ mod front;
 mod known;
 mod language;
 mod log;
+mod lossy;
 mod random;
 mod reader;
 mod reader_link;
@@ -33,7 +34,7 @@ model vectors_frame | vectors_front | vectors_sweep | vectors_exchange | vectors
 model write DIR                          write the stored scripts and their answers
 model check DIR                          compare the stored ones with what would be written
 model coverage                           what the stored scripts reach
-model scripts card|reader|field|exchange|front COUNT SEED   random scripts for larger comparisons";
+model scripts card|reader|field|exchange|lossy|front COUNT SEED   random scripts for larger comparisons";
 
 fn report(outcome: Result<(), String>) {
     if let Err(what) = outcome {
@@ -50,8 +51,9 @@ fn random_scripts(kind: &str, count: &str, seed: &str) -> Result<(), String> {
         "reader" => scripts::reader::random_scripts(count, seed).input,
         "field" => scripts::field::random_scripts(count, seed).input,
         "exchange" => scripts::exchange::random_scripts(count, seed).input,
+        "lossy" => scripts::lossy::random_scripts(count, seed).input,
         "front" => scripts::front::random_scripts(count, seed).input,
-        _ => return Err("scripts for card, reader, field, exchange or front".to_string()),
+        _ => return Err("scripts for card, reader, field, exchange, lossy or front".to_string()),
     };
     print!("{text}");
     Ok(())

@@ -93,6 +93,14 @@ impl Reader {
         }
     }
 
+    /// The reader's own block number, while it is linked.
+    pub fn block_number(&self) -> Option<u8> {
+        match &self.phase {
+            Phase::Linked(link) => Some(link.number),
+            _ => None,
+        }
+    }
+
     /// A refusal with everything unchanged.
     fn decline(&self, refusal: Refusal) -> Answer {
         note("reader refusal", self.phase_name(), &refusal.number.to_string());

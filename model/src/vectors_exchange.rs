@@ -1,15 +1,19 @@
-//! The program `vectors_exchange`: a card and a reader that speak to each other over a channel without errors.
+//! The program `vectors_exchange`: a card and a reader that speak to each other over a channel without errors, or one that loses and damages frames.
 
 use crate::blocks::LONGEST_MESSAGE;
 use crate::coverage::note;
 use crate::crc::crc_a;
 use crate::exchange::{Done, Ends, Told};
-use crate::language::{read_hex, read_number, show_hex, Program};
+use crate::language::{read_hex, read_number, read_row, show_hex, Program};
+use crate::lossy::Channel;
 
 /// The most bytes of a message in a line, the most rounds, and the largest seed.
 const MOST_BYTES: usize = 5000;
 const MOST_ROUNDS: usize = 5000;
 const MOST_SEED: usize = 99_999;
+
+/// The most elements of a word of `lossy`.
+const MOST_ELEMENTS: usize = 2718;
 
 /// What the buffers hold before each exchange.
 const UNWRITTEN: u8 = 0xEE;
@@ -36,6 +40,22 @@ fn answer(done: &Done, down: &[u8], up: &[u8]) -> String {
 }
 
 impl VectorsExchange {
+    /// One message and its answer by their numbers, over a channel without errors or this one.
+    fn exchange(&mut self, numbers: [&str; 7], channel: Option<&Channel>) -> Option<String> {
+        let [length, seed, back, back_seed, rounds, down, up] = numbers;
+        let ends = self.ends.as_mut()?;
+        let message = bytes_from(read_number(length, MOST_BYTES)?, read_number(seed, MOST_SEED)?);
+        let reply = bytes_from(read_number(back, MOST_BYTES)?, read_number(back_seed, MOST_SEED)?);
+        let rounds = read_number(rounds, MOST_ROUNDS)?;
+        let mut down = vec![UNWRITTEN; read_number(down, LONGEST_MESSAGE)?];
+        let mut up = vec![UNWRITTEN; read_number(up, LONGEST_MESSAGE)?];
+        let done = match channel {
+            None => ends.exchange(&message, &reply, rounds, &mut down, &mut up),
+            Some(channel) => ends.lossy(&message, &reply, rounds, &mut down, &mut up, channel),
+        };
+        Some(answer(&done, &down, &up))
+    }
+
     /// A refused one leaves the ends that were there.
     fn new_ends(&mut self, uid: &[u8], own: u8, index: u8) -> String {
         let length = format!("UID of {} bytes", uid.len());
@@ -72,14 +92,17 @@ impl Program for VectorsExchange {
                 self.new_ends(&uid, own, index)
             }
             ["exchange", length, seed, back, back_seed, rounds, down, up] => {
-                let ends = self.ends.as_mut()?;
-                let message = bytes_from(read_number(length, MOST_BYTES)?, read_number(seed, MOST_SEED)?);
-                let reply = bytes_from(read_number(back, MOST_BYTES)?, read_number(back_seed, MOST_SEED)?);
-                let rounds = read_number(rounds, MOST_ROUNDS)?;
-                let mut down = vec![UNWRITTEN; read_number(down, LONGEST_MESSAGE)?];
-                let mut up = vec![UNWRITTEN; read_number(up, LONGEST_MESSAGE)?];
-                let done = ends.exchange(&message, &reply, rounds, &mut down, &mut up);
-                answer(&done, &down, &up)
+                self.exchange([length, seed, back, back_seed, rounds, down, up], None)?
+            }
+            ["lossy", length, seed, back, back_seed, rounds, down, up, downs, hosts, ups, noise] => {
+                let most = |row: &Vec<u8>| row.len() <= MOST_ELEMENTS;
+                let channel = Channel {
+                    downs: read_row(downs).filter(most)?,
+                    hosts: read_hex(hosts).filter(most)?,
+                    ups: read_row(ups).filter(most)?,
+                    noise: read_row(noise).filter(most)?,
+                };
+                self.exchange([length, seed, back, back_seed, rounds, down, up], Some(&channel))?
             }
             _ => return None,
         };

@@ -2,6 +2,7 @@ pub mod Exchange
 pub mod StepLaws
 pub mod ExchangeLaws
 pub mod RowExchange
+pub mod Lossy
 pub mod FineLaws
 pub mod RowExchangeLaws
 pub mod Open

@@ -44,21 +44,21 @@ use Rattle.exchange.specs.ExchangeLaws.{passed, exchanged-in, after-ats}
 use Rattle.exchange.specs.RowExchange.{RowEnds, RowPassed, rowPasses, RowRun, rowExchange, rowTalk, RowBetween, numberIn, Terms, RowExchanged}
 use Rattle.exchange.specs.FineLaws.{fine-bytes, part-bytes, FineCard, takes-fine, replies-fine, talks, fine-heard, Goes, FineReader, hears-fine, starts-fine, quiet-talks}
 
-linked-talks : (r : Reader) (ph : ReaderPhase) (l : ReaderLink) → talks ph ≡ true → linked r ph l ≡ record { reader = r; link = Linked l }
+pub linked-talks : (r : Reader) (ph : ReaderPhase) (l : ReaderLink) → talks ph ≡ true → linked r ph l ≡ record { reader = r; link = Linked l }
 linked-talks r (Talking t) l e = refl
 linked-talks r Open l e = absurd (false≢true e)
 linked-talks r Leaving l e = absurd (false≢true e)
 linked-talks r Finished l e = absurd (false≢true e)
 linked-talks r Stopped l e = absurd (false≢true e)
 
-linked-open : (r : Reader) (ph : ReaderPhase) (l : ReaderLink) → isOpen ph ≡ true → linked r ph l ≡ record { reader = r; link = Linked l }
+pub linked-open : (r : Reader) (ph : ReaderPhase) (l : ReaderLink) → isOpen ph ≡ true → linked r ph l ≡ record { reader = r; link = Linked l }
 linked-open r Open l e = refl
 linked-open r (Talking t) l e = absurd (false≢true e)
 linked-open r Leaving l e = absurd (false≢true e)
 linked-open r Finished l e = absurd (false≢true e)
 linked-open r Stopped l e = absurd (false≢true e)
 
-talks-awaits : (ph : ReaderPhase) → talks ph ≡ true → awaitsBlock ph ≡ true
+pub talks-awaits : (ph : ReaderPhase) → talks ph ≡ true → awaitsBlock ph ≡ true
 talks-awaits (Talking t) e = refl
 talks-awaits Open e = absurd (false≢true e)
 talks-awaits Leaving e = absurd (false≢true e)
@@ -88,12 +88,12 @@ pub record Going (e : Ends) (f : List ℕ) : Type 0 where
   pub talking : talks (e .reader .phase) ≡ true
 
 -- the card after a fine block, and after its host's answer
-record FineOut (v : Out CardLink) : Type 0 where
+pub record FineOut (v : Out CardLink) : Type 0 where
   pub stays : leaves (v .told) ≡ false
   pub last : Fine (v .link .last)
   pub sent : Bytes (v .sent)
 
-sent-fine : (z : CardStep) (m : List ℕ) → Fine (z .send) → Bytes m → Bytes (blockBytes (z .send) (part (z .link .reader) (z .link .at) m))
+pub sent-fine : (z : CardStep) (m : List ℕ) → Fine (z .send) → Bytes m → Bytes (blockBytes (z .send) (part (z .link .reader) (z .link .at) m))
 sent-fine z m f h = fine-bytes (z .send) (part (z .link .reader) (z .link .at) m) f (part-bytes (z .link .reader) (z .link .at) m h)
 
 block-fine : (k : CardLink) (b : Block) (p lent d : List ℕ) → Fine b → Fine (k .last) → Bytes lent
@@ -105,7 +105,7 @@ block-fine k b p lent d f l hl =
     let x : FineCard z = takes-fine k (heardBlock v) (length (payload v)) (length d) (length lent) (fine-heard (k .own) b p f) l in
     record { stays = x .stays; last = x .keeps; sent = sent-fine z lent (x .sends) hl }
 
-reply-fine : (k : CardLink) (a d : List ℕ) → Fine (k .last) → Bytes a → FineOut (cardReply k a d)
+pub reply-fine : (k : CardLink) (a d : List ℕ) → Fine (k .last) → Bytes a → FineOut (cardReply k a d)
 unfolding cardReply cardOut
 reply-fine k a d l ha =
     let x : FineCard (cardReplies k (length a)) = replies-fine k (length a) l in
@@ -121,7 +121,7 @@ replies-join k len = go (owes (k .phase)) (leb len messageMax)
     go true false = refl
     go false u = refl
 
-reply-out : (k : CardLink) (a d : List ℕ)
+pub reply-out : (k : CardLink) (a d : List ℕ)
     → cardReply k a d ≡ record { link = cardReply k a [] .link; sent = cardReply k a [] .sent; told = cardReply k a [] .told; buffer = d }
 unfolding cardReply cardOut
 reply-out k a d = rw (replies-join k (length a))

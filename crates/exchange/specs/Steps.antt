@@ -9,15 +9,16 @@ use Rattle.block.specs.declared.Told.{Told}
 use Rattle.block.specs.declared.Told.the-variants.{Quiet, Message, Granted, Deselected, Refused}
 use Rattle.card_link.specs.declared.LinkCard.{LinkCard}
 use Rattle.limits.specs.Limits.{rowRoom}
-use Rattle.card_link.specs.CardCalls.{owing, takeCall, replyCall}
+use Rattle.card_link.specs.CardCalls.{owing, takeCall, replyCall, askCall}
 use Rattle.reader_link.specs.declared.LinkReader.{LinkReader}
 use Rattle.reader_link.specs.declared.LinkTurn.{LinkTurn}
 use Rattle.reader_link.specs.ReaderCalls.{Called, bitsBy, sendCall}
 use Rattle.exchange.specs.declared.Outcome.{Outcome}
 use Rattle.exchange.specs.declared.Hosted.{Hosted}
 use Rattle.exchange.specs.declared.Progress.{Progress}
-use Rattle.exchange.specs.Exchange.{isQuiet}
-use Rattle.exchange.specs.RowExchange.{RowEnds, RowPassed, rowPasses, RowRun, rowExchange, rowTalk, toldBy}
+use Rattle.exchange.specs.Exchange.{Act, Answers, Asks, Waits, isQuiet}
+use Rattle.exchange.specs.RowExchange.{RowEnds, RowPassed, rowPasses, RowRun, rowTalk, toldBy}
+use Rattle.exchange.specs.Lossy.{heardAs, RowRound, lossyPasses, lossyExchange, lossyTalk}
 
 -- both ends and what is lent to them; the card's host has answered a, or its answer before that is lent
 abbrev pub endsOf : LinkReader → LinkCard → List ℕ → List ℕ → Bool → List ℕ → List ℕ → RowEnds
@@ -25,14 +26,24 @@ endsOf x y down up answered before a = record { reader = x; card = y; down = dow
 
 -- ---- the steps of a round
 
--- the card's host answers if it is owed; bits is how many the card has sent
-unfoldable pub hosted : LinkCard → ℕ → Bool → List ℕ → ℕ → Hosted
-hosted y bits answered a room =
-    cond (owing y) (record { card = replyCall y a room .link; bits = length (replyCall y a room .sent); answered = true })
-    (record { card = y; bits = bits; answered = answered })
+-- the card's host, who owes an answer, acts; bits is how many the card has sent
+abbrev pub actsOn : Act → LinkCard → ℕ → Bool → List ℕ → ℕ → Hosted
+actsOn Answers y bits answered a room = record { card = replyCall y a room .link; bits = length (replyCall y a room .sent); answered = true }
+actsOn (Asks v) y bits answered a room = record { card = askCall y v room .link; bits = length (askCall y v room .sent); answered = answered }
+actsOn Waits y bits answered a room = record { card = y; bits = bits; answered = answered }
 
-unfoldable pub hostedRow : LinkCard → List ℕ → List ℕ → List ℕ
-hostedRow y a out = cond (owing y) (overlay out 0 (replyCall y a (length out) .sent)) out
+-- .. and the card's row then
+abbrev pub actsRow : Act → LinkCard → List ℕ → List ℕ → List ℕ
+actsRow Answers y a out = overlay out 0 (replyCall y a (length out) .sent)
+actsRow (Asks v) y a out = overlay out 0 (askCall y v (length out) .sent)
+actsRow Waits y a out = out
+
+-- .. if it owes one
+unfoldable pub hosted : Act → LinkCard → ℕ → Bool → List ℕ → ℕ → Hosted
+hosted x y bits answered a room = cond (owing y) (actsOn x y bits answered a room) (record { card = y; bits = bits; answered = answered })
+
+unfoldable pub hostedRow : Act → LinkCard → List ℕ → List ℕ → List ℕ
+hostedRow x y a out = cond (owing y) (actsRow x y a out) out
 
 abbrev pub countIn : Told → ℕ
 countIn (Message n) = 1
@@ -116,15 +127,31 @@ stateOf p before a down up row =
       last = p .last;
     }
 
+-- the card's host answers in a round over x where it is owed once the card has taken what it hears of the row f, and it does not ask or wait
+abbrev pub gives : Act → Bool
+gives Answers = true
+gives (Asks v) = false
+gives Waits = false
+
+abbrev pub givesIn : RowRound → RowEnds → List ℕ → Bool
+givesIn x e f = cond (owing (takeCall (e .card) (heardAs (x .down) f) (e .lent) (e .down) rowRoom .link)) (gives (x .host)) false
+
+-- .. in one of the rounds from here on
+unfoldable pub givesOn : List ℕ → List ℕ → List RowRound → RowEnds → Told → List ℕ → Bool
+givesOn m a [] e t f = false
+givesOn m a (x ∷ xs) e t f =
+    let p : RowPassed = lossyPasses m a rowRoom x e f in
+    cond (isQuiet t) (cond (givesIn x e f) true (givesOn m a xs (p .ends) (p .told) (p .next))) false
+
 -- one round more
-unfoldable pub roundOf : List ℕ → List ℕ → State → State
-roundOf m a s =
-    let q : RowPassed = rowPasses m a rowRoom (s .ends) (s .frame) in
+unfoldable pub roundOf : List ℕ → List ℕ → RowRound → State → State
+roundOf m a x s =
+    let q : RowPassed = lossyPasses m a rowRoom x (s .ends) (s .frame) in
     record {
       ends = q .ends;
       told = q .told;
       frame = q .next;
-      answered = cond (answersIn (s .ends) (s .frame)) true (s .answered);
+      answered = cond (givesIn x (s .ends) (s .frame)) true (s .answered);
       rounds = s .rounds + 1;
       messages = s .messages + length (q .got);
       last = lastOf (s .last) (q .got);
@@ -143,13 +170,13 @@ unfoldable pub sumOf : Bool → ℕ → ℕ → ℕ → RowRun → Sum
 sumOf answered rounds messages last r =
     record { ends = r .ends; told = r .told; answered = answered; rounds = rounds + length (r .downs); messages = messages + length (r .got); last = lastOf last (r .got) }
 
--- .. from a state on, in at most so many rounds
-unfoldable pub restOf : List ℕ → List ℕ → ℕ → State → Sum
-restOf m a g s =
-    sumOf (cond (s .answered) true (answersOn m a g (s .ends) (s .told) (s .frame))) (s .rounds) (s .messages) (s .last)
-    (rowExchange m a rowRoom g (s .ends) (s .told) (s .frame))
+-- .. from a state on, over these rounds
+unfoldable pub restOf : List ℕ → List ℕ → List RowRound → State → Sum
+restOf m a xs s =
+    sumOf (cond (s .answered) true (givesOn m a xs (s .ends) (s .told) (s .frame))) (s .rounds) (s .messages) (s .last)
+    (lossyExchange m a rowRoom xs (s .ends) (s .told) (s .frame))
 
--- what `exchange` hands back, as such a sum
+-- what a call hands back, as such a sum
 unfoldable pub outcomeOf : Outcome → List ℕ → List ℕ → List ℕ → List ℕ → Sum
 outcomeOf o before a down up =
     record { ends = endsOf (o .reader) (o .card) down up (o .answered) before a; told = o .told; answered = o .answered; rounds = o .rounds; messages = o .messages; last = o .last }
@@ -160,3 +187,10 @@ exchangeOf x y m before a rounds down up =
     let s : Called = sendCall x m rowRoom in
     sumOf (answersOn m a rounds (endsOf (s .turn .reader) y down up false before a) (toldBy (s .turn .answer)) (s .sent)) 0 0 0
     (rowTalk m a rowRoom rounds (endsOf x y down up false before a))
+
+-- .. where frames may be lost or damaged, over these rounds
+unfoldable pub lossyOf : LinkReader → LinkCard → List ℕ → List ℕ → List ℕ → List RowRound → List ℕ → List ℕ → Sum
+lossyOf x y m before a xs down up =
+    let s : Called = sendCall x m rowRoom in
+    sumOf (givesOn m a xs (endsOf (s .turn .reader) y down up false before a) (toldBy (s .turn .answer)) (s .sent)) 0 0 0
+    (lossyTalk m a rowRoom xs (endsOf x y down up false before a))

@@ -64,7 +64,7 @@ pub fn exchange(bench: Bench, g: Given) -> Reply {
 }
 
 // Byte k is the low byte of the seed and 7 k.
-fn filled(seed: usize) -> [u8; 5000] {
+pub fn filled(seed: usize) -> [u8; 5000] {
     let mut bytes = [0u8; 5000];
     let mut b = bench_lines::within_byte(seed);
     for i in 0..5000usize {
@@ -74,12 +74,12 @@ fn filled(seed: usize) -> [u8; 5000] {
     bytes
 }
 
-fn first(bytes: &[u8; 5000], n: usize) -> &[u8] {
+pub fn first(bytes: &[u8; 5000], n: usize) -> &[u8] {
     bench::front(bytes, n)
 }
 
 // The ends go on with the next line; an answer that the card's host gave is its last.
-fn after(bench: Bench, g: Given, o: Outcome) -> Bench {
+pub fn after(bench: Bench, g: Given, o: Outcome) -> Bench {
     let reader = o.reader;
     let card = o.card;
     if o.answered {

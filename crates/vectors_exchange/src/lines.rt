@@ -4,15 +4,17 @@ use crate::Reply;
 use crate::answers;
 use crate::exchanges;
 use crate::exchanges::Given;
+use crate::losses;
 use bench_ends::Ends;
 use card_link::LinkCard;
 use uid::Made;
 
 pub fn script(bench: Bench, text: &[u8]) -> Reply {
-    let k = bench_talk::which(b"ends exchange", 2, bench::word(text, 0));
+    let k = bench_talk::which(b"ends exchange lossy", 3, bench::word(text, 0));
     match k {
         0 => new_ends(bench, text),
         1 => exchange(bench, text),
+        2 => lossy(bench, text),
         _ => none(bench),
     }
 }
@@ -93,7 +95,24 @@ fn exchange(bench: Bench, text: &[u8]) -> Reply {
     exchanges::exchange(bench, g)
 }
 
-// The numbers of `exchange MLEN MSEED ALEN ASEED ROUNDS DOWN UP`. A number has five digits at most.
+fn lossy(bench: Bench, text: &[u8]) -> Reply {
+    if !bench.has_ends {
+        return none(bench);
+    }
+    let g = given(text);
+    if !exchanges::is_understood(g) {
+        return none(bench);
+    }
+    if !losses::are_understood(text) {
+        return none(bench);
+    }
+    if bench::word(text, 12).len() != 0 {
+        return none(bench);
+    }
+    losses::exchange(bench, g, text)
+}
+
+// The numbers of `exchange MLEN MSEED ALEN ASEED ROUNDS DOWN UP`, and of `lossy`, which has four words more. A number has five digits at most.
 fn given(text: &[u8]) -> Given {
     Given {
         message: number(text, 1),

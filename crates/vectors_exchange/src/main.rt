@@ -1,7 +1,9 @@
-// Demand 2 from text: a card and a reader that speak to each other over a channel without errors. One answer for each line.
+// Demand 2 and T-11 from text: a card and a reader that speak to each other over a channel without errors, or one that loses and damages frames.
+// One answer for each line.
 mod answers;
 mod exchanges;
 mod lines;
+mod losses;
 
 use bench_talk::Answer;
 use bench_talk::Talk;

@@ -4,9 +4,10 @@ use crate::blocks::full_payload;
 use crate::frames::size_of_index;
 use crate::language::{show_hex, Script};
 use crate::random::Random;
+use crate::scripts::lossy;
 use crate::vectors_exchange::VectorsExchange;
 
-type S = Script<VectorsExchange>;
+pub type S = Script<VectorsExchange>;
 
 /// One exchange by its numbers.
 #[derive(Clone, Copy)]
@@ -37,6 +38,7 @@ pub fn script(seed: u64) -> S {
     s.remark("random lines");
     random_lines(&mut s, &mut random, 100);
     lines_not_understood(&mut s);
+    lossy::add(&mut s, seed);
     s
 }
 
@@ -45,22 +47,22 @@ fn say(s: &mut S, random: &mut Random, l: Line) -> String {
     s.say(&format!("exchange {} {seed} {} {back} {} {} {}", l.message, l.answer, l.rounds, l.down, l.up))
 }
 
-fn ends(s: &mut S, random: &mut Random, own: usize, index: usize) {
+pub fn ends(s: &mut S, random: &mut Random, own: usize, index: usize) {
     let uid = random.uid();
     let opened = s.say(&format!("ends {} {own} {index}", show_hex(&uid)));
     assert_eq!(opened, format!("open {}", size_of_index(index as u8)));
 }
 
-fn expect(heard: String, begins: &str) {
+pub fn expect(heard: String, begins: &str) {
     assert!(heard.starts_with(begins), "{heard} and not {begins}");
 }
 
 /// The fewest rounds of the ends that are there.
-fn fewest(s: &S, message: usize, answer: usize) -> usize {
+pub fn fewest(s: &S, message: usize, answer: usize) -> usize {
     s.program.ends.as_ref().expect("there are ends").fewest_rounds(message, answer)
 }
 
-fn payload(index: usize) -> usize {
+pub fn payload(index: usize) -> usize {
     full_payload(size_of_index(index as u8))
 }
 

@@ -7,6 +7,7 @@ pub mod exchange;
 pub mod field;
 pub mod frame;
 pub mod front;
+pub mod lossy;
 pub mod reader;
 pub mod reader_blocks;
 
