@@ -1,10 +1,10 @@
 -- T-03, one known card: what its definitions give at what was read, what its call says, and "b3 fits the UID" in T-04's words. Assumes nothing.
 use mathlib.Core.Path.{_≡_, refl, sym, ap, _∙_}
-use Prim.Native.Nat.{ℕ, zero, suc, _+_, _≤_, _<_}
+use Prim.Native.Nat.{ℕ, suc, _+_, _≤_, _<_}
 use native.Mathlib.Numerals.{add-one}
 use native.Mathlib.Omega.{arith}
 use mathlib.Core.Bool.{Bool, true, false, cond, not, _&&_, _||_}
-use mathlib.Core.List.{List, []}
+use mathlib.Core.List.{List, [], _∷_}
 use lib.ListN.{length, getD}
 use lib.Dec.{eqb, ltb}
 use borrow.Author.Tests.{lt-ltb, le-ltb, ne-eqb}
@@ -15,11 +15,14 @@ use Rattle.uid.specs.Calls.{sized, refusedUid, checked, newUid, validBytes, mad
 use Rattle.uid.specs.SaysLaws.{new-says}
 use Rattle.uid.specs.Uid.{valid, levels, levelsOf, levelCount, place}
 use Rattle.uid.specs.UidLaws.{Sound}
+use Rattle.parity.specs.Bits.{bitsOf}
+use Rattle.frame.specs.Frame.{short}
+use Rattle.selection.specs.Selection.{wupa}
 use Rattle.selection.specs.Heard.{readAtqa, readSak}
 use Rattle.limits.specs.Limits.{frameRoom}
 use Rattle.reader.specs.Calls.{call, wakeMade, wakeTurn, wakeCall, turnSays, wakeSays}
-use Rattle.reader.specs.Reader.{b3, contradicts, turn, stop, completes, wakes, pickNext, afterWupa, hearWupa, misfits, uidSakHeard, hearUidSak, isNew}
-use Rattle.reader.specs.ReaderLaws.{lvl, place-lvl}
+use Rattle.reader.specs.Reader.{b3, contradicts, frame, turn, sends, stop, completes, wakes, pickNext, afterWupa, hearWupa, misfits, uidSakHeard, hearUidSak, isNew}
+use Rattle.reader.specs.ReaderLaws.{lvl}
 use Rattle.reader.specs.SakLevelLaws.{valid-fits}
 use Rattle.selection.specs.declared.AtqaRead.{AtqaRead}
 use Rattle.selection.specs.declared.SakRead.{SakRead}
@@ -28,7 +31,6 @@ use Rattle.uid.specs.declared.Level.{Level}
 use Rattle.uid.specs.declared.Level.the-variants.{One, Two, Three}
 use Rattle.uid.specs.declared.Made.{Made}
 use Rattle.uid.specs.declared.Made.the-variants.{Good, NotMade}
-use Rattle.uid.specs.declared.NewUid.{NewUid}
 use Rattle.uid.specs.declared.Uid.{Uid}
 use Rattle.uid.specs.declared.UidSize.{UidSize}
 use Rattle.uid.specs.declared.UidSize.the-variants.{Single, Double, Triple}
@@ -142,10 +144,19 @@ wake-made r l Good false a h = absurd (omega (arith, ap (λ (s : Said). s .numbe
 wake-made r l (NotMade e) true a h = absurd (omega (arith, ap (λ (s : Said). s .number) (ap refusalSays (sym (a e refl)) ∙ h)))
 wake-made r l (NotMade e) false a h = refl
 
+pub wake-turn-says : (r : Reader) (l : List ℕ) → turnSays (wakeTurn r l) ≡ declineIf (not (validBytes l)) 6 (turnSays (wakes (newUid l .uid)))
+unfolding wakeTurn
+wake-turn-says r l = wake-made r l (newUid l .made) (validBytes l) (made-argument l) (new-says l)
+
+-- WUPA has seven bits
+pub wakes-seven : (u : Uid) → turnSays (wakes u) ≡ giving (7 ∷ [])
+unfolding sends frame wupa short bitsOf
+wakes-seven u = refl
+
 pub wake-says : (r : Reader) (l : List ℕ) (room : ℕ) (t : Turn) → t ≡ wakeCall r l room → turnSays t ≡ wakeSays r l room
-unfolding wakeCall call wakeTurn
+unfolding wakeCall call
 wake-says r l room t e =
-    ap turnSays e ∙ go (isNew (r .phase)) (ltb room frameRoom) _ _ (wake-made r l (newUid l .made) (validBytes l) (made-argument l) (new-says l))
+    ap turnSays e ∙ go (isNew (r .phase)) (ltb room frameRoom) _ _ (wake-turn-says r l)
   where
     go : (b k : Bool) (u : Turn) (s : Said) → turnSays u ≡ s
         → turnSays (cond (not b) (turn r (Declines NotDue)) (cond k (turn r (Declines Room)) u)) ≡ declineIf (not b) 11 (declineIf k 1 s)
