@@ -136,7 +136,7 @@ isIn u j c = inside (strip (heads u j) (rowOf (c .uid)))
 abbrev pub readyFor : ℕ → Bool → CardState
 readyFor j w = readyIn w (lvl j)
 
-pub none-in : (u : Uid) (x : Bool → CardState) (j : ℕ) (c : Card) → Fits c → isIn u j c ≡ false → withState c (stand u x j c) ≡ c
+none-in : (u : Uid) (x : Bool → CardState) (j : ℕ) (c : Card) → Fits c → isIn u j c ≡ false → withState c (stand u x j c) ≡ c
 unfolding stand isIn inside sit₁
 none-in u x j c f = go (strip (heads u j) (rowOf (c .uid)))
   where
@@ -232,10 +232,17 @@ module _ (u : Uid) (s : Sound u) (c : Card) (k : Fits c) where
   unfolding isIn inside
   other-out n = rw (other-left u s (c .uid) (k .sound) n)
 
-  pub own-stand : uidBytes (c .uid) ≡ uidBytes u → (x : Bool → CardState) (j : ℕ) → stand u x j c ≡ x (woken c)
+  own-stand : uidBytes (c .uid) ≡ uidBytes u → (x : Bool → CardState) (j : ℕ) → stand u x j c ≡ x (woken c)
   unfolding stand sit₁
   own-stand e x j = go (strip (heads u j) (rowOf (c .uid))) (own-left u s (c .uid) (k .sound) e j)
     where
       go : (o : Option (List ℕ)) → o ≢ none → sit₁ (woken c) (x (woken c)) o ≡ x (woken c)
       go (some t) n = refl
       go none n = absurd (n refl)
+
+-- one card is in, the others are as they were
+pub standing-one : (u : Uid) → Sound u → (x : Bool → CardState) (j : ℕ) (c : Card) → Fits c → uidBytes (c .uid) ≡ uidBytes u → (a b : List Card) → All Fits a → All Fits b
+    → All (λ k. isIn u j k ≡ false) a → All (λ k. isIn u j k ≡ false) b → standing u x j (a ++ (c ∷ b)) ≡ a ++ (withState c (x (woken c)) ∷ b)
+unfolding standing
+standing-one u s x j c fc it [] b fa fb oa ob = ap₂ (λ y l. withState c y ∷ l) (own-stand u s c fc it x j) (unfold standing in standing-none u x j b fb ob)
+standing-one u s x j c fc it (k ∷ a) b fa fb oa ob = ap₂ _∷_ (none-in u x j k (fa .0) (oa .0)) (standing-one u s x j c fc it a b (fa .1) fb (oa .1) ob)
