@@ -1,18 +1,23 @@
-// A field of cards from text, its sweep, and what came of it as lines: BENCH.md's `UID [STATE [SAK [INDEX]]]`, and the answer of a sweep.
+// A field of cards from text, its sweep or one card of it woken, and what came of it as lines: BENCH.md's `UID [STATE [SAK [INDEX]]]` and `wake UID`,
+// and the answers.
 mod cards;
 mod report;
+mod woken;
 
 use bench_talk::Talk;
 use card::Card;
 
-// The cards so far, in the order given; and whether a card was not to be made, or there were more than 16.
+// The cards so far, in the order given; whether a card was not to be made, or there were more than 16; and the UID to wake, so many bytes, none
+// where the field is to be swept.
 pub struct Collected {
     pub cards: [Card; 16],
     pub count: usize,
     pub is_refused: bool,
+    pub uid: [u8; 10],
+    pub length: usize,
 }
 
-// How the cards are swept: as values, or as a row that is lent and changed in place. The answer is the same.
+// How the cards are handed over: as values, or as a row that is lent and changed in place. The answer is the same.
 pub enum Way {
     Values,
     Row,
@@ -26,6 +31,8 @@ pub fn none() -> Collected {
         cards: [c; 16],
         count: 0,
         is_refused: false,
+        uid: [0; 10],
+        length: 0,
     }
 }
 
@@ -40,10 +47,14 @@ pub fn collect(c: Collected, talk: Talk) -> Collected {
     l.collected
 }
 
-// Sweeps the cards on a new reader and says what came of it, with or without the trace for people.
+// Sweeps the cards, or wakes one of them, on a new reader, and says what came of it, with or without the trace for people.
 pub fn answer(c: Collected, way: Way, has_trace: bool) {
     if c.is_refused {
         bench_talk::put_line(bench_talk::refused(6));
+        return;
+    }
+    if c.length > 0 {
+        woken::answer(c);
         return;
     }
     let r = report::swept(c, way);

@@ -65,10 +65,14 @@ count-of Single b = refl
 count-of Double b = refl
 count-of Triple b = refl
 
+pub count-levels : (u : Uid) → length (levels u) ≡ levelCount (u .size)
+unfolding levels
+count-levels u = count-of (u .size) (u .bytes)
+
 pub misfits-told : (l : Level) (u : Uid) (more v s : Bool) (p n : ℕ) → valid u ≡ v → p ≡ place l → n ≡ levelCount (u .size) → ltb (p + 1) n ≡ s
     → (not v || cond s (not more) more) ≡ misfits l u more
-unfolding misfits levels
-misfits-told l u more v s p n e q k t = rw (e, count-of (u .size) (u .bytes), ← k, ← q, ← add-one p, t)
+unfolding misfits
+misfits-told l u more v s p n e q k t = rw (e, count-levels u, ← k, ← q, ← add-one p, t)
 
 -- at a level of a valid UID
 pub fits-is : (l : Level) (u : Uid) (more : Bool) → valid u ≡ true → ltb (suc (place l)) (length (levels u)) ≡ more → misfits l u more ≡ false
@@ -105,7 +109,7 @@ third-level true true = refl
 third-level true false = refl
 third-level false x = refl
 
-count-most : (z : UidSize) → levelCount z ≤ 3
+pub count-most : (z : UidSize) → levelCount z ≤ 3
 count-most Single = omega arith
 count-most Double = omega arith
 count-most Triple = omega arith
@@ -115,8 +119,8 @@ pub misfits-contradicts : (u : Uid) → Sound u → (l : Level) (more : Bool) �
 unfolding misfits lvl
 misfits-contradicts u s One more h = rw (s .is-valid) (low-level One _ more _ (omega arith) (valid-fits u s 0 h))
 misfits-contradicts u s Two more h = rw (s .is-valid) (low-level Two _ more _ (omega arith) (valid-fits u s 1 h))
-misfits-contradicts u s Three more h = unfold contradicts levels in
-    rw (s .is-valid, le-ltb 3 (length (levelsOf (u .size) (u .bytes))) (rw count-of (count-most (u .size)))) (third-level more _)
+misfits-contradicts u s Three more h = unfold contradicts in
+    rw (s .is-valid, le-ltb 3 (length (levels u)) (rw count-levels (count-most (u .size)))) (third-level more _)
 
 -- ---- the call
 
@@ -137,16 +141,23 @@ made-argument l e = go (eqb (length l) 4) (eqb (length l) 7) (eqb (length l) 10)
     go false false true x y z h = go₁ (sized Triple l) z h
     go false false false x y z h = cc
 
-wake-made : (r : Reader) (l : List ℕ) (m : Made) (v : Bool) → ((e : Refusal) → m ≡ NotMade e → e ≡ Argument) → madeSays m ≡ declineIf (not v) 6 (giving [])
-    → turnSays (wakeMade r (newUid l) m) ≡ declineIf (not v) 6 (turnSays (wakes (newUid l .uid)))
-wake-made r l Good true a h = refl
-wake-made r l Good false a h = absurd (omega (arith, ap (λ (s : Said). s .number) h))
-wake-made r l (NotMade e) true a h = absurd (omega (arith, ap (λ (s : Said). s .number) (ap refusalSays (sym (a e refl)) ∙ h)))
-wake-made r l (NotMade e) false a h = refl
+-- .. exactly where its bytes are those of a valid one
+made-is : (m : Made) (v : Bool) → ((e : Refusal) → m ≡ NotMade e → e ≡ Argument) → madeSays m ≡ declineIf (not v) 6 (giving []) → cond v Good (NotMade Argument) ≡ m
+made-is Good true a h = refl
+made-is Good false a h = absurd (omega (arith, ap (λ (s : Said). s .number) h))
+made-is (NotMade e) true a h = absurd (omega (arith, ap (λ (s : Said). s .number) (ap refusalSays (sym (a e refl)) ∙ h)))
+made-is (NotMade e) false a h = ap NotMade (sym (a e refl))
+
+pub made-valid : (l : List ℕ) → newUid l .made ≡ cond (validBytes l) Good (NotMade Argument)
+made-valid l = sym (made-is (newUid l .made) (validBytes l) (made-argument l) (new-says l))
 
 pub wake-turn-says : (r : Reader) (l : List ℕ) → turnSays (wakeTurn r l) ≡ declineIf (not (validBytes l)) 6 (turnSays (wakes (newUid l .uid)))
 unfolding wakeTurn
-wake-turn-says r l = wake-made r l (newUid l .made) (validBytes l) (made-argument l) (new-says l)
+wake-turn-says r l = ap (λ m. turnSays (wakeMade r (newUid l) m)) (made-valid l) ∙ go (validBytes l)
+  where
+    go : (v : Bool) → turnSays (wakeMade r (newUid l) (cond v Good (NotMade Argument))) ≡ declineIf (not v) 6 (turnSays (wakes (newUid l .uid)))
+    go true = refl
+    go false = refl
 
 -- WUPA has seven bits
 pub wakes-seven : (u : Uid) → turnSays (wakes u) ≡ giving (7 ∷ [])

@@ -13,7 +13,7 @@ use Rattle.rows.specs.ListLaws.{both, same-eq, all-append}
 use Rattle.rows.specs.Rows.{All, any, same, isNil}
 use Rattle.frame.specs.Frame.{bytesOf}
 use Rattle.uid.specs.LevelLaws.{wide, lev}
-use Rattle.uid.specs.Uid.{place, uidBytes, levels, rowOf}
+use Rattle.uid.specs.Uid.{valid, uidBytes, levels, rowOf}
 use Rattle.uid.specs.UidLaws.{Sound, length-row, uid-in-levels}
 use Rattle.selection.specs.Heard.{readAtqa, readSak}
 use Rattle.selection.specs.SakLaws.{reads-more, reads-last}
@@ -33,6 +33,7 @@ use Rattle.sweep_rules.specs.Terms.{allFit, apart, within}
 use Rattle.sweep_rules.proofs.Idle.{Fits}
 use Rattle.sweep_rules.proofs.Within.{within-says}
 use Rattle.wake_rules.specs.Wake.{wake}
+use Rattle.wake_rules.specs.Claim as typed
 use Rattle.wake_rules.specs.Claim.{lastSak, chosen, Chosen, Absent, Wakes}
 use Rattle.wake_rules.proofs.Known.{pick-five}
 use Rattle.wake_rules.proofs.Stage.{hear-none, hear-one, stand, standing, isIn, readyFor, standing-none, standing-one, turn-wupa, hear-wupa, turn-more, hear-more, turn-last, hear-last, own-in, other-out}
@@ -285,9 +286,12 @@ completed : (u : Uid) (b : ℕ) → completes false u b ≡ turn (reader Selecte
 unfolding completes
 completed u b = refl
 
-pub claim : (cs : List Card) → All Typed cs → within cs ≡ true → (u : Uid) → Sound u → Wakes cs u (wake u cs)
-claim cs t w u s = record { there = λ a c b e it. rw e (there a c b (rw e at fits) (rw e at differ) it); absent = λ n. absent (gone u s cs fits n) }
+pub claim : (cs : List Card) → All Typed cs → within cs ≡ true → (u : Uid) → typed.Typed u → valid u ≡ true → Wakes cs u (wake u cs)
+claim cs t w u b v = record { there = λ a c b e it. rw e (there a c b (rw e at fits) (rw e at differ) it); absent = λ n. absent (gone u s cs fits n) }
   where
+    s : Sound u
+    s = record { ten = b .ten; bytes = b .bytes; is-valid = v }
+
     fits : All Fits cs
     fits = within-says cs t w .fits
 

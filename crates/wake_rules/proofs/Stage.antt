@@ -26,6 +26,7 @@ use Rattle.field.specs.Field.{allTake, heardFrom}
 use Rattle.field.specs.Merge.{join, merge}
 use Rattle.field.specs.MergeLaws.{join-nil, merge-same}
 use Rattle.sweep_rules.specs.Terms.{isHalt}
+use Rattle.sweep_rules.proofs.Model.{up-lvl}
 use Rattle.sweep_rules.proofs.Idle.{Fits, Resting, idle, halt, resting, rowIn}
 use Rattle.wake_rules.specs.Claim.{lastSak}
 use Rattle.wake_rules.proofs.Known.{heads, heads-next, heads-length, level-bits, level-full, own-left, other-left, more-left, last-left}
@@ -112,12 +113,6 @@ unfolding saked sit₁ inside
 saked-last w l b (some []) h = refl
 saked-last w l b (some (x ∷ t)) h = let e : x ∷ t ≡ [] = h (x ∷ t) refl in cc
 saked-last w l b none h = refl
-
-up-lvl : (j : ℕ) → suc j < 3 → up (lvl j) ≡ lvl (suc j)
-unfolding lvl
-up-lvl zero h = refl
-up-lvl (suc zero) h = refl
-up-lvl (suc (suc j)) h = absurd (omega arith)
 
 -- ---- the field after j levels of u
 

@@ -6,7 +6,7 @@ use Prim.Native.Nat.{ℕ, suc, _≤_}
 use mathlib.Core.Bool.{false, cond}
 use mathlib.Core.List.{List, [], _∷_, _++_}
 use lib.ListN.{length, replicate}
-use Rattle.rows.specs.Rows.{All}
+use Rattle.rows.specs.Rows.{All, Bytes}
 use Rattle.uid.specs.Uid.{uidBytes, levels}
 use Rattle.card.specs.Card.{activeIn, withState}
 use Rattle.reader.specs.Reader.{reader, turn, stop}
@@ -17,6 +17,11 @@ use Rattle.card.specs.declared.Card.{Card}
 use Rattle.reader.specs.declared.Answer.the-variants.{Selects}
 use Rattle.reader.specs.declared.Phase.the-variants.{Selected}
 use Rattle.refusal.specs.declared.Refusal.the-variants.{Silence}
+
+-- what a UID's type says of its bytes
+pub record Typed (u : Uid) : Type 0 where
+  pub ten : length (u .bytes) ≡ 10
+  pub bytes : Bytes (u .bytes)
 
 -- a card's last SAK
 abbrev pub lastSak : Card → ℕ
