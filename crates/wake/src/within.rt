@@ -15,6 +15,7 @@ use uid::Uid;
 // WUPA is out.
 fn starts(u: Uid, cards: [Card; MOST_CARDS]) -> Woken
     ensures { λ w. ⌜ w ≡ started u cards ⌝ }
+    ensures { λ w. ⌜ Typed u ⌝ }
 {
     let t = reader::known::wakes(u);
     let r = t.reader;

@@ -5,7 +5,6 @@ use Prim.Native.Nat.{_≤_, _-_}
 use native.Mathlib.Omega.{arith}
 use lib.ListN.{length, take}
 use Rattle.limits.specs.Limits.{mostCards}
-use Rattle.rows.specs.ListLaws.{bytes-at}
 use Rattle.reader.specs.KnownLaws.{count-levels, count-most}
 use Rattle.sweep_steps.specs.RunLaws.{rest}
 use Rattle.wake.specs.StepLaws.{Under, under-none, under-fewer, under-turn, under-ends, fewer-left, wake-rest}
@@ -34,7 +33,7 @@ loop-holds : tie.Need-loop-holds Inv-loop μ-loop
 loop-holds c =
     let a = c .before .before .args in
     let full : length (a .cards) ≡ mostCards = search needs in
-    (under-none (c .starts .result) (a .u) (a .cards) (a .n) _ (c .starts .ensures) full, omega (arith, c .before .level-count .ensures, count-most (a .u .size)))
+    (under-none (c .starts .result) (a .u) (a .cards) (a .n) _ (c .starts .ensures .0) full, omega (arith, c .before .level-count .ensures, count-most (a .u .size)))
 
 goes-on-requires : tie.Need-goes-on-requires Inv-loop μ-loop
 goes-on-requires c κs = search needs
@@ -66,8 +65,8 @@ returns c =
     let g : goesOn (l .w) _ ≡ false = sym (c .before .goes-on .ensures) ∙ c .if1 .left in
     (
       under-ends _ _ _ _ (l .w) (l .inv .0) (c .before .before .before .before .before .pre) g
-      ∙ wake-rest (w₀ .result) (a .u) (a .cards) (a .n) _ (w₀ .ensures) (omega (arith, n .ensures, count-levels (a .u))),
-      record { ten = search needs; bytes = bytes-at (a .u .bytes) (λ i. search needs) },
+      ∙ wake-rest (w₀ .result) (a .u) (a .cards) (a .n) _ (w₀ .ensures .0) (omega (arith, n .ensures, count-levels (a .u))),
+      w₀ .ensures .1,
     )
 
 pub run-spec : {M : Type 1} → statement M
