@@ -83,7 +83,11 @@ fn at_level(a: Answer, l: Level) -> Answer {
 }
 
 fn state(a: Answer, k: usize) -> Answer {
-    bench_talk::word(a, b"off idle ready active halt protocol none ready* active*", k)
+    bench_talk::word(
+        a,
+        b"off idle ready active halt protocol none ready* active*",
+        k,
+    )
 }
 
 // A frame that is declined. An I that does not fit is silence on the air, and its host is told 10.

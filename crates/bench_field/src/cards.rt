@@ -23,7 +23,11 @@ pub fn card_line(c: Collected, text: &[u8]) -> Collecting {
         given(bench::word(text, behind_state(state, 2)), b"20"),
         given(bench::word(text, behind_state(state, 3)), b"8"),
     );
-    if !is_line(w.is_understood, state, bench::word(text, behind_state(state, 4))) {
+    if !is_line(
+        w.is_understood,
+        state,
+        bench::word(text, behind_state(state, 4)),
+    ) {
         return not_understood(c);
     }
     let bytes = w.uid;

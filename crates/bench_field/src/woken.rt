@@ -24,7 +24,12 @@ fn said(a: Answer, k: usize) -> Answer {
 pub fn answer(c: Collected) {
     let cards = c.cards;
     let uid = c.uid;
-    let w = wake::wake(reader::new_reader(), bench::front(&uid, c.length), cards, c.count);
+    let w = wake::wake(
+        reader::new_reader(),
+        bench::front(&uid, c.length),
+        cards,
+        c.count,
+    );
     let r = w.reader;
     let a = w.answer;
     say_end(r, a, w.frames);

@@ -155,11 +155,7 @@ fn deselect(r: LinkReader, g: Given) -> Answer {
 fn wake(r: LinkReader, g: Given) -> Answer {
     let uid = [1u8, 2, 3, 4, 5, 6, 7, 8, 9, 10, 11];
     let mut sent = [0u8; 2304];
-    let t = reader_link::whole::wake(
-        r,
-        bench::front(&uid, g.b),
-        bench_talk::room(&mut sent, g.a),
-    );
+    let t = reader_link::whole::wake(r, bench::front(&uid, g.b), bench_talk::room(&mut sent, g.a));
     reader_said(t, &sent)
 }
 

@@ -13,7 +13,11 @@ pub fn line(k: usize, g: Given) -> Answer {
     match k {
         6 => turned(reader::select(r, room)),
         7 => turned(reader::start_sweep(r, room)),
-        9 => turned(reader::wake(r, bench::front(b"\x01\x02\x03\x04\x05\x06\x07\x08\x09\x0a\x0b", g.c), room)),
+        9 => turned(reader::wake(
+            r,
+            bench::front(b"\x01\x02\x03\x04\x05\x06\x07\x08\x09\x0a\x0b", g.c),
+            room,
+        )),
         _ => turned(reader::hear(r, b"\0\0\x01\0\0\0\0\0\0\0\0\0\0\0\0\0\0\x01", room)),
     }
 }

@@ -12,7 +12,11 @@ use uid::Uid;
 // UID is not valid, it is Ready, Off, Ready* or Active*, its UID is the second card's, or the reader is not new. `wake_field BYTES FIRST N OFF`:
 // the UID has so many bytes, FIRST and then 2, 3, 4 ..
 pub fn line(k: usize, g: Given, word: &[u8]) -> Answer {
-    let off = bench_talk::which(b"none index uid ready off twice used ready* active*", 9, word);
+    let off = bench_talk::which(
+        b"none index uid ready off twice used ready* active*",
+        9,
+        word,
+    );
     if off > 8 {
         return bench_talk::none();
     }

@@ -1,8 +1,7 @@
 -- The terms of the call can be met, both where the UID is there and where it is not: by wake_rules' field of four cards. Assumes nothing.
-use mathlib.Core.Path.{_≡_, refl}
-use Prim.Native.Nat.{ℕ}
-use mathlib.Core.Bool.{true, false}
-use mathlib.Core.List.{List, [], _∷_}
+use mathlib.Core.Path.{refl}
+use mathlib.Core.Bool.{false}
+use mathlib.Core.List.{[], _∷_}
 use native.Mathlib.Omega.{arith}
 use Rattle.uid.specs.Calls.{validBytes}
 use Rattle.reader.specs.Reader.{blank}

@@ -10,7 +10,7 @@ use borrow.Author.Tests.{ltb-true, ltb-false}
 use Rattle.rows.specs.ListLaws.{both}
 use Rattle.limits.specs.Limits.{mostCards}
 use Rattle.uid.specs.Uid.{levels}
-use Rattle.reader.specs.Reader.{frame, sends, wakes}
+use Rattle.reader.specs.Reader.{frame, sends}
 use Rattle.sweep_rules.specs.Run.{Out, before, ended}
 use Rattle.sweep_steps.specs.Steps.{goes, exchangeOf, foundBy}
 use Rattle.sweep_steps.specs.RunLaws.{rest, after, with-found, rest-step, rest-stops, rest-spent, take-after, drop-after, length-after}

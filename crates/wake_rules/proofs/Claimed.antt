@@ -1,5 +1,5 @@
 -- T-03's claim, over the rules: the run level by level, where the UID is there and where it is not. Assumes nothing.
-use mathlib.Core.Path.{_≡_, refl, sym, ap, ap₂, _∙_}
+use mathlib.Core.Path.{_≡_, refl, sym, ap, _∙_}
 use mathlib.Core.Logic.{_≢_}
 use Prim.Native.Nat.{ℕ, zero, suc, _+_, _-_, _≤_, _<_}
 use native.Mathlib.Omega.{arith}
@@ -18,7 +18,7 @@ use Rattle.uid.specs.UidLaws.{Sound, length-row, uid-in-levels}
 use Rattle.selection.specs.Heard.{readAtqa, readSak}
 use Rattle.selection.specs.SakLaws.{reads-more, reads-last}
 use Rattle.selection.specs.Selection.{wupa, select, sakFrame, atqa}
-use Rattle.card.specs.Card.{activeIn, withState}
+use Rattle.card.specs.Card.{activeIn}
 use Rattle.reader.specs.KnownLaws.{fits-is, sak-onward, sak-ends}
 use Rattle.reader.specs.Reader.{reader, turn, frame, sends, stop, completes, wakes, picks, pickNext, misfits, hearWupa, uidSakHeard, hearUidSak, hear}
 use Rattle.reader.specs.ReaderLaws.{lvl, place-lvl}
@@ -36,10 +36,9 @@ use Rattle.wake_rules.specs.Wake.{wake}
 use Rattle.wake_rules.specs.Claim as typed
 use Rattle.wake_rules.specs.Claim.{lastSak, chosen, Chosen, Absent, Wakes}
 use Rattle.wake_rules.proofs.Known.{pick-five}
-use Rattle.wake_rules.proofs.Stage.{hear-none, hear-one, stand, standing, isIn, readyFor, standing-none, standing-one, turn-wupa, hear-wupa, turn-more, hear-more, turn-last, hear-last, own-in, other-out}
+use Rattle.wake_rules.proofs.Stage.{hear-none, hear-one, standing, isIn, readyFor, standing-none, standing-one, turn-wupa, hear-wupa, turn-more, hear-more, turn-last, hear-last, own-in, other-out}
 use Rattle.selection.specs.declared.AtqaRead.the-variants.{Atqa}
 use Rattle.selection.specs.declared.SakRead.the-variants.{Sak}
-use Rattle.uid.specs.declared.Level.the-variants.{One}
 use Rattle.uid.specs.declared.Uid.{Uid}
 use Rattle.card.specs.declared.Card.{Card}
 use Rattle.reader.specs.declared.Phase.the-variants.{Selected, WupaSent, UidSelectSent}
@@ -204,8 +203,8 @@ module _ (u : Uid) (s : Sound u) where
         let l : suc j ≡ length (levels u) = omega arith in
         let o : All (λ c. isIn u (suc j) c ≡ false) cs = rw l outside in
         let x = at-once cs (stop Silence) 0 (holding u j) (standing u (readyFor j) j cs) [] refl
-            (rw (frame-held u j) (hear-last u s j (omega arith) cs f l ∙ hear-none (λ c. cond (isIn u (suc j) c) (sakFrame (lastSak c)) []) cs (all-weaken cs (λ c i. rw i) o)))
-            (rw (frame-held u j) (turn-last u s j (omega arith) cs f l ∙ standing-none u activeIn (suc j) cs f o)) (hears-none u j) in
+        (rw (frame-held u j) (hear-last u s j (omega arith) cs f l ∙ hear-none (λ c. cond (isIn u (suc j) c) (sakFrame (lastSak c)) []) cs (all-weaken cs (λ c i. rw i) o)))
+        (rw (frame-held u j) (turn-last u s j (omega arith) cs f l ∙ standing-none u activeIn (suc j) cs f o)) (hears-none u j) in
         (x .0, omega (arith, x .1))
     gone-from (suc k) j e = go (any (isIn u (suc j)) cs) refl (gone-from k (suc j) (omega arith))
       where
@@ -216,12 +215,12 @@ module _ (u : Uid) (s : Sound u) where
             → Gone cs (suc (suc k)) (run (suc (suc k)) (sends (holding u j)) (standing u (readyFor j) j cs))
         go true q i =
             let x = then cs (stop Silence) (suc k) (holding u j) (holding u (suc j)) (standing u (readyFor j) j cs) (standing u (readyFor (suc j)) (suc j) cs) (sakFrame 0x04)
-                (rw (frame-held u j) (hear-more u s j (omega arith) cs f more ∙ rw q)) (rw (frame-held u j) (turn-more u s j (omega arith) cs f more)) (hears-more j more) (i .0) in
+            (rw (frame-held u j) (hear-more u s j (omega arith) cs f more ∙ rw q)) (rw (frame-held u j) (turn-more u s j (omega arith) cs f more)) (hears-more j more) (i .0) in
             (x .0, omega (arith, x .1, i .1))
         go false q i =
             let x = at-once cs (stop Silence) (suc k) (holding u j) (standing u (readyFor j) j cs) [] refl
-                (rw (frame-held u j) (hear-more u s j (omega arith) cs f more ∙ rw q))
-                (rw (frame-held u j) (turn-more u s j (omega arith) cs f more ∙ standing-none u (readyFor (suc j)) (suc j) cs f (all-false (isIn u (suc j)) cs q))) (hears-none u j) in
+            (rw (frame-held u j) (hear-more u s j (omega arith) cs f more ∙ rw q))
+            (rw (frame-held u j) (turn-more u s j (omega arith) cs f more ∙ standing-none u (readyFor (suc j)) (suc j) cs f (all-false (isIn u (suc j)) cs q))) (hears-none u j) in
             (x .0, omega (arith, x .1))
 
     -- an empty field is silent at once
@@ -263,7 +262,7 @@ module _ (u : Uid) (s : Sound u) where
         let more : suc j < length (levels u) = omega arith in
         let i = got-from k (suc j) (omega arith) in
         let x = then (a ++ (chosen c ∷ b)) (completes false u (lastSak c)) (suc k) (holding u j) (holding u (suc j)) (standing u (readyFor j) j (a ++ (c ∷ b))) (standing u (readyFor (suc j)) (suc j) (a ++ (c ∷ b))) (sakFrame 0x04)
-            (rw (frame-held u j) (hear-more u s j (omega arith) (a ++ (c ∷ b)) fit more ∙ rw (any-there (isIn u (suc j)) a c b (own-in u s c fc it (suc j))))) (rw (frame-held u j) (turn-more u s j (omega arith) (a ++ (c ∷ b)) fit more)) (hears-more j more) (i .0) in
+        (rw (frame-held u j) (hear-more u s j (omega arith) (a ++ (c ∷ b)) fit more ∙ rw (any-there (isIn u (suc j)) a c b (own-in u s c fc it (suc j))))) (rw (frame-held u j) (turn-more u s j (omega arith) (a ++ (c ∷ b)) fit more)) (hears-more j more) (i .0) in
         (x .0, x .1 ∙ ap suc (i .1))
 
     got : Got (a ++ (chosen c ∷ b)) (completes false u (lastSak c)) (suc (length (levels u))) (wake u (a ++ (c ∷ b)))

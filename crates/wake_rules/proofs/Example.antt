@@ -8,7 +8,7 @@ use mathlib.Core.List.{List, [], _∷_}
 use lib.ListN.{take, drop, getD}
 use native.Mathlib.Omega.{arith}
 use Rattle.rows.specs.ListLaws.{same-eq}
-use Rattle.rows.specs.Rows.{All, any, same}
+use Rattle.rows.specs.Rows.{All, same}
 use Rattle.uid.specs.Uid.{valid, uidBytes}
 use Rattle.sweep_rules.specs.Terms.{allFit, apart, within}
 use Rattle.sweep_rules.proofs.Example.{field, typed, meets}

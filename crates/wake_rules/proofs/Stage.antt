@@ -2,7 +2,7 @@
 -- What each frame does to it. Assumes nothing.
 use mathlib.Core.Path.{_≡_, refl, sym, ap, ap₂, _∙_}
 use mathlib.Core.Logic.{_≢_}
-use Prim.Native.Nat.{ℕ, zero, suc, _*_, _≤_, _<_}
+use Prim.Native.Nat.{ℕ, suc, _*_, _≤_, _<_}
 use native.Mathlib.Omega.{arith}
 use mathlib.Core.Bool.{Bool, true, false, cond, _||_, true≢false}
 use mathlib.Core.Option.{Option, none, some}
@@ -27,7 +27,7 @@ use Rattle.field.specs.Merge.{join, merge}
 use Rattle.field.specs.MergeLaws.{join-nil, merge-same}
 use Rattle.sweep_rules.specs.Terms.{isHalt}
 use Rattle.sweep_rules.proofs.Model.{up-lvl}
-use Rattle.sweep_rules.proofs.Idle.{Fits, Resting, idle, halt, resting, rowIn}
+use Rattle.sweep_rules.proofs.Idle.{Fits, Resting, idle, halt, resting}
 use Rattle.wake_rules.specs.Claim.{lastSak}
 use Rattle.wake_rules.proofs.Known.{heads, heads-next, heads-length, level-bits, level-full, own-left, other-left, more-left, last-left}
 use Rattle.uid.specs.declared.Level.{Level}

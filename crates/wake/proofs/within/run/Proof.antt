@@ -1,5 +1,5 @@
 -- `wake::within::run` meets its contract: the loop's invariant is what is left of the run. Assumes nothing.
-use mathlib.Core.Path.{_≡_, sym, ap, _∙_}
+use mathlib.Core.Path.{_≡_, sym, _∙_}
 use mathlib.Core.Bool.{true, false}
 use Prim.Native.Nat.{_≤_, _-_}
 use native.Mathlib.Omega.{arith}
@@ -8,8 +8,7 @@ use Rattle.limits.specs.Limits.{mostCards}
 use Rattle.reader.specs.KnownLaws.{count-levels, count-most}
 use Rattle.sweep_steps.specs.RunLaws.{rest}
 use Rattle.wake.specs.StepLaws.{Under, under-none, under-fewer, under-turn, under-ends, fewer-left, wake-rest}
-use Rattle.wake.specs.Steps.{turnIn, started, goesOn}
-use Rattle.wake.specs.Wake.{done}
+use Rattle.wake.specs.Steps.{turnIn, goesOn}
 use borrow.Author.Needs.{needs}
 use Rattle.wake.proofs.within.run.Statement.{statement}
 use Rattle.wake.proofs.within.run.Tie as tie
@@ -62,10 +61,9 @@ returns c =
     let a = c .before .before .before .before .before .args in
     let w₀ = c .before .before .before .starts in
     let n = c .before .before .before .before .level-count in
-    let g : goesOn (l .w) _ ≡ false = sym (c .before .goes-on .ensures) ∙ c .if1 .left in
-    (
+    let g : goesOn (l .w) _ ≡ false = sym (c .before .goes-on .ensures) ∙ c .if1 .left in (
       under-ends _ _ _ _ (l .w) (l .inv .0) (c .before .before .before .before .before .pre) g
-      ∙ wake-rest (w₀ .result) (a .u) (a .cards) (a .n) _ (w₀ .ensures .0) (omega (arith, n .ensures, count-levels (a .u))),
+          ∙ wake-rest (w₀ .result) (a .u) (a .cards) (a .n) _ (w₀ .ensures .0) (omega (arith, n .ensures, count-levels (a .u))),
       w₀ .ensures .1,
     )
 
