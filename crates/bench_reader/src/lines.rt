@@ -109,7 +109,10 @@ fn start_sweep(bench: Bench) -> Reply {
 // `wake UID`, 1 to 10 bytes
 fn wake(bench: Bench, value: &[u8]) -> Reply {
     let mut uid = [0u8; 10];
-    let n = bench_lines::uid_word(value, &mut uid);
+    let n = bench_lines::count_bytes(value, &mut uid);
+    if n == 0 {
+        return none(bench);
+    }
     if n > 10 {
         return none(bench);
     }
