@@ -28,6 +28,8 @@ impl BenchCard {
                 State::Ready(level) => format!("ready {level}"),
                 State::Active => "active".to_string(),
                 State::Halt => "halt".to_string(),
+                State::ReadyStar(level) => format!("ready* {level}"),
+                State::ActiveStar => "active*".to_string(),
                 State::Protocol(_) => "protocol".to_string(),
             },
         }

@@ -1,6 +1,7 @@
 //! The program `bench_reader`: one reader played from text.
 
 use crate::bench_card::row_line;
+use crate::bench_sweep::read_uid;
 use crate::blocks::LONGEST_MESSAGE;
 use crate::language::{read_hex, read_number, show_hex, show_row, Program};
 use crate::reader::{Answer, Reader};
@@ -44,6 +45,7 @@ impl Program for BenchReader {
             }
             ["select"] => self.reader.select(),
             ["sweep"] => self.reader.sweep(),
+            ["wake", uid] => self.reader.wake(&read_uid(uid)?),
             ["rats", index] => self.reader.rats(read_number(index, 255)? as u8),
             ["send", message] => {
                 let message = read_hex(message)?;

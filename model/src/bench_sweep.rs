@@ -1,12 +1,13 @@
 //! The programs `bench_sweep` and `vectors_sweep`.
 
 use crate::card::{Card, State};
+use crate::card_link::Link;
 use crate::coverage::note;
-use crate::language::{read_hex, read_number, show_hex, Program};
+use crate::language::{read_hex, read_number, show_hex, show_row, Program};
 use crate::log::trace;
-use crate::reader::Reader;
+use crate::reader::{Answer, Reader};
 use crate::refusal;
-use crate::sweep::{sweep, LIST_ROOM, LOG_ROOM};
+use crate::sweep::{sweep, wake, LIST_ROOM, LOG_ROOM};
 use crate::uid::MOST_CARDS;
 
 /// The most bytes that `room` can ask to be lent.
@@ -19,11 +20,13 @@ struct Collected {
     refused: bool,
     log_room: usize,
     list_room: usize,
+    /// The UID to wake, in place of the sweep.
+    wake: Option<Vec<u8>>,
 }
 
 impl Default for Collected {
     fn default() -> Collected {
-        Collected { cards: Vec::new(), refused: false, log_room: LOG_ROOM, list_room: LIST_ROOM }
+        Collected { cards: Vec::new(), refused: false, log_room: LOG_ROOM, list_room: LIST_ROOM, wake: None }
     }
 }
 
@@ -41,18 +44,23 @@ impl Collected {
 
     /// A card line: `UID [STATE [SAK [INDEX]]]`. `None`: not understood.
     fn card_line(&mut self, words: &[&str]) -> Option<()> {
-        if words.len() > 4 {
+        if words[0] == "wake" {
+            let [_, uid] = *words else { return None };
+            self.wake = Some(read_uid(uid)?);
+            return Some(());
+        }
+        let uid = read_uid(words[0])?;
+        let (state, behind) = match words[1..] {
+            [] => (State::Idle, &[][..]),
+            ["ready", level, ref behind @ ..] => (State::Ready(read_level(level)?), behind),
+            ["ready*", level, ref behind @ ..] => (State::ReadyStar(read_level(level)?), behind),
+            [word, ref behind @ ..] => (read_state(word)?, behind),
+        };
+        if behind.len() > 2 {
             return None;
         }
-        let uid = read_hex(words[0]).filter(|uid| (1..=10).contains(&uid.len()))?;
-        let state = match words.get(1) {
-            None | Some(&"idle") => State::Idle,
-            Some(&"halt") => State::Halt,
-            Some(&"off") => State::Off,
-            _ => return None,
-        };
-        let blocks = read_sak(words.get(2).unwrap_or(&"20"))?;
-        let index = read_number(words.get(3).unwrap_or(&"8"), 255)? as u8;
+        let blocks = read_sak(behind.first().unwrap_or(&"20"))?;
+        let index = read_number(behind.get(1).unwrap_or(&"8"), 255)? as u8;
         match Card::new(&uid, blocks, index) {
             Ok(card) => self.cards.push(Card { state, ..card }),
             Err(_) => self.refused = true,
@@ -66,6 +74,9 @@ impl Collected {
         if self.refused {
             return vec![format!("refused {}", refusal::ARGUMENT)];
         }
+        if let Some(uid) = &self.wake {
+            return woken(uid, cards);
+        }
         note("field lent", against(self.log_room, LOG_ROOM), against(self.list_room, LIST_ROOM));
         note("field cards", against(cards.len(), MOST_CARDS), if self.log_room < LOG_ROOM { "short log" } else { "log" });
         let swept = match sweep(&mut Reader::new(), &mut cards, self.log_room, self.list_room) {
@@ -77,15 +88,7 @@ impl Collected {
         for entry in swept.list.chunks(11) {
             lines.push(format!("found {}", show_hex(&entry[1..=entry[0] as usize])));
         }
-        for card in &cards {
-            let state = match card.state {
-                State::Halt => "halt",
-                State::Idle => "idle",
-                State::Off => "off",
-                _ => unreachable!("no other state is left after a sweep"),
-            };
-            lines.push(format!("card {} {state} {:02X} {}", show_hex(&card.uid), card.last_sak(), card.index));
-        }
+        lines.extend(cards.iter().map(card_says));
         lines.push(format!("log {}", show_hex(&swept.log)));
         lines
     }
@@ -98,6 +101,60 @@ fn against(number: usize, limit: usize) -> &'static str {
         n if n == limit => "as many",
         _ => "over",
     }
+}
+
+fn card_says(card: &Card) -> String {
+    let state = match card.state {
+        State::Halt => "halt",
+        State::Idle => "idle",
+        State::Active => "active",
+        State::ActiveStar => "active*",
+        _ => unreachable!("no other state is left of a field that is taken"),
+    };
+    format!("card {} {state} {:02X} {}", show_hex(&card.uid), card.last_sak(), card.index)
+}
+
+/// The answer to `wake`: `refused 6` alone, or how it ended, RATS asked of the reader afterwards, and the cards.
+fn woken(uid: &[u8], mut cards: Vec<Card>) -> Vec<String> {
+    let mut reader = Reader::new();
+    let mut lines = match wake(&mut reader, uid, &mut cards) {
+        Ok((sak, frames)) => vec![format!("selected {} {sak:02X}", show_hex(uid)), format!("frames {frames}")],
+        Err(refusal::SILENCE) => vec!["refused 7".to_string()],
+        Err(number) => return vec![format!("refused {number}")],
+    };
+    lines.push(match reader.rats(8) {
+        Answer::Send(row) => format!("rats send {}", show_row(&row)),
+        Answer::Refused(number) => format!("rats refused {number}"),
+        other => panic!("{other:?}"),
+    });
+    lines.extend(cards.iter().map(card_says));
+    lines
+}
+
+/// 1 to 10 bytes.
+pub fn read_uid(word: &str) -> Option<Vec<u8>> {
+    read_hex(word).filter(|uid| (1..=10).contains(&uid.len()))
+}
+
+fn read_level(word: &str) -> Option<usize> {
+    match word {
+        "1" => Some(1),
+        "2" => Some(2),
+        "3" => Some(3),
+        _ => None,
+    }
+}
+
+fn read_state(word: &str) -> Option<State> {
+    Some(match word {
+        "idle" => State::Idle,
+        "halt" => State::Halt,
+        "off" => State::Off,
+        "active" => State::Active,
+        "active*" => State::ActiveStar,
+        "protocol" => State::Protocol(Link::new(256)),
+        _ => return None,
+    })
 }
 
 /// The last SAK: exactly `20` or `00`.
@@ -200,5 +257,25 @@ mod tests {
         assert_eq!(ask(&["room 0 0", "room 65535 352"]), "frames 1\nlog 000764C000");
         assert_eq!(ask(&["room 0 0", "88020304"]), "refused 6");
         assert_eq!(ask(&["room 0", "room 0 65536", "room 0 0 0"]), "frames 1\nlog 000764C000");
+        assert_eq!(ask(&["01020304 ready* 1"]), "refused 6");
+        assert_eq!(ask(&["01020304 active*"]), "refused 6");
+    }
+
+    /// The examples of T-03's lines.
+    #[test]
+    fn woken_examples() {
+        let ask = |lines: &[&str]| {
+            let mut script = Script::new(BenchSweep::default());
+            for line in lines {
+                script.say(line);
+            }
+            script.finish().1
+        };
+        assert_eq!(
+            ask(&["80122821 halt", "01020304 idle 00", "wake 80122821"]),
+            "selected 80122821 20\nframes 2\nrats send 000001110000000010100011000110011100\ncard 80122821 active* 20 8\ncard 01020304 idle 00 8\n"
+        );
+        assert_eq!(ask(&["80122821 halt", "wake 80122822"]), "refused 7\nrats refused 11\ncard 80122821 halt 20 8\n");
+        assert_eq!(ask(&["01020304 ready* 1"]), "refused 6\n");
     }
 }

@@ -14,6 +14,9 @@ pub enum State {
     Ready(usize),
     Active,
     Halt,
+    /// Ready* and Active*, T-03: of a card that WUPA woke from Halt.
+    ReadyStar(usize),
+    ActiveStar,
     Protocol(Link),
 }
 
@@ -199,38 +202,43 @@ impl Card {
 
     /// The states without Protocol: the answer, if any, and the state after it.
     fn selection(&self, heard: Heard) -> (Option<Row>, State) {
+        // T-03: a woken card goes back to Halt where another falls to Idle. Else the rules are the same.
+        let woken = matches!(self.state, State::ReadyStar(_) | State::ActiveStar);
+        let home = if woken { State::Halt } else { State::Idle };
+        let ready = |level| if woken { State::ReadyStar(level) } else { State::Ready(level) };
         match (&self.state, heard) {
             (State::Idle, Heard::Reqa | Heard::Wupa) => (Some(self.atqa()), State::Ready(1)),
             (State::Idle, _) => (None, State::Idle),
 
-            (State::Ready(at), Heard::Anticollision { level, bits }) if *at == level => {
+            (State::Ready(at) | State::ReadyStar(at), Heard::Anticollision { level, bits }) if *at == level => {
                 let own = uid::levels(&self.uid)[level - 1];
                 if frames::bits_of(&own).starts_with(&bits) {
-                    (Some(frames::rest_of_level(&own, bits.len())), State::Ready(level))
+                    (Some(frames::rest_of_level(&own, bits.len())), ready(level))
                 } else {
-                    (None, State::Idle)
+                    (None, home)
                 }
             }
-            (State::Ready(at), Heard::Select { level, bytes }) if *at == level => {
+            (State::Ready(at) | State::ReadyStar(at), Heard::Select { level, bytes }) if *at == level => {
                 if uid::levels(&self.uid)[level - 1][..] != bytes[..] {
-                    (None, State::Idle)
+                    (None, home)
                 } else if level < uid::level_count(&self.uid) {
-                    (Some(frames::standard_with_crc(&[0x04])), State::Ready(level + 1))
+                    (Some(frames::standard_with_crc(&[0x04])), ready(level + 1))
                 } else {
-                    (Some(frames::standard_with_crc(&[self.last_sak()])), State::Active)
+                    let active = if woken { State::ActiveStar } else { State::Active };
+                    (Some(frames::standard_with_crc(&[self.last_sak()])), active)
                 }
             }
-            (State::Ready(_), _) => (None, State::Idle),
+            (State::Ready(_) | State::ReadyStar(_), _) => (None, home),
 
-            (State::Active, Heard::Hlta) => (None, State::Halt),
-            (State::Active, Heard::Rats { fsdi }) if self.blocks => {
+            (State::Active | State::ActiveStar, Heard::Hlta) => (None, State::Halt),
+            (State::Active | State::ActiveStar, Heard::Rats { fsdi }) if self.blocks => {
                 let link = Link::new(frames::size_of_index(fsdi));
                 // ATS: 02, then FSCI, CRC_A.
                 (Some(frames::standard_with_crc(&[0x02, self.index])), State::Protocol(link))
             }
-            (State::Active, _) => (None, State::Idle),
+            (State::Active | State::ActiveStar, _) => (None, home),
 
-            (State::Halt, Heard::Wupa) => (Some(self.atqa()), State::Ready(1)),
+            (State::Halt, Heard::Wupa) => (Some(self.atqa()), State::ReadyStar(1)),
             (State::Halt, _) => (None, State::Halt),
 
             (State::Off | State::Protocol(_), _) => unreachable!("taken care of before"),
@@ -263,6 +271,8 @@ impl Card {
             State::Ready(_) => "Ready",
             State::Active => "Active",
             State::Halt => "Halt",
+            State::ReadyStar(_) => "Ready*",
+            State::ActiveStar => "Active*",
             State::Protocol(link) => link.mode_name(),
         }
     }
@@ -336,7 +346,39 @@ mod tests {
         assert_eq!(take(&mut card, &frames::short(REQA)), Outcome::Silent);
         assert_eq!(card.state, State::Halt);
         assert_eq!(take(&mut card, &frames::short(WUPA)), Outcome::Answer(packed("18:20 00 40")));
-        assert_eq!(card.state, State::Ready(1));
+        assert_eq!(card.state, State::ReadyStar(1));
+        // Ready* and WUPA: silent, Halt.
+        assert_eq!(take(&mut card, &frames::short(WUPA)), Outcome::Silent);
+        assert_eq!(card.state, State::Halt);
+    }
+
+    /// FACTS, section 6: a woken card, level by level, and where "else" leads.
+    #[test]
+    fn second_states() {
+        let uid = hex("80122821441020");
+        let halted = Card { state: State::Halt, ..Card::new(&uid, true, 8).unwrap() };
+        let woken = |selects: usize| {
+            let mut card = halted.clone();
+            take(&mut card, &frames::short(WUPA));
+            for level in 1..=selects {
+                assert!(matches!(take(&mut card, &frames::select(level, &uid::levels(&uid)[level - 1])), Outcome::Answer(_)));
+            }
+            card
+        };
+        assert_eq!(woken(0).state, State::ReadyStar(1));
+        assert_eq!(woken(1).state, State::ReadyStar(2));
+        assert_eq!(woken(2).state, State::ActiveStar);
+        for selects in 0..=2 {
+            let mut card = woken(selects);
+            assert_eq!(take(&mut card, &frames::short(REQA)), Outcome::Silent);
+            assert_eq!(card, halted);
+        }
+        let mut card = woken(2);
+        assert_eq!(take(&mut card, &frames::hlta()), Outcome::Silent);
+        assert_eq!(card, halted);
+        let mut card = woken(2);
+        assert!(matches!(take(&mut card, &frames::rats(8)), Outcome::Answer(_)));
+        assert!(matches!(card.state, State::Protocol(_)));
     }
 
     /// "Slips that have cost us", and the NVB values of "Numbers to check by" that get silence.

@@ -34,11 +34,13 @@ fn expected() -> Vec<Key> {
 
     // The reader: each refusal in each phase that can give it.
     for (phase, numbers) in [
-        ("new", &["11"][..]),
+        ("new", &["6", "11"][..]),
         ("REQA sent", &["2", "3", "7", "9", "11"]),
         ("REQA sent (sweep)", &["2", "3", "9", "11"]),
         ("ANTICOLLISION sent", &["2", "3", "5", "7", "8", "11"]),
         ("SELECT sent", &["2", "3", "4", "7", "8", "9", "11"]),
+        ("WUPA sent", &["2", "3", "7", "9", "11"]),
+        ("SELECT of a UID sent", &["2", "3", "4", "7", "8", "9", "11"]),
         ("HLTA sent", &["9", "11"]),
         ("selected, b6 clear", &["11"]),
         ("selected", &["6", "11"]),
@@ -52,7 +54,7 @@ fn expected() -> Vec<Key> {
         ("stopped", &["11"]),
     ] {
         add("reader refusal", &[phase], numbers);
-        add("reader call", &[phase], &["select", "sweep", "RATS", "message", "DESELECT", "row"]);
+        add("reader call", &[phase], &["select", "sweep", "wake", "RATS", "message", "DESELECT", "row"]);
     }
 
     // T-06: what is lent to a sweep, and how many cards, beside the limits.
@@ -66,9 +68,14 @@ fn expected() -> Vec<Key> {
         }
     }
 
+    // T-03: a good SAK at each level of a known UID.
+    for (level, last) in [(1, 1), (1, 2), (2, 2), (1, 3), (2, 3), (3, 3)] {
+        add("SAK and UID", &[&format!("level {level} of {last}")], &["b3 set", "b3 clear"]);
+    }
+
     // Where the parity broke, by what is awaited; in an ANTICOLLISION answer by k, from the first byte that is whole in it.
-    add("reader parity", &["REQA sent", "REQA sent (sweep)"], &["byte 0", "byte 1"]);
-    add("reader parity", &["SELECT sent"], &["byte 0", "byte 1", "byte 2"]);
+    add("reader parity", &["REQA sent", "REQA sent (sweep)", "WUPA sent"], &["byte 0", "byte 1"]);
+    add("reader parity", &["SELECT sent", "SELECT of a UID sent"], &["byte 0", "byte 1", "byte 2"]);
     add("reader parity", &["ANTICOLLISION sent", "RATS sent"], &["byte 0", "byte 1", "byte 2", "byte 3", "byte 4 or more"]);
     for k in 0..=32 {
         for byte in (k + 7) / 8..5 {
@@ -115,10 +122,10 @@ fn expected() -> Vec<Key> {
     // The card: what is due in each state, the states of selection, and its table of blocks.
     add(
         "card due",
-        &["Off", "Idle", "Ready", "Active", "Halt", "receiving", "owing", "WTX asked", "answering"],
+        &["Off", "Idle", "Ready", "Active", "Halt", "Ready*", "Active*", "receiving", "owing", "WTX asked", "answering"],
         &["frame", "answer", "WTX", "power on", "power off"],
     );
-    add("card state", &["Idle", "Ready", "Active", "Halt"], &["REQA", "WUPA", "ANTICOLLISION", "SELECT", "HLTA", "RATS", "else"]);
+    add("card state", &["Idle", "Ready", "Active", "Halt", "Ready*", "Active*"], &["REQA", "WUPA", "ANTICOLLISION", "SELECT", "HLTA", "RATS", "else"]);
     let protocol = ["receiving", "WTX asked", "answering"];
     add(
         "card block",
@@ -228,8 +235,11 @@ fn expected_of_calls() -> Vec<Key> {
         ("reader_select", &["1", "11", "taken"]),
         ("reader_start_sweep", &["1", "11", "taken"]),
         ("reader_hear", &["1", "11", "taken"]),
+        ("reader_wake", &["1", "6", "11", "taken"]),
         ("sweep", &["1", "6", "11", "taken"]),
         ("sweep_row", &["1", "6", "11", "taken"]),
+        ("wake_field", &["6", "7", "11", "taken"]),
+        ("wake", &["1", "6", "11", "taken"]),
         ("take", &["1", "10", "11", "taken"]),
         ("reply", &["1", "10", "11", "taken"]),
         ("ask", &["1", "6", "11", "taken"]),
@@ -242,8 +252,8 @@ fn expected_of_calls() -> Vec<Key> {
     ] {
         add("call", call, columns);
     }
-    for off in ["none", "index", "uid", "ready", "off", "twice", "used"] {
-        add("call off", off, &["sweep", "sweep_row"]);
+    for off in ["none", "index", "uid", "ready", "off", "ready*", "active*", "twice", "used"] {
+        add("call off", off, &["sweep", "sweep_row", "wake_field"]);
     }
     for table in ["card lent", "reader lent"] {
         for number in ["1", "10"] {

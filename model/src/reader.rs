@@ -1,10 +1,10 @@
 //! Document 01, "The reader and the sweep": one reader's selection, alone and in a sweep, and RATS.
 
 use crate::coverage::note;
-use crate::frames::{self, Row, REQA};
+use crate::frames::{self, Row, REQA, WUPA};
 use crate::reader_link::{read_ats, Link};
 use crate::refusal::{self, Refusal};
-use crate::uid::check_byte;
+use crate::uid::{self, check_byte};
 
 #[derive(Clone, Debug, PartialEq)]
 pub enum Phase {
@@ -19,6 +19,15 @@ pub enum Phase {
     SelectSent {
         level: usize,
         bytes: [u8; 5],
+    },
+    /// WUPA is out, for the one card with this UID (T-03).
+    WupaSent {
+        uid: Vec<u8>,
+    },
+    /// SELECT of a level of this UID is out, without ANTICOLLISION before it.
+    UidSelectSent {
+        uid: Vec<u8>,
+        level: usize,
     },
     /// In a sweep only.
     HltaSent,
@@ -71,6 +80,34 @@ fn first_wrong(whole: &[u8]) -> Option<usize> {
     whole.chunks(9).position(|nine| !frames::has_collision(&nine[..8]) && nine[8] != frames::parity(frames::byte_of(&nine[..8])))
 }
 
+/// ATQA outside a sweep: 7; 2; 3; collided bits count as 1, and at least one of b1 to b5 of the first byte must be 1, else 9.
+fn read_atqa(row: &[u8]) -> Result<(), Refusal> {
+    if row.is_empty() {
+        return Err(refusal::SILENCE);
+    }
+    if row.len() != 18 {
+        return Err(refusal::LENGTH);
+    }
+    if let Some(byte) = first_wrong(row) {
+        return Err(refusal::parity(byte));
+    }
+    if row[..5].iter().all(|&bit| bit == 0) {
+        return Err(refusal::FORBIDDEN);
+    }
+    Ok(())
+}
+
+/// SAK: 7, 2, 8, 3, 4.
+fn read_sak(row: &[u8]) -> Result<u8, Refusal> {
+    if row.is_empty() {
+        return Err(refusal::SILENCE);
+    }
+    if row.len() != 27 {
+        return Err(refusal::LENGTH);
+    }
+    Ok(frames::read_standard_with_crc(row, 3)?[0])
+}
+
 impl Reader {
     pub fn new() -> Reader {
         Reader { phase: Phase::New, sweeping: false, uid: Vec::new() }
@@ -83,6 +120,8 @@ impl Reader {
             Phase::ReqaSent => "REQA sent",
             Phase::AnticollisionSent { .. } => "ANTICOLLISION sent",
             Phase::SelectSent { .. } => "SELECT sent",
+            Phase::WupaSent { .. } => "WUPA sent",
+            Phase::UidSelectSent { .. } => "SELECT of a UID sent",
             Phase::HltaSent => "HLTA sent",
             Phase::Selected { sak } if sak & 0x20 == 0 => "selected, b6 clear",
             Phase::Selected { .. } => "selected",
@@ -142,6 +181,26 @@ impl Reader {
         self.send_reqa()
     }
 
+    /// Host call, T-03: the one card with this UID. Tests 11, 6.
+    pub fn wake(&mut self, uid: &[u8]) -> Answer {
+        note("reader call", self.phase_name(), "wake");
+        if self.phase != Phase::New {
+            return self.decline(refusal::NOT_DUE);
+        }
+        if !uid::valid(uid) {
+            return self.decline(refusal::ARGUMENT);
+        }
+        self.phase = Phase::WupaSent { uid: uid.to_vec() };
+        Answer::Send(frames::short(WUPA))
+    }
+
+    /// SELECT of a level of a UID that is known.
+    fn send_select(&mut self, uid: Vec<u8>, level: usize) -> Answer {
+        let frame = frames::select(level, &uid::levels(&uid)[level - 1]);
+        self.phase = Phase::UidSelectSent { uid, level };
+        Answer::Send(frame)
+    }
+
     fn send_reqa(&mut self) -> Answer {
         self.uid.clear();
         self.phase = Phase::ReqaSent;
@@ -194,7 +253,16 @@ impl Reader {
         note("reader call", self.phase_name(), "row");
         match self.phase.clone() {
             Phase::New | Phase::Selected { .. } | Phase::Finished | Phase::Stopped => self.decline(refusal::NOT_DUE),
-            Phase::ReqaSent => self.hear_atqa(row),
+            Phase::ReqaSent if self.sweeping && row.is_empty() => self.finish(),
+            Phase::ReqaSent => match read_atqa(row) {
+                Ok(()) => self.send_anticollision(1, Row::new()),
+                Err(refusal) => self.stop(refusal),
+            },
+            Phase::WupaSent { uid } => match read_atqa(row) {
+                Ok(()) => self.send_select(uid, 1),
+                Err(refusal) => self.stop(refusal),
+            },
+            Phase::UidSelectSent { uid, level } => self.hear_uid_sak(row, uid, level),
             Phase::AnticollisionSent { level, known } => self.hear_level(row, level, &known),
             Phase::SelectSent { level, bytes } => self.hear_sak(row, level, &bytes),
             // Silence; anything else is 9, ahead of other tests.
@@ -222,24 +290,6 @@ impl Reader {
                 }
             }
         }
-    }
-
-    /// ATQA: silence ends a sweep, and is 7 outside one; 2; 3; collided bits count as 1, and at least one of b1 to b5 of the
-    /// first byte must be 1, else 9.
-    fn hear_atqa(&mut self, row: &[u8]) -> Answer {
-        if row.is_empty() {
-            return if self.sweeping { self.finish() } else { self.stop(refusal::SILENCE) };
-        }
-        if row.len() != 18 {
-            return self.stop(refusal::LENGTH);
-        }
-        if let Some(byte) = first_wrong(row) {
-            return self.stop(refusal::parity(byte));
-        }
-        if row[..5].iter().all(|&bit| bit == 0) {
-            return self.stop(refusal::FORBIDDEN);
-        }
-        self.send_anticollision(1, Row::new())
     }
 
     /// The answer to ANTICOLLISION with some bits known: 7, 2, 8, 3, 5.
@@ -289,14 +339,8 @@ impl Reader {
     /// SAK: 7, 2, 8, 3, 4; then 9 where b3 contradicts the level that SELECT named (T-04), and where it is set at level 3;
     /// b3 set: next level, the level's first byte dropped from the UID; clear: the UID is complete.
     fn hear_sak(&mut self, row: &[u8], level: usize, bytes: &[u8; 5]) -> Answer {
-        if row.is_empty() {
-            return self.stop(refusal::SILENCE);
-        }
-        if row.len() != 27 {
-            return self.stop(refusal::LENGTH);
-        }
-        let sak = match frames::read_standard_with_crc(row, 3) {
-            Ok(heard) => heard[0],
+        let sak = match read_sak(row) {
+            Ok(sak) => sak,
             Err(number) => return self.stop(number),
         };
         let more = sak & 0x04 != 0;
@@ -319,6 +363,24 @@ impl Reader {
         if self.sweeping {
             self.phase = Phase::HltaSent;
             return Answer::Found { uid, sak, frame: frames::hlta() };
+        }
+        self.phase = Phase::Selected { sak };
+        Answer::Selected { uid, sak }
+    }
+
+    /// T-03, the SAK of a known UID: b3 is set exactly if the level is not its last, else 9. It ends as any selection.
+    fn hear_uid_sak(&mut self, row: &[u8], uid: Vec<u8>, level: usize) -> Answer {
+        let sak = match read_sak(row) {
+            Ok(sak) => sak,
+            Err(number) => return self.stop(number),
+        };
+        let (more, last) = (sak & 0x04 != 0, uid::level_count(&uid));
+        note("SAK and UID", &format!("level {level} of {last}"), if more { "b3 set" } else { "b3 clear" });
+        if more != (level < last) {
+            return self.stop(refusal::FORBIDDEN);
+        }
+        if more {
+            return self.send_select(uid, level + 1);
         }
         self.phase = Phase::Selected { sak };
         Answer::Selected { uid, sak }

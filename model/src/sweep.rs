@@ -81,6 +81,50 @@ pub fn sweep(reader: &mut Reader, cards: &mut [Card], log_room: usize, list_room
     Ok(swept)
 }
 
+/// T-03: WUPA to the field, then SELECT of this UID level by level. Tests 11, 6. The UID and its last SAK with the number of frames, or 7.
+pub fn wake(reader: &mut Reader, uid: &[u8], cards: &mut [Card]) -> Result<(u8, usize), Refusal> {
+    if reader.phase != Phase::New {
+        return Err(refusal::NOT_DUE);
+    }
+    if !uid::valid(uid) || !field_is_taken(cards) {
+        return Err(refusal::ARGUMENT);
+    }
+    let before = cards.to_vec();
+    let mut next = reader.wake(uid);
+    let mut frames = 0;
+    loop {
+        match next {
+            Answer::Send(frame) => {
+                frames += 1;
+                next = reader.hear(&field_takes(cards, &frame), &[], &mut []);
+            }
+            Answer::Selected { uid: got, sak } => {
+                assert_eq!(got, uid);
+                assert_eq!(frames, 1 + uid::level_count(uid));
+                claim(&before, cards, uid, Some(sak));
+                return Ok((sak, frames));
+            }
+            Answer::Refused(refusal::SILENCE) => {
+                claim(&before, cards, uid, None);
+                return Err(refusal::SILENCE);
+            }
+            other => panic!("such a field gives nothing else: {other:?}"),
+        }
+    }
+}
+
+/// What T-03 says of it, tested each time: that card Active or Active*, every other as it was; a UID not there, all as they were.
+fn claim(before: &[Card], after: &[Card], uid: &[u8], sak: Option<u8>) {
+    assert_eq!(sak, before.iter().find(|c| c.uid == uid).map(|c| c.last_sak()));
+    for (was, is) in before.iter().zip(after) {
+        let mut due = was.clone();
+        if was.uid == uid {
+            due.state = if was.state == State::Halt { State::ActiveStar } else { State::Active };
+        }
+        assert_eq!(*is, due);
+    }
+}
+
 /// What document 01 says of a whole sweep, tested each time: the list is the idle cards in falling order, the number of frames
 /// is the sum from the UIDs alone, all cards are halted, and the room holds the log.
 fn self_check(swept: &Swept, idle: &[Vec<u8>], cards: &[Card]) {

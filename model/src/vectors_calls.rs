@@ -105,7 +105,7 @@ fn reader_at(sent: usize) -> Reader {
 }
 
 /// As many idle cards as a sweep takes, of them as many as the call is told to take, and one thing off.
-fn swept(log: usize, list: usize, count: usize, off: &str) -> Option<Told> {
+fn field(count: usize, off: &str) -> Option<(Reader, Vec<Card>)> {
     let mut cards: Vec<Card> = (0..uid::MOST_CARDS as u8)
         .map(|n| {
             let mut card = Card::new(&[n, 2, 3, 4], true, 8).expect("a good card");
@@ -120,6 +120,8 @@ fn swept(log: usize, list: usize, count: usize, off: &str) -> Option<Told> {
         "uid" => cards[0].uid[0] = uid::TAG,
         "ready" => cards[0].state = State::Ready(1),
         "off" => cards[0].state = State::Off,
+        "ready*" => cards[0].state = State::ReadyStar(1),
+        "active*" => cards[0].state = State::ActiveStar,
         "twice" => cards[0].uid = cards[1].uid.clone(),
         "used" => drop(reader.select()),
         _ => return None,
@@ -129,7 +131,26 @@ fn swept(log: usize, list: usize, count: usize, off: &str) -> Option<Told> {
         cards.push(Card { uid: vec![99, cards.len() as u8, 3, 4], ..cards[0].clone() });
     }
     cards.truncate(count);
+    Some((reader, cards))
+}
+
+fn swept(log: usize, list: usize, count: usize, off: &str) -> Option<Told> {
+    let (mut reader, mut cards) = field(count, off)?;
     Some(sweep::sweep(&mut reader, &mut cards, log, list).map(|s| format!("frames {}", s.frames())))
+}
+
+/// The first bytes of a UID, at most eleven: the one given, then 2, 3, 4 ..
+fn uid_of(bytes: usize, first: u8) -> Vec<u8> {
+    let mut uid: Vec<u8> = (1..=bytes.min(11) as u8).collect();
+    if let Some(u0) = uid.first_mut() {
+        *u0 = first;
+    }
+    uid
+}
+
+fn woken(bytes: usize, first: u8, count: usize, off: &str) -> Option<Told> {
+    let (mut reader, mut cards) = field(count, off)?;
+    Some(sweep::wake(&mut reader, &uid_of(bytes, first), &mut cards).map(|(_, frames)| format!("frames {frames}")))
 }
 
 impl VectorsCalls {
@@ -187,12 +208,21 @@ impl VectorsCalls {
             ["reader_start_sweep", room, sent] => {
                 in_room(number(room)?, FRAME_ROOM, bits_told(reader_at(number(sent)?).sweep()))
             }
+            ["reader_wake", room, sent, bytes] => {
+                let told = bits_told(reader_at(number(sent)?).wake(&uid_of(number(bytes)?, 1)));
+                in_room(number(room)?, FRAME_ROOM, told)
+            }
             ["reader_hear", room, sent] => {
                 let atqa = frames::standard(&[0x04, 0x00]);
                 in_room(number(room)?, FRAME_ROOM, bits_told(reader_at(number(sent)?).hear(&atqa, &[], &mut [])))
             }
             ["sweep" | "sweep_row", log, list, count, off] => {
                 let told = swept(number(log)?, number(list)?, number(count)?, off)?;
+                note("call off", off, words[0]);
+                told
+            }
+            ["wake_field", bytes, first, count, off] => {
+                let told = woken(number(bytes)?, read_number(first, 255)? as u8, number(count)?, off)?;
                 note("call off", off, words[0]);
                 told
             }
@@ -214,6 +244,7 @@ impl VectorsCalls {
                 in_room(number(room)?, ROW_ROOM, reader_told(reader.rats(read_number(index, 255)? as u8)))
             }
             ["send", room, bytes] => in_room(number(room)?, ROW_ROOM, reader_told(reader.send(&message(number(bytes)?)))),
+            ["wake", room, bytes] => in_room(number(room)?, ROW_ROOM, reader_told(reader.wake(&uid_of(number(bytes)?, 1)))),
             ["deselect", room] => in_room(number(room)?, ROW_ROOM, reader_told(reader.deselect())),
             _ => return None,
         })

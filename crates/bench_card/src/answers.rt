@@ -4,6 +4,7 @@ use block::Told;
 use card::CardState;
 use card_link::LinkCard;
 use refusal::Refusal;
+use uid::Level;
 
 // The words of the results, by their numbers in the list of said.
 pub const OK: usize = 0;
@@ -68,19 +69,25 @@ pub fn with_state(a: Answer, has_card: bool, x: LinkCard) -> Answer {
     match s {
         CardState::Off => state(b, 0),
         CardState::Idle => state(b, 1),
-        CardState::Ready(l) => bench_talk::word(
-            state(b, 2),
-            b"1 2 3",
-            selection::numbers::place(l),
-        ),
+        CardState::Ready(l) => at_level(state(b, 2), l),
         CardState::Active => state(b, 3),
         CardState::Halt => state(b, 4),
+        CardState::ReadyStar(l) => at_level(state(b, 7), l),
+        CardState::ActiveStar => state(b, 8),
         CardState::Protocol(_) => state(b, 5),
     }
 }
 
+fn at_level(a: Answer, l: Level) -> Answer {
+    bench_talk::word(a, b"1 2 3", selection::numbers::place(l))
+}
+
 fn state(a: Answer, k: usize) -> Answer {
-    bench_talk::word(a, b"off idle ready active halt protocol none", k)
+    bench_talk::word(
+        a,
+        b"off idle ready active halt protocol none ready* active*",
+        k,
+    )
 }
 
 // A frame that is declined. An I that does not fit is silence on the air, and its host is told 10.

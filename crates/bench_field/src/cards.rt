@@ -4,27 +4,86 @@ use crate::Collecting;
 use card::Card;
 use card::CardState;
 use limits::MOST_CARDS;
+use uid::Level;
 use uid::Made;
 
-// One card more, from a line. What is left out is `idle`, `20` and `8`.
+// One card more, from a line, or the UID to wake. What is left out is `idle`, `20` and `8`.
 pub fn card_line(c: Collected, text: &[u8]) -> Collecting {
-    let state = bench_talk::which(b"idle halt off", 3, given(bench::word(text, 1), b"idle"));
+    let first = bench::word(text, 0);
+    if bench_talk::which(b"wake", 1, first) == 0 {
+        return wake_line(c, bench::word(text, 1), bench::word(text, 2));
+    }
+    let state = state_words(given(bench::word(text, 1), b"idle"), bench::word(text, 2));
     let w = bench_lines::card_words(
-        bench::word(text, 0),
-        given(bench::word(text, 2), b"20"),
-        given(bench::word(text, 3), b"8"),
+        first,
+        given(bench::word(text, behind_state(state, 2)), b"20"),
+        given(bench::word(text, behind_state(state, 3)), b"8"),
     );
-    if !is_line(w.is_understood, state, bench::word(text, 4)) {
-        return Collecting {
-            is_understood: false,
-            collected: c,
-        };
+    if !is_line(
+        w.is_understood,
+        state,
+        bench::word(text, behind_state(state, 4)),
+    ) {
+        return not_understood(c);
     }
     let bytes = w.uid;
     Collecting {
         is_understood: true,
         collected: with_new(c, bench::front(&bytes, w.length), w.blocks, w.index, state),
     }
+}
+
+fn not_understood(c: Collected) -> Collecting {
+    Collecting {
+        is_understood: false,
+        collected: c,
+    }
+}
+
+// `wake UID`; the last such line counts.
+fn wake_line(c: Collected, value: &[u8], behind: &[u8]) -> Collecting {
+    let mut uid = [0u8; 10];
+    let n = bench_lines::uid_word(value, &mut uid);
+    if behind.len() != 0 {
+        return not_understood(c);
+    }
+    if n > 10 {
+        return not_understood(c);
+    }
+    let mut after = c;
+    after.uid = uid;
+    after.length = n;
+    Collecting {
+        is_understood: true,
+        collected: after,
+    }
+}
+
+// The number of a state, 12 where the words are none: `idle`, `halt`, `off`, `active`, `active*`, `protocol`, then `ready` and `ready*`, which have a
+// level behind them.
+fn state_words(word: &[u8], level: &[u8]) -> usize {
+    let k = bench_talk::which(b"idle halt off active active* protocol", 6, word);
+    if k < 6 {
+        return k;
+    }
+    let l = bench_talk::which(b"1 2 3", 3, level);
+    if l > 2 {
+        return 12;
+    }
+    let star = bench_talk::which(b"ready ready*", 2, word);
+    match star {
+        0 => 6 + l,
+        1 => 9 + l,
+        _ => 12,
+    }
+}
+
+// The place of a word: a level stands before it, or none.
+fn behind_state(state: usize, k: usize) -> usize {
+    if state < 6 {
+        return k;
+    }
+    if k < 5 { k + 1 } else { 5 }
 }
 
 fn given<'a>(word: &'a [u8], other: &'a [u8]) -> &'a [u8] {
@@ -39,7 +98,7 @@ fn is_line(is_card: bool, state: usize, behind: &[u8]) -> bool {
     if !is_card {
         return false;
     }
-    if state > 2 {
+    if state > 11 {
         return false;
     }
     behind.len() == 0
@@ -58,10 +117,23 @@ fn with_new(c: Collected, uid: &[u8], blocks: bool, index: u8, state: usize) -> 
 
 // A new card, which is Off, in the state of this number.
 fn in_state(c: Card, state: usize) -> Card {
+    with_state(c, state_of(state))
+}
+
+fn state_of(state: usize) -> CardState {
     match state {
-        0 => with_state(c, CardState::Idle),
-        1 => with_state(c, CardState::Halt),
-        _ => c,
+        0 => CardState::Idle,
+        1 => CardState::Halt,
+        3 => CardState::Active,
+        4 => CardState::ActiveStar,
+        5 => CardState::Protocol(8),
+        6 => CardState::Ready(Level::One),
+        7 => CardState::Ready(Level::Two),
+        8 => CardState::Ready(Level::Three),
+        9 => CardState::ReadyStar(Level::One),
+        10 => CardState::ReadyStar(Level::Two),
+        11 => CardState::ReadyStar(Level::Three),
+        _ => CardState::Off,
     }
 }
 

@@ -1,26 +1,30 @@
-// A field of cards from text, its sweep, and what came of it as lines: BENCH.md's `UID [STATE [SAK [INDEX]]]`, and the answer of a sweep.
+// A field of cards from text, its sweep or one card of it woken, and what came of it as lines: BENCH.md's `UID [STATE [SAK [INDEX]]]` and `wake UID`,
+// and the answers.
 mod cards;
 mod directives;
 mod report;
+mod woken;
 
 use bench_talk::Talk;
 use card::Card;
 use limits::MOST_CARDS;
 
-// The cards so far, in the order given: their number, and as many of them as a sweep takes; whether a card was not to be made; and how many
-// bytes of log and list are lent to the sweep.
+// The cards so far, in the order given: their number, and as many of them as a sweep takes; whether a card was not to be made; how many bytes of
+// log and list are lent to the sweep; and the UID to wake, so many bytes, none where the field is to be swept.
 pub struct Collected {
     pub cards: [Card; MOST_CARDS],
     pub count: usize,
     pub is_refused: bool,
     pub log: usize,
     pub list: usize,
+    pub uid: [u8; 10],
+    pub length: usize,
 }
 
 // The most bytes of a log or a list that a line can ask to be lent.
 const MOST_ROOM: usize = 65535;
 
-// How the cards are swept: as values, or as a row that is lent and changed in place. The answer is the same.
+// How the cards are handed over: as values, or as a row that is lent and changed in place. The answer is the same.
 pub enum Way {
     Values,
     Row,
@@ -36,6 +40,8 @@ pub fn none() -> Collected {
         is_refused: false,
         log: limits::LOG_ROOM,
         list: limits::LIST_ROOM,
+        uid: [0; 10],
+        length: 0,
     }
 }
 
@@ -65,10 +71,14 @@ fn line_taken(c: Collected, text: &[u8]) -> Collecting {
     }
 }
 
-// Sweeps the cards on a new reader and says what came of it, with or without the trace for people.
+// Sweeps the cards, or wakes one of them, on a new reader, and says what came of it, with or without the trace for people.
 pub fn answer(c: Collected, way: Way, has_trace: bool) {
     if c.is_refused {
         bench_talk::put_line(bench_talk::refused(6));
+        return;
+    }
+    if c.length > 0 {
+        woken::answer(c);
         return;
     }
     let mut log = [0u8; MOST_ROOM];

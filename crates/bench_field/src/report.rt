@@ -6,6 +6,7 @@ use card::Card;
 use card::CardState;
 use limits::MOST_CARDS;
 use sweep::Swept;
+use uid::Level;
 
 // The words of the lines, by their numbers in the list of said.
 const FRAMES: usize = 0;
@@ -117,7 +118,7 @@ fn wide(n: u8) -> usize {
 }
 
 // `card UID STATE SAK INDEX` for each card.
-fn say_cards(cards: [Card; MOST_CARDS], count: usize) {
+pub fn say_cards(cards: [Card; MOST_CARDS], count: usize) {
     for i in 0..count {
         if i >= MOST_CARDS {
             return;
@@ -132,8 +133,12 @@ fn say_card(c: Card) {
     let bytes = u.bytes;
     let s = c.state;
     let a = bench_talk::hex(said(CARD), bench::front(&bytes, uid::byte_count(size)));
-    let b = bench_talk::word(a, b"off idle ready active halt protocol", state_number(s));
-    let d = bench_talk::word(b, b"00 20", flag(c.blocks));
+    let b = bench_talk::word(
+        a,
+        b"off idle ready active halt protocol ready* active*",
+        state_number(s),
+    );
+    let d = bench_talk::word(at_level(b, s), b"00 20", flag(c.blocks));
     bench_talk::put_line(bench_talk::number(d, c.index as usize));
 }
 
@@ -148,6 +153,26 @@ fn state_number(s: CardState) -> usize {
         CardState::Ready(_) => 2,
         CardState::Active => 3,
         CardState::Halt => 4,
+        CardState::ReadyStar(_) => 6,
+        CardState::ActiveStar => 7,
         CardState::Protocol(_) => 5,
     }
+}
+
+// The level behind `ready` and `ready*`.
+fn at_level(a: Answer, s: CardState) -> Answer {
+    match s {
+        CardState::Off => a,
+        CardState::Idle => a,
+        CardState::Ready(l) => level(a, l),
+        CardState::Active => a,
+        CardState::Halt => a,
+        CardState::ReadyStar(l) => level(a, l),
+        CardState::ActiveStar => a,
+        CardState::Protocol(_) => a,
+    }
+}
+
+fn level(a: Answer, l: Level) -> Answer {
+    bench_talk::word(a, b"1 2 3", selection::numbers::place(l))
 }

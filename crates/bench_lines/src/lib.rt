@@ -57,6 +57,12 @@ pub fn within_byte(n: usize) -> u8 {
     (n % 256) as u8
 }
 
+// How many bytes a UID has, 1 to 10, which are read into the lent ones; more where the word is none.
+pub fn uid_word(word: &[u8], bytes: &mut [u8; 10]) -> usize {
+    let n = count_bytes(word, bytes);
+    if n == 0 { 11 } else { n }
+}
+
 // A card's UID, SAK (`20` where it speaks blocks, else `00`) and size index.
 pub fn card_words(uid: &[u8], sak: &[u8], index: &[u8]) -> CardWords {
     let mut bytes = [0u8; 10];

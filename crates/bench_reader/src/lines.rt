@@ -15,11 +15,12 @@ pub fn script(bench: Bench, text: &[u8]) -> Reply {
     if bench::word(text, 2).len() != 0 {
         return none(bench);
     }
-    let k = bench_talk::which(b"room rats send", 3, name);
+    let k = bench_talk::which(b"room rats send wake", 4, name);
     match k {
         0 => room(bench, value),
         1 => rats(bench, value),
         2 => send(bench, value),
+        3 => wake(bench, value),
         _ => frame(bench, name, value),
     }
 }
@@ -102,6 +103,22 @@ fn start_sweep(bench: Bench) -> Reply {
     let mut sent = [0u8; 2304];
     let reader = bench.reader;
     let t = whole::start_sweep(reader, &mut sent);
+    turned(bench, t, &sent)
+}
+
+// `wake UID`, 1 to 10 bytes
+fn wake(bench: Bench, value: &[u8]) -> Reply {
+    let mut uid = [0u8; 10];
+    let n = bench_lines::count_bytes(value, &mut uid);
+    if n == 0 {
+        return none(bench);
+    }
+    if n > 10 {
+        return none(bench);
+    }
+    let mut sent = [0u8; 2304];
+    let reader = bench.reader;
+    let t = whole::wake(reader, bench::front(&uid, n), &mut sent);
     turned(bench, t, &sent)
 }
 

@@ -1,4 +1,4 @@
--- The rules of Ready by what the tests of a frame told. Assumes nothing.
+-- The rules of Ready and Ready* by what the tests of a frame told. Assumes nothing.
 use mathlib.Core.Path.{_≡_, refl, sym, ap, _∙_}
 use Prim.Native.Nat.{ℕ, suc, _+_, _-_, _≤_, _<_, min}
 use mathlib.Core.Bool.{Bool, true, false, cond, _&&_}
@@ -15,14 +15,14 @@ use Rattle.frame.specs.Frame.{standard}
 use Rattle.frame.specs.FrameLaws.{length-standard}
 use Rattle.uid.specs.Uid.{levelCount, place, levelsOf, levels, threeLevels}
 use Rattle.selection.specs.Selection.{cut, anticollision, others, select, sakFrame}
-use Rattle.card.specs.Card.{Step, bitsSent, matching, remain, sak, chosen, ready, rules}
+use Rattle.card.specs.Card.{Step, bitsSent, matching, home, readyIn, remain, sak, chosen, ready, rules}
+use Rattle.card.specs.RulesLaws.{rules-ready}
 use Rattle.uid.specs.declared.Level.{Level}
 use Rattle.uid.specs.declared.Level.the-variants.{One, Two, Three}
 use Rattle.uid.specs.declared.Uid.{Uid}
 use Rattle.uid.specs.declared.UidSize.{UidSize}
 use Rattle.uid.specs.declared.UidSize.the-variants.{Single, Double, Triple}
 use Rattle.card.specs.declared.Card.{Card}
-use Rattle.card.specs.declared.CardState.the-variants.{Idle, Ready}
 
 -- ---- the level's number
 
@@ -46,16 +46,15 @@ remain-is c l p n e k = rw (e, k, add-one, count-levels (c .uid))
 
 -- ---- a level's bytes
 
-module _ (c : Card) (l : Level) (f : List ℕ) (p n : ℕ) (e : p ≡ place l) (k : n ≡ levelCount (c .uid .size)) where
-  pub level-step : (ls : List (List ℕ)) → ls ≡ threeLevels (c .uid) → p < n → ready c l (getD ls p []) f ≡ rules c (Ready l) f
-  unfolding rules threeLevels
+module _ (c : Card) (w : Bool) (l : Level) (f : List ℕ) (p n : ℕ) (e : p ≡ place l) (k : n ≡ levelCount (c .uid .size)) where
+  pub level-step : (ls : List (List ℕ)) → ls ≡ threeLevels (c .uid) → p < n → ready c w l (getD ls p []) f ≡ rules c (readyIn w l) f
+  unfolding threeLevels
   level-step ls q h =
       let m : place l < length (levels (c .uid)) = omega (arith, count-levels (c .uid)) in
-      rw (q, e, lt-ltb (place l) (length (levels (c .uid))) m, List·getD-append (levels (c .uid)) _ [] (place l) m)
+      rw (rules-ready c w l f, q, e, lt-ltb (place l) (length (levels (c .uid))) m, List·getD-append (levels (c .uid)) _ [] (place l) m)
 
-  pub level-none : n ≤ p → _≡_ {A = Step} (Idle, []) (rules c (Ready l) f)
-  unfolding rules
-  level-none h = rw (le-ltb (place l) (length (levels (c .uid))) (omega (arith, count-levels (c .uid))))
+  pub level-none : n ≤ p → _≡_ {A = Step} (home w, []) (rules c (readyIn w l) f)
+  level-none h = rw (rules-ready c w l f, le-ltb (place l) (length (levels (c .uid))) (omega (arith, count-levels (c .uid))))
 
 -- ---- ANTICOLLISION and SELECT of a level
 
@@ -76,7 +75,7 @@ rest-made k n five row h v e q =
     let m : n ≡ cut k = omega arith in
     rw (q, m, take-all (45 - cut k) (drop (cut k) (standard five)) (rw (length-drop, length-standard, v) (omega arith)))
 
-pub ready-step : (c : Card) (l : Level) (five f : List ℕ) {r : Bool} (m s : Bool) → r ≡ matching l five f → r ≡ m → same f (select l five) ≡ s
-    → _≡_ {A = Step} (cond m (Ready l, others (bitsSent f) five) (cond s (chosen c l, sakFrame (sak c l)) (Idle, []))) (ready c l five f)
+pub ready-step : (c : Card) (w : Bool) (l : Level) (five f : List ℕ) {r : Bool} (m s : Bool) → r ≡ matching l five f → r ≡ m → same f (select l five) ≡ s
+    → _≡_ {A = Step} (cond m (readyIn w l, others (bitsSent f) five) (cond s (chosen c w l, sakFrame (sak c l)) (home w, []))) (ready c w l five f)
 unfolding ready
-ready-step c l five f m s p e q = rw (sym p ∙ e, q)
+ready-step c w l five f m s p e q = rw (sym p ∙ e, q)

@@ -1,6 +1,6 @@
 -- Document 01, "The card": a frame with a collided bit, wrong parity, length, CRC_A or NVB, and one that does not match, is "else". The
 -- rules say so by comparing with the awaited frames; here it is said in the paper's words. Assumes nothing.
-use mathlib.Core.Path.{_≡_, sym, ap, _∙_}
+use mathlib.Core.Path.{_≡_, refl, sym, ap, _∙_}
 use mathlib.Core.Logic.{_≢_}
 use Prim.Native.Nat.{_%_, _/_, _*_, _-_, ℕ, _+_, _≤_, _<_}
 use mathlib.Core.Bool.{not, _||_, true≢false, true, false, _&&_, Bool}
@@ -25,13 +25,13 @@ use Rattle.uid.specs.Uid.{levels, place}
 use Rattle.uid.specs.UidLaws.{Sound, five-row}
 use Rattle.selection.specs.Selection.{reqa, wupa, hlta, rats, sel, nvb, cut, anticollision, select}
 use Rattle.selection.specs.SelectionLaws.{anti-bits, length-anti, length-select, select-tells, length-hlta, length-rats, length-reqa, length-wupa}
-use Rattle.card.specs.Card.{rules, bitsSent, fsdi}
-use Rattle.card.specs.ElseLaws.{elseOf, fiveAt, Unawaited, else-is}
+use Rattle.card.specs.Card.{home, readyIn, activeIn, rules, bitsSent, fsdi}
+use Rattle.card.specs.ElseLaws.{elseOf, fiveAt, Unready, Unactive, Unawaited, else-is, ready-else, active-else}
 use Rattle.uid.specs.declared.Level.{Level}
 use Rattle.uid.specs.declared.Level.the-variants.{One, Two, Three}
 use Rattle.card.specs.declared.Card.{Card}
 use Rattle.card.specs.declared.CardState.{CardState}
-use Rattle.card.specs.declared.CardState.the-variants.{Idle, Ready, Active, Halt, Off, Protocol}
+use Rattle.card.specs.declared.CardState.the-variants.{Idle, Ready, Active, Halt, ReadyStar, ActiveStar, Off, Protocol}
 
 -- ---- a test that no awaited frame fails
 
@@ -49,12 +49,20 @@ module _ (T : List ℕ → Bool) (a : Passed T) (f : List ℕ) (e : T f ≡ true
   unlike : (g : List ℕ) → T g ≡ false → f ≢ g
   unlike g h q = true≢false (sym e ∙ ap T q ∙ h)
 
+  fails-ready : (c : Card) (l : Level) → Unready c l f
+  fails-ready c l h = (λ k. unlike (anticollision l (bitsSent f) (fiveAt c l)) (a .is-anti l (bitsSent f) (fiveAt c l)), unlike (select l (fiveAt c l)) (a .is-select l (fiveAt c l)))
+
+  fails-active : Unactive f
+  fails-active = (unlike hlta (a .is-hlta), unlike (rats (fsdi f)) (a .is-rats (fsdi f)))
+
   fails : (c : Card) (y : CardState) → Unawaited c y f
   fails c Off = tt
   fails c Idle = (unlike reqa (a .is-reqa), unlike wupa (a .is-wupa))
-  fails c (Ready l) = λ h. (λ k. unlike (anticollision l (bitsSent f) (fiveAt c l)) (a .is-anti l (bitsSent f) (fiveAt c l)), unlike (select l (fiveAt c l)) (a .is-select l (fiveAt c l)))
-  fails c Active = (unlike hlta (a .is-hlta), unlike (rats (fsdi f)) (a .is-rats (fsdi f)))
+  fails c (Ready l) = fails-ready c l
+  fails c Active = fails-active
   fails c Halt = unlike wupa (a .is-wupa)
+  fails c (ReadyStar l) = fails-ready c l
+  fails c ActiveStar = fails-active
   fails c (Protocol i) = tt
 
 -- ---- a collided bit
@@ -101,12 +109,17 @@ pub bits-sent : (f : List ℕ) (k : ℕ) → length f ≡ 18 + cut k → bitsSen
 bits-sent f k h = rw h (omega arith)
 
 -- the lengths that a state awaits: a short frame; ANTICOLLISION of 0 to 39 bits and SELECT; four bytes
+abbrev awaitsReady : ℕ → Bool
+awaitsReady n = leb 18 n && ltb n 62 && not (eqb (n % 9) 8) || eqb n 81
+
 abbrev pub awaits : CardState → ℕ → Bool
 awaits Off n = false
 awaits Idle n = eqb n 7
-awaits (Ready l) n = leb 18 n && ltb n 62 && not (eqb (n % 9) 8) || eqb n 81
+awaits (Ready l) n = awaitsReady n
 awaits Active n = eqb n 36
 awaits Halt n = eqb n 7
+awaits (ReadyStar l) n = awaitsReady n
+awaits ActiveStar n = eqb n 36
 awaits (Protocol i) n = false
 
 module _ (c : Card) (s : Sound (c .uid)) (l : Level) (h : place l < length (levels (c .uid))) where
@@ -116,12 +129,12 @@ module _ (c : Card) (s : Sound (c .uid)) (l : Level) (h : place l < length (leve
   level-bytes : Bytes (fiveAt c l)
   level-bytes = five-row (c .uid) s (place l) h .fits
 
-  awaits-anti : (k : ℕ) → k < 40 → awaits (Ready l) (length (anticollision l k (fiveAt c l))) ≡ true
+  awaits-anti : (k : ℕ) → k < 40 → awaitsReady (length (anticollision l k (fiveAt c l))) ≡ true
   awaits-anti k m =
       let n : ℕ = 18 + cut k in
       rw (length-anti l k (fiveAt c l) level-full (omega arith), le-leb 18 n (omega arith), lt-ltb n 62 (omega arith), ne-eqb (n % 9) 8 (omega arith))
 
-  awaits-select : awaits (Ready l) (length (select l (fiveAt c l))) ≡ true
+  awaits-select : awaitsReady (length (select l (fiveAt c l))) ≡ true
   awaits-select = rw (length-select l (fiveAt c l) level-full)
 
 -- rows of another length than an awaited one
@@ -131,12 +144,23 @@ of-length y f g e t q = true≢false (sym t ∙ ap (λ r. awaits y (length r)) (
 pub length-else : (c : Card) → Sound (c .uid) → (y : CardState) (f : List ℕ) → awaits y (length f) ≡ false → rules c y f ≡ (elseOf y, [])
 length-else c s y f e = else-is c y f (go y e)
   where
+    of-ready : (y : CardState) → ((n : ℕ) → awaits y n ≡ awaitsReady n) → (l : Level) → awaits y (length f) ≡ false → Unready c l f
+    of-ready y same l e h = (
+      λ k. of-length y f (anticollision l (bitsSent f) (fiveAt c l)) e (same _ ∙ awaits-anti c s l h (bitsSent f) k),
+      of-length y f (select l (fiveAt c l)) e (same _ ∙ awaits-select c s l h),
+    )
+
+    of-active : (y : CardState) → ((n : ℕ) → awaits y n ≡ eqb n 36) → awaits y (length f) ≡ false → Unactive f
+    of-active y same e = (of-length y f hlta e (same _ ∙ rw length-hlta), of-length y f (rats (fsdi f)) e (same _ ∙ rw length-rats))
+
     go : (y : CardState) → awaits y (length f) ≡ false → Unawaited c y f
     go Off e = tt
     go Idle e = (of-length Idle f reqa e (rw length-reqa), of-length Idle f wupa e (rw length-wupa))
-    go (Ready l) e = λ h. (λ k. of-length (Ready l) f (anticollision l (bitsSent f) (fiveAt c l)) e (awaits-anti c s l h (bitsSent f) k), of-length (Ready l) f (select l (fiveAt c l)) e (awaits-select c s l h))
-    go Active e = (of-length Active f hlta e (rw length-hlta), of-length Active f (rats (fsdi f)) e (rw length-rats))
+    go (Ready l) e = of-ready (Ready l) (λ n. refl) l e
+    go Active e = of-active Active (λ n. refl) e
     go Halt e = of-length Halt f wupa e (rw length-wupa)
+    go (ReadyStar l) e = of-ready (ReadyStar l) (λ n. refl) l e
+    go ActiveStar e = of-active ActiveStar (λ n. refl) e
     go (Protocol i) e = tt
 
 sel-fits : (l : Level) → sel l < 256
@@ -154,26 +178,26 @@ module _ (l : List ℕ) (b : Bytes l) (wrong : same l (withCrc (take (length l -
   small-fsdi : fsdi (standard l) < 16
   small-fsdi = unbits-lt 4 (take 4 (drop 13 (standard l))) (all-take (λ x. x < 2) 4 (drop 13 (standard l)) (all-drop (λ x. x < 2) 13 (standard l) (bits-standard l))) (rw length-take (omega arith))
 
-  pub crc-else-active : (c : Card) → rules c Active (standard l) ≡ (Idle, [])
+  pub crc-else-active : (c : Card) (w : Bool) → rules c (activeIn w) (standard l) ≡ (home w, [])
   unfolding hlta rats
-  crc-else-active c = else-is c Active (standard l) (
+  crc-else-active c w = active-else c w (standard l) (
     not-crc (0x50 ∷ 0x00 ∷ []) (omega arith, (omega arith, tt)),
     not-crc (0xE0 ∷ 16 * fsdi (standard l) ∷ []) (omega arith, (omega (arith, small-fsdi), tt)),
   )
 
   -- in Ready: of more bytes than any ANTICOLLISION has, which bears no CRC_A
-  pub crc-else-ready : (c : Card) → Sound (c .uid) → (v : Level) → 7 ≤ length l → rules c (Ready v) (standard l) ≡ (Idle, [])
+  pub crc-else-ready : (c : Card) → Sound (c .uid) → (w : Bool) (v : Level) → 7 ≤ length l → rules c (readyIn w v) (standard l) ≡ (home w, [])
   unfolding select
-  crc-else-ready c s v m = else-is c (Ready v) (standard l) (λ h. (
+  crc-else-ready c s w v m = ready-else c w v (standard l) (λ h. (
     λ k e. omega (arith, k, ap length e, length-standard l, length-anti v (bitsSent (standard l)) (fiveAt c v) (level-full c s v h) (omega arith)),
     not-crc (sel v ∷ 0x70 ∷ fiveAt c v) (sel-fits v, (omega arith, level-bytes c s v h)),
   ))
 
 -- ---- wrong NVB: a frame of less than a level's 45 bits behind SEL and NVB, in Ready
 
-pub nvb-else : (c : Card) → Sound (c .uid) → (l : Level) (a v : ℕ) (d : List ℕ) → a < 256 → v < 256 → length d < 45 → v ≢ nvb (length d - length d / 9)
-    → rules c (Ready l) (standard (a ∷ v ∷ []) ++ d) ≡ (Idle, [])
-nvb-else c s l a v d ha hv hd n = else-is c (Ready l) f (λ h. (λ k e. n (sym (other h k e)), λ e. omega (arith, ap length e, length-f, length-select l (fiveAt c l) (level-full c s l h))))
+pub nvb-else : (c : Card) → Sound (c .uid) → (w : Bool) (l : Level) (a v : ℕ) (d : List ℕ) → a < 256 → v < 256 → length d < 45 → v ≢ nvb (length d - length d / 9)
+    → rules c (readyIn w l) (standard (a ∷ v ∷ []) ++ d) ≡ (home w, [])
+nvb-else c s w l a v d ha hv hd n = ready-else c w l f (λ h. (λ k e. n (sym (other h k e)), λ e. omega (arith, ap length e, length-f, length-select l (fiveAt c l) (level-full c s l h))))
   where
     f : List ℕ
     f = standard (a ∷ v ∷ []) ++ d
@@ -192,10 +216,10 @@ nvb-else c s l a v d ha hv hd n = else-is c (Ready l) f (λ h. (λ k e. n (sym (
         ap nvb (sym k-is) ∙ sym (ap (λ r. getD r 1 0) q)
 
 -- .. of SELECT: a frame of nine bytes with right CRC_A whose NVB is not 70 (71 among them)
-pub select-nvb-else : (c : Card) → Sound (c .uid) → (l : Level) (a v : ℕ) (five : List ℕ) → a < 256 → v < 256 → Bytes five → length five ≡ 5 → v ≢ 0x70
-    → rules c (Ready l) (standard (withCrc (a ∷ v ∷ five))) ≡ (Idle, [])
+pub select-nvb-else : (c : Card) → Sound (c .uid) → (w : Bool) (l : Level) (a v : ℕ) (five : List ℕ) → a < 256 → v < 256 → Bytes five → length five ≡ 5 → v ≢ 0x70
+    → rules c (readyIn w l) (standard (withCrc (a ∷ v ∷ five))) ≡ (home w, [])
 unfolding select withCrc
-select-nvb-else c s l a v five ha hv b h n = else-is c (Ready l) f (λ k. (
+select-nvb-else c s w l a v five ha hv b h n = ready-else c w l f (λ k. (
   λ m e. omega (arith, m, rw length-f at m),
   λ e. n (ap (λ r. getD r 1 0) (standard-bytes (withCrc m) (withCrc (sel l ∷ 0x70 ∷ fiveAt c l)) (bytes-crc m (ha, (hv, b))) (bytes-crc (sel l ∷ 0x70 ∷ fiveAt c l) (sel-fits l, (omega arith, level-bytes c s l k))) e)),
 ))
@@ -209,13 +233,13 @@ select-nvb-else c s l a v five ha hv b h n = else-is c (Ready l) f (λ k. (
     length-f : length f ≡ 81
     length-f = length-standard (withCrc m) ∙ rw (length-crc m, h) (omega arith)
 
--- ---- a mismatch: the card leaves Ready
+-- ---- a mismatch: the card leaves Ready, a woken one for Halt
 
-module _ (c : Card) (s : Sound (c .uid)) (l : Level) where
+module _ (c : Card) (s : Sound (c .uid)) (w : Bool) (l : Level) where
   -- the k bits that are sent are not the card's
   pub anti-mismatch : (k : ℕ) (a : List ℕ) → length a ≡ 5 → k < 40 → (place l < length (levels (c .uid)) → take k (airBits a) ≢ take k (airBits (fiveAt c l)))
-      → rules c (Ready l) (anticollision l k a) ≡ (Idle, [])
-  anti-mismatch k a ha m n = else-is c (Ready l) (anticollision l k a) (λ h. (
+      → rules c (readyIn w l) (anticollision l k a) ≡ (home w, [])
+  anti-mismatch k a ha m n = ready-else c w l (anticollision l k a) (λ h. (
     λ i e. n h (anti-bits l k a (fiveAt c l) ha (level-full c s l h) (omega arith) (e ∙ ap (λ j. anticollision l j (fiveAt c l)) k-is)),
     λ e. omega (arith, ap length e, length-anti l k a ha (omega arith), length-select l (fiveAt c l) (level-full c s l h)),
   ))
@@ -224,8 +248,8 @@ module _ (c : Card) (s : Sound (c .uid)) (l : Level) where
       k-is = bits-sent (anticollision l k a) k (length-anti l k a ha (omega arith))
 
   -- the 40 bits are not
-  pub select-mismatch : (a : List ℕ) → length a ≡ 5 → (place l < length (levels (c .uid)) → airBits a ≢ airBits (fiveAt c l)) → rules c (Ready l) (select l a) ≡ (Idle, [])
-  select-mismatch a ha n = else-is c (Ready l) (select l a) (λ h. (
+  pub select-mismatch : (a : List ℕ) → length a ≡ 5 → (place l < length (levels (c .uid)) → airBits a ≢ airBits (fiveAt c l)) → rules c (readyIn w l) (select l a) ≡ (home w, [])
+  select-mismatch a ha n = ready-else c w l (select l a) (λ h. (
     λ i e. omega (arith, i, rw (length-select l a ha) at i),
     λ e. n h (select-tells l a (fiveAt c l) ha (level-full c s l h) e),
   ))

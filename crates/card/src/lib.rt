@@ -4,6 +4,7 @@ mod answer;
 mod rats;
 mod ready;
 pub mod within;
+mod woken;
 
 ghost use mathlib.Core.Path.{_≡_};
 ghost use Rattle.card.specs.Card.{powered, powerOn, powerOff};
@@ -15,13 +16,15 @@ use uid::Made;
 use uid::Uid;
 use uid::UidSize;
 
-// Protocol holds the reader's size index, from RATS.
+// ReadyStar and ActiveStar are Ready* and Active*, of a card that was woken from Halt (T-03). Protocol holds the reader's size index, from RATS.
 pub enum CardState {
     Off,
     Idle,
     Ready(Level),
     Active,
     Halt,
+    ReadyStar(Level),
+    ActiveStar,
     Protocol(u8),
 }
 
@@ -104,6 +107,8 @@ fn powered(s: CardState) -> CardState
         CardState::Ready(l) => CardState::Ready(l),
         CardState::Active => CardState::Active,
         CardState::Halt => CardState::Halt,
+        CardState::ReadyStar(l) => CardState::ReadyStar(l),
+        CardState::ActiveStar => CardState::ActiveStar,
         CardState::Protocol(i) => CardState::Protocol(i),
     }
 }

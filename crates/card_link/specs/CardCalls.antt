@@ -19,7 +19,7 @@ use Rattle.refusal.specs.declared.Refusal.the-variants.{Room, NotDue}
 use Rattle.card.specs.Card.{takes, answers, withState, powerOn, powerOff}
 use Rattle.card.specs.declared.Card.{Card}
 use Rattle.card.specs.declared.CardState.{CardState}
-use Rattle.card.specs.declared.CardState.the-variants.{Off, Idle, Ready, Active, Halt, Protocol}
+use Rattle.card.specs.declared.CardState.the-variants.{Off, Idle, Ready, Active, Halt, ReadyStar, ActiveStar, Protocol}
 use Rattle.block.specs.declared.Told.{Told}
 use Rattle.block.specs.declared.Told.the-variants.{Quiet, Message, Granted, Deselected, Refused}
 use Rattle.block.specs.Out.{Out}
@@ -42,6 +42,8 @@ linkIn c Idle = noLink
 linkIn c (Ready l) = noLink
 linkIn c Active = noLink
 linkIn c Halt = noLink
+linkIn c (ReadyStar l) = noLink
+linkIn c ActiveStar = noLink
 
 -- the card by the link's news: "DESELECT: its answer, then Halt"
 abbrev pub leftBy : Told → Card → CardLink → LinkCard
@@ -76,6 +78,8 @@ takesIn Idle x f m buffer = takesOutside x f buffer
 takesIn (Ready l) x f m buffer = takesOutside x f buffer
 takesIn Active x f m buffer = takesOutside x f buffer
 takesIn Halt x f m buffer = takesOutside x f buffer
+takesIn (ReadyStar l) x f m buffer = takesOutside x f buffer
+takesIn ActiveStar x f m buffer = takesOutside x f buffer
 
 -- "a card owing its host's answer takes no frame", and only then is its host's call due
 abbrev pub owesIn : CardState → CardLink → Bool
@@ -85,6 +89,8 @@ owesIn Idle l = false
 owesIn (Ready l′) l = false
 owesIn Active l = false
 owesIn Halt l = false
+owesIn (ReadyStar l′) l = false
+owesIn ActiveStar l = false
 
 abbrev pub owing : LinkCard → Bool
 owing x = owesIn (x .card .state) (x .link)

@@ -11,7 +11,7 @@ use Rattle.refusal.specs.Refusal.{Said, giving, declineIf}
 use Rattle.refusal.specs.declared.Refusal.the-variants.{Room, Argument, NotDue}
 use Rattle.rows.specs.Rows.{overlay}
 use Rattle.card.specs.declared.CardState.{CardState}
-use Rattle.card.specs.declared.CardState.the-variants.{Off, Idle, Ready, Active, Halt, Protocol}
+use Rattle.card.specs.declared.CardState.the-variants.{Off, Idle, Ready, Active, Halt, ReadyStar, ActiveStar, Protocol}
 use Rattle.block.specs.Block.{wtxOk}
 use Rattle.block.specs.Says.{toldSays}
 use Rattle.block.specs.Out.{Out}
@@ -57,6 +57,8 @@ owing-owes Idle l e = absurd (false≢true e)
 owing-owes (Ready k) l e = absurd (false≢true e)
 owing-owes Active l e = absurd (false≢true e)
 owing-owes Halt l e = absurd (false≢true e)
+owing-owes (ReadyStar k) l e = absurd (false≢true e)
+owing-owes ActiveStar l e = absurd (false≢true e)
 
 reply-told : (l : CardLink) (m : List ℕ) → owes (l .phase) ≡ true → toldSays (cardReply l m [] .told) ≡ declineIf (ltb messageMax (length m)) 10 (giving [])
 unfolding cardReply cardReplies cardOut cardI

@@ -82,6 +82,8 @@ pub fn is_owing(x: LinkCard) -> bool
         CardState::Ready(_) => false,
         CardState::Active => false,
         CardState::Halt => false,
+        CardState::ReadyStar(_) => false,
+        CardState::ActiveStar => false,
         CardState::Protocol(_) => card_blocks::owes_answer(phase),
     }
 }
@@ -107,6 +109,8 @@ fn link_in(c: Card, s: CardState) -> CardLink
         CardState::Ready(_) => card_blocks::open(0, 0),
         CardState::Active => card_blocks::open(0, 0),
         CardState::Halt => card_blocks::open(0, 0),
+        CardState::ReadyStar(_) => card_blocks::open(0, 0),
+        CardState::ActiveStar => card_blocks::open(0, 0),
         CardState::Protocol(i) => card_blocks::open(c.index, i),
     }
 }
@@ -219,6 +223,8 @@ fn take_due(x: LinkCard, row: &[u8], answer: &[u8], buffer: &mut [u8], out: &mut
         CardState::Ready(_) => take_outside(x, row, out),
         CardState::Active => take_outside(x, row, out),
         CardState::Halt => take_outside(x, row, out),
+        CardState::ReadyStar(_) => take_outside(x, row, out),
+        CardState::ActiveStar => take_outside(x, row, out),
         CardState::Protocol(_) => take_inside(x, row, answer, buffer, out),
     }
 }

@@ -9,7 +9,7 @@ use lib.Dec.{eqb, ltb}
 use Rattle.limits.specs.Limits.{rowRoom}
 use Rattle.refusal.specs.declared.Refusal.the-variants.{NotDue, Room, TooLong}
 use Rattle.card.specs.declared.CardState.{CardState}
-use Rattle.card.specs.declared.CardState.the-variants.{Off, Idle, Ready, Active, Halt, Protocol}
+use Rattle.card.specs.declared.CardState.the-variants.{Off, Idle, Ready, Active, Halt, ReadyStar, ActiveStar, Protocol}
 use Rattle.block.specs.declared.Block.{Block}
 use Rattle.block.specs.declared.Block.the-variants.{I, Ack, Nak, Deselect, Wtx, Unknown, Nothing}
 use Rattle.block.specs.declared.Told.{Told}
@@ -93,6 +93,8 @@ module _ (x : LinkCard) (f m buffer : List ℕ) where
   takes-in (Ready l) = omega arith
   takes-in Active = omega arith
   takes-in Halt = omega arith
+  takes-in (ReadyStar l) = omega arith
+  takes-in ActiveStar = omega arith
 
   pub message-fits : (room : ℕ) → messageIn (takeCall x f m buffer room .told) ≤ length buffer
   unfolding takeCall called

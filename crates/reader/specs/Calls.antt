@@ -8,15 +8,19 @@ use lib.Dec.{ltb}
 use Rattle.limits.specs.Limits.{frameRoom}
 use Rattle.rows.specs.Rows.{overlay}
 use Rattle.uid.specs.Uid.{uidBytes, valid}
+use Rattle.uid.specs.Calls.{newUid, validBytes}
+use Rattle.uid.specs.declared.NewUid.{NewUid}
+use Rattle.uid.specs.declared.Made.{Made}
+use Rattle.uid.specs.declared.Made.the-variants.{Good, NotMade}
 use Rattle.refusal.specs.Refusal.{Said, giving, refusalSays, declineIf}
-use Rattle.refusal.specs.declared.Refusal.the-variants.{Room, NotDue}
+use Rattle.refusal.specs.declared.Refusal.the-variants.{Room, Argument, NotDue}
 use Rattle.reader.specs.declared.Phase.{Phase}
-use Rattle.reader.specs.declared.Phase.the-variants.{New, ReqaSent, AnticollisionSent, SelectSent, HltaSent, Selected, Finished, Stopped}
+use Rattle.reader.specs.declared.Phase.the-variants.{New, ReqaSent, AnticollisionSent, SelectSent, HltaSent, Selected, Finished, Stopped, WupaSent, UidSelectSent}
 use Rattle.reader.specs.declared.Reader.{Reader}
 use Rattle.reader.specs.declared.Answer.{Answer}
 use Rattle.reader.specs.declared.Answer.the-variants.{Sends, Finds, Selects, Finishes, Declines}
 use Rattle.reader.specs.declared.Turn.{Turn}
-use Rattle.reader.specs.Reader.{frame, turn, hear, begin, isNew}
+use Rattle.reader.specs.Reader.{frame, turn, hear, begin, wakes, isNew}
 
 -- a row is awaited
 abbrev pub awaits : Phase → Bool
@@ -28,6 +32,8 @@ awaits HltaSent = true
 awaits Selected = false
 awaits Finished = false
 awaits Stopped = false
+awaits WupaSent = true
+awaits (UidSelectSent l) = true
 
 -- the call by the rules' turn t, which is due or not
 unfoldable pub call : Bool → Reader → Turn → ℕ → Turn
@@ -40,6 +46,17 @@ hearCall r h room = call (awaits (r .phase)) r (hear r h) room
 
 unfoldable pub beginCall : Bool → Reader → ℕ → Turn
 beginCall s r room = call (isNew (r .phase)) r (begin s) room
+
+-- T-03: "(invalid: 6)", after 11 and 1: the bytes are not those of a valid UID
+abbrev pub wakeMade : Reader → NewUid → Made → Turn
+wakeMade r u Good = wakes (u .uid)
+wakeMade r u (NotMade e) = turn r (Declines Argument)
+
+unfoldable pub wakeTurn : Reader → List ℕ → Turn
+wakeTurn r l = wakeMade r (newUid l) (newUid l .made)
+
+unfoldable pub wakeCall : Reader → List ℕ → ℕ → Turn
+wakeCall r l room = call (isNew (r .phase)) r (wakeTurn r l) room
 
 -- ---- what an answer says, in the table's numbers
 
@@ -63,6 +80,13 @@ hearSays r h room = callSays (awaits (r .phase)) (hear r h) room
 
 abbrev pub beginSays : Bool → Reader → ℕ → Said
 beginSays s r room = callSays (isNew (r .phase)) (begin s) room
+
+abbrev pub wakeSays : Reader → List ℕ → ℕ → Said
+wakeSays r l room =
+    declineIf (not (isNew (r .phase))) 11
+    (declineIf (ltb room frameRoom) 1
+    (declineIf (not (validBytes l)) 6
+    (turnSays (wakes (newUid l .uid)))))
 
 -- T-04: a UID that an answer completes is valid
 abbrev pub Completed : Answer → Reader → Type 0

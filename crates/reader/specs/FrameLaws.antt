@@ -6,14 +6,14 @@ use Rattle.rows.specs.Rows.{Bits}
 use Rattle.parity.specs.BitLaws.{bits-bits}
 use Rattle.frame.specs.Frame.{short, standard}
 use Rattle.frame.specs.ParityLaws.{bits-standard}
-use Rattle.selection.specs.Selection.{reqa, hlta, sel, nvb, cut, anticollision, select}
+use Rattle.selection.specs.Selection.{reqa, wupa, hlta, sel, nvb, cut, anticollision, select}
 use Rattle.reader.specs.Reader.{frameIn, frame}
 use Rattle.reader.specs.declared.Phase.{Phase}
-use Rattle.reader.specs.declared.Phase.the-variants.{New, ReqaSent, AnticollisionSent, SelectSent, HltaSent, Selected, Finished, Stopped}
+use Rattle.reader.specs.declared.Phase.the-variants.{New, ReqaSent, AnticollisionSent, SelectSent, HltaSent, Selected, Finished, Stopped, WupaSent, UidSelectSent}
 use Rattle.reader.specs.declared.Reader.{Reader}
 
 bits-in : (p : Phase) (r : Reader) → Bits (frameIn p r)
-unfolding reqa hlta anticollision select short
+unfolding reqa wupa hlta anticollision select short
 bits-in New r = tt
 bits-in ReqaSent r = bits-bits 7 0x26
 bits-in (AnticollisionSent l) r =
@@ -23,6 +23,8 @@ bits-in HltaSent r = bits-standard _
 bits-in Selected r = tt
 bits-in Finished r = tt
 bits-in Stopped r = tt
+bits-in WupaSent r = bits-bits 7 0x52
+bits-in (UidSelectSent l) r = bits-standard _
 
 pub frame-bits : (r : Reader) → Bits (frame r)
 unfolding frame

@@ -5,3 +5,4 @@ pub mod SakLevelLaws
 pub mod StepLaws
 pub mod CollisionLaws
 pub mod FrameLaws
+pub mod KnownLaws

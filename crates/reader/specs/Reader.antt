@@ -1,13 +1,13 @@
 -- Document 01, "The reader and the sweep" and "When the core declines": what a reader does with a row. What the row says is the matter of
 -- crate selection (specs/Heard.antt).
-use Prim.Native.Nat.{ℕ, _+_, _-_, _*_, _/_, _%_}
-use mathlib.Core.Bool.{Bool, true, false, cond, not, _&&_}
+use Prim.Native.Nat.{ℕ, suc, _+_, _-_, _*_, _/_, _%_}
+use mathlib.Core.Bool.{Bool, true, false, cond, not, _&&_, _||_}
 use mathlib.Core.List.{List, [], _∷_, _++_}
 use lib.ListN.{length, take, drop, replicate, getD}
 use lib.Dec.{eqb, ltb}
 use Rattle.rows.specs.Rows.{isNil, fill}
-use Rattle.uid.specs.Uid.{place}
-use Rattle.selection.specs.Selection.{reqa, hlta, anticollision, select}
+use Rattle.uid.specs.Uid.{place, levels, threeLevels, valid}
+use Rattle.selection.specs.Selection.{reqa, wupa, hlta, anticollision, select}
 use Rattle.selection.specs.Heard.{readAtqa, readRest, readSak}
 use Rattle.selection.specs.declared.AtqaRead.{AtqaRead}
 use Rattle.selection.specs.declared.AtqaRead.the-variants.{Atqa, NotAtqa}
@@ -24,7 +24,7 @@ use Rattle.uid.specs.declared.UidSize.the-variants.{Single, Double, Triple}
 use Rattle.refusal.specs.declared.Refusal.{Refusal}
 use Rattle.refusal.specs.declared.Refusal.the-variants.{Forbidden, NotDue}
 use Rattle.reader.specs.declared.Phase.{Phase}
-use Rattle.reader.specs.declared.Phase.the-variants.{New, ReqaSent, AnticollisionSent, SelectSent, HltaSent, Selected, Finished, Stopped}
+use Rattle.reader.specs.declared.Phase.the-variants.{New, ReqaSent, AnticollisionSent, SelectSent, HltaSent, Selected, Finished, Stopped, WupaSent, UidSelectSent}
 use Rattle.reader.specs.declared.Reader.{Reader}
 use Rattle.reader.specs.declared.Answer.{Answer}
 use Rattle.reader.specs.declared.Answer.the-variants.{Sends, Finds, Selects, Finishes, Declines}
@@ -51,6 +51,8 @@ frameIn HltaSent r = hlta
 frameIn Selected r = []
 frameIn Finished r = []
 frameIn Stopped r = []
+frameIn WupaSent r = wupa
+frameIn (UidSelectSent l) r = select l (r .five)
 
 unfoldable pub frame : Reader → List ℕ
 frame r = frameIn (r .phase) r
@@ -134,6 +136,39 @@ hearSak l r h = sakHeard l r (readSak h)
 unfoldable pub hearSilence : List ℕ → Turn
 hearSilence h = cond (isNil h) (sends (blank ReqaSent true)) (stop Forbidden)
 
+-- ---- T-03: one known card. "sends WUPA once .., selects one given UID .. level by level without ANTICOLLISION"
+
+-- SELECT of level l of the UID u, all of whose bits are known (five zeros for a level that u lacks)
+unfoldable pub picks : Level → Uid → Turn
+picks l u = sends (reader (UidSelectSent l) false (getD (threeLevels u) (place l) []) 40 u 0)
+
+-- .. of the level after l
+abbrev pub pickNext : Level → Uid → Turn
+pickNext One u = picks Two u
+pickNext Two u = picks Three u
+pickNext Three u = stop Forbidden
+
+-- after WUPA: ATQA is tested as after REQA outside a sweep
+abbrev pub afterWupa : Uid → AtqaRead → Turn
+afterWupa u Atqa = picks One u
+afterWupa u (NotAtqa e) = stop e
+
+unfoldable pub hearWupa : Reader → List ℕ → Turn
+hearWupa r h = afterWupa (r .uid) (readAtqa h)
+
+-- "a b3 that doesn't fit the UID": b3 (`more`) is set exactly if level l is not the last one of u. None fits a UID that is not valid, which only a
+-- reader put together by hand holds
+unfoldable pub misfits : Level → Uid → Bool → Bool
+misfits l u more = not (valid u) || cond (ltb (suc (place l)) (length (levels u))) (not more) more
+
+-- .. "is 9". Else the next level, or the selection ends as any other
+abbrev pub uidSakHeard : Level → Uid → SakRead → Turn
+uidSakHeard l u (Sak b) = cond (misfits l u (b3 b)) (stop Forbidden) (cond (b3 b) (pickNext l u) (completes false u b))
+uidSakHeard l u (NotSak e) = stop e
+
+unfoldable pub hearUidSak : Level → Reader → List ℕ → Turn
+hearUidSak l r h = uidSakHeard l (r .uid) (readSak h)
+
 -- what a reader does with a row, by the frame that it sent last; where none is awaited nothing changes
 abbrev pub hearIn : Phase → Reader → List ℕ → Turn
 hearIn New r h = turn r (Declines NotDue)
@@ -144,6 +179,8 @@ hearIn HltaSent r h = hearSilence h
 hearIn Selected r h = turn r (Declines NotDue)
 hearIn Finished r h = turn r (Declines NotDue)
 hearIn Stopped r h = turn r (Declines NotDue)
+hearIn WupaSent r h = hearWupa r h
+hearIn (UidSelectSent l) r h = hearUidSak l r h
 
 unfoldable pub hear : Reader → List ℕ → Turn
 hear r h = hearIn (r .phase) r h
@@ -159,7 +196,13 @@ isNew HltaSent = false
 isNew Selected = false
 isNew Finished = false
 isNew Stopped = false
+isNew WupaSent = false
+isNew (UidSelectSent l) = false
 
 -- "REQA", outside a sweep (s false) or in one
 abbrev pub begin : Bool → Turn
 begin s = sends (blank ReqaSent s)
+
+-- T-03: WUPA, for the one card with the UID u
+abbrev pub wakes : Uid → Turn
+wakes u = sends (reader WupaSent false (replicate 5 0) 0 u 0)

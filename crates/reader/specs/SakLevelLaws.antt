@@ -1,6 +1,6 @@
 -- T-04, a SAK against its level: valid cards never meet the test, and every UID that the reader completes is valid. Assumes nothing.
 use mathlib.Core.Path.{_≡_, refl, sym, ap, _∙_}
-use mathlib.Core.Bool.{Bool, true, false, cond, not, _&&_}
+use mathlib.Core.Bool.{Bool, true, false, cond, not, _&&_, _||_}
 use mathlib.Core.List.{List, [], _∷_, _++_, append-assoc}
 use Prim.Native.Nat.{ℕ, zero, suc, _*_, _≤_, _<_}
 use native.Mathlib.Omega.{arith}
@@ -16,7 +16,7 @@ use Rattle.uid.specs.Uid.{level, levels, levelsOf, place, rowOf, valid, validOf
 use Rattle.uid.specs.UidLaws.{Sound, five-row, lev-row, length-row}
 use Rattle.limits.specs.Limits.{frameRoom}
 use Rattle.reader.specs.Calls.{Completed, call}
-use Rattle.reader.specs.Reader.{contradicts, b3, opens, sends, finds, completes, longer, stop, afterAtqa, hearAtqa, afterRest, hearRest, afterSak, sakHeard, hearSak, hearSilence, hearIn, hear}
+use Rattle.reader.specs.Reader.{picks, pickNext, afterWupa, hearWupa, misfits, uidSakHeard, hearUidSak, contradicts, b3, opens, sends, finds, completes, longer, stop, afterAtqa, hearAtqa, afterRest, hearRest, afterSak, sakHeard, hearSak, hearSilence, hearIn, hear}
 use Rattle.reader.specs.ReaderLaws.{lvl}
 use Rattle.rows.specs.Rows.{fill, isNil}
 use Rattle.selection.specs.Heard.{readAtqa, readRest, readSak}
@@ -29,7 +29,7 @@ use Rattle.selection.specs.declared.RestSays.the-variants.{Whole, Collided, Not
 use Rattle.selection.specs.declared.SakRead.{SakRead}
 use Rattle.selection.specs.declared.SakRead.the-variants.{Sak, NotSak}
 use Rattle.reader.specs.declared.Phase.{Phase}
-use Rattle.reader.specs.declared.Phase.the-variants.{New, ReqaSent, AnticollisionSent, SelectSent, HltaSent, Selected, Finished, Stopped}
+use Rattle.reader.specs.declared.Phase.the-variants.{New, ReqaSent, AnticollisionSent, SelectSent, HltaSent, Selected, Finished, Stopped, WupaSent, UidSelectSent}
 use Rattle.reader.specs.declared.Reader.{Reader}
 use Rattle.reader.specs.declared.Turn.{Turn}
 use Rattle.uid.specs.declared.Level.{Level}
@@ -108,6 +108,30 @@ unfolding fill
 first-added a [] n e f = absurd (omega arith)
 first-added a (x ∷ five) n e f = rw (← e, append-assoc) (getD-append-seam a x _ 0)
 
+-- T-03: a known UID is tested where it completes
+pick-good : (l : Level) (u : Uid) → Good (pickNext l u)
+unfolding picks sends
+pick-good One u = tt
+pick-good Two u = tt
+pick-good Three u = tt
+
+wupa-good : (u : Uid) (a : AtqaRead) → Good (afterWupa u a)
+unfolding picks sends
+wupa-good u Atqa = tt
+wupa-good u (NotAtqa e) = tt
+
+uid-good : (l : Level) (u : Uid) (a : SakRead) → Good (uidSakHeard l u a)
+unfolding misfits
+uid-good l u (Sak b) = go (valid u) refl
+  where
+    X : Bool
+    X = cond (ltb (suc (place l)) (length (levels u))) (not (b3 b)) (b3 b)
+
+    go : (v : Bool) → valid u ≡ v → Good (cond (not v || X) (stop Forbidden) (cond (b3 b) (pickNext l u) (completes false u b)))
+    go true e = either X _ _ tt (either (b3 b) _ _ (pick-good l u) (completes-good false u b e))
+    go false e = tt
+uid-good l u (NotSak e) = tt
+
 module _ (r : Reader) (five : length (r .five) ≡ 5) (ten : length (r .uid .bytes) ≡ 10) where
   sak-good : (l : Level) (b : ℕ) (more : Bool) → contradicts l more (getD (r .five) 0 0) ≡ false → Good (afterSak l r b more)
   unfolding contradicts longer valid
@@ -137,7 +161,7 @@ module _ (r : Reader) (five : length (r .five) ≡ 5) (ten : length (r .uid .byt
   rest-good l x (NotRest e) = tt
 
   hear-good : (p : Phase) (h : List ℕ) → Good (hearIn p r h)
-  unfolding hearAtqa hearRest hearSak hearSilence sends
+  unfolding hearAtqa hearRest hearSak hearSilence hearWupa hearUidSak sends
   hear-good New h = tt
   hear-good ReqaSent h = either (isNil h && r .sweeps) _ _ tt (atqa-good (readAtqa h))
   hear-good (AnticollisionSent l) h = rest-good l (readRest (r .known) (r .five) h) (readRest (r .known) (r .five) h .says)
@@ -146,6 +170,8 @@ module _ (r : Reader) (five : length (r .five) ≡ 5) (ten : length (r .uid .byt
   hear-good Selected h = tt
   hear-good Finished h = tt
   hear-good Stopped h = tt
+  hear-good WupaSent h = wupa-good (r .uid) (readAtqa h)
+  hear-good (UidSelectSent l) h = uid-good l (r .uid) (readSak h)
 
   pub completed-valid : (h : List ℕ) → Completed (hear r h .answer) (hear r h .reader)
   unfolding hear

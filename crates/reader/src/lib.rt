@@ -1,4 +1,5 @@
 // Document 01, "The reader and the sweep": one reader's selection, alone and in a sweep, by value.
+pub mod known;
 pub mod within;
 
 ghost use mathlib.Core.Path.{_≡_};
@@ -7,12 +8,12 @@ ghost use lib.ListN.{length};
 ghost use Rattle.reader.specs.declared.Phase.the-variants.{New};
 ghost use Rattle.reader.specs.declared.Answer.the-variants.{Declines};
 ghost use Rattle.reader.specs.Reader.{blank, turn};
-ghost use Rattle.reader.specs.Calls.{Completed, awaits, hearCall, beginCall, rowAfter, turnSays, hearSays, beginSays};
+ghost use Rattle.reader.specs.Calls.{Completed, awaits, hearCall, beginCall, wakeCall, rowAfter, turnSays, hearSays, beginSays, wakeSays};
 use refusal::Refusal;
 use uid::Level;
 use uid::Uid;
 
-// What a reader has sent last, and so what it awaits.
+// What a reader has sent last, and so what it awaits. UidSelectSent: SELECT of a level of a UID that is known, after WUPA (T-03).
 pub enum Phase {
     New,
     ReqaSent,
@@ -22,10 +23,12 @@ pub enum Phase {
     Selected,
     Finished,
     Stopped,
+    WupaSent,
+    UidSelectSent(Level),
 }
 
 // sweeps: it is in a sweep; five: the level's bytes as far as known, zeros behind; known: how many of its 40 bits are known;
-// uid: the UID, whole once it is complete, before that the bytes of the levels so far; sak: the last SAK of a selection.
+// uid: the UID, whole once it is complete and from WUPA on, else the bytes of the levels so far; sak: the last SAK of a selection.
 pub struct Reader {
     pub phase: Phase,
     pub sweeps: bool,
@@ -70,6 +73,8 @@ pub fn is_awaiting(p: Phase) -> bool
         Phase::Selected => false,
         Phase::Finished => false,
         Phase::Stopped => false,
+        Phase::WupaSent => true,
+        Phase::UidSelectSent(_) => true,
     }
 }
 
@@ -116,6 +121,24 @@ pub fn start_sweep(r: Reader, out: &mut [u8]) -> Turn
     ensures { λ t. ⌜ turnSays t ≡ beginSays true r (length (now (out .entry))) ⌝ }
 {
     begin(true, r, out)
+}
+
+// T-03: the host wants the one card with this UID, and disturbs no other: WUPA goes out. 6, after 11 and 1: the bytes are no valid UID.
+pub fn wake(r: Reader, bytes: &[u8], out: &mut [u8]) -> Turn
+    ensures { λ t. ⌜ t ≡ wakeCall r (now (bytes .entry)) (length (now (out .entry))) ⌝ }
+    ensures { λ t. ⌜ now (out .exit) ≡ rowAfter t (now (out .entry)) ⌝ }
+    ensures { λ t. ⌜ turnSays t ≡ wakeSays r (now (bytes .entry)) (length (now (out .entry))) ⌝ }
+{
+    let p = r.phase;
+    if !within::is_new(p) {
+        return declines(r, Refusal::NotDue);
+    }
+    if out.len() < limits::FRAME_ROOM {
+        return declines(r, Refusal::Room);
+    }
+    let t = known::wake_turn(r, bytes);
+    within::put_sent(t, out);
+    t
 }
 
 // The reader hears a row, an empty one for silence. Its next frame, if there is one, stands at the front of the lent row. A UID that it

@@ -1,4 +1,4 @@
-// The reader's rules on values, and its frames. Called by our own crates only: firmware calls `select`, `start_sweep` and `hear`.
+// The reader's rules on values, and its frames. Called by our own crates only: firmware calls `select`, `start_sweep`, `wake` and `hear`.
 ghost use mathlib.Core.Path.{_≡_};
 ghost use mathlib.Core.Bool.{true, false, _&&_};
 ghost use mathlib.Core.List.{[]};
@@ -60,6 +60,8 @@ pub fn is_new(p: Phase) -> bool
         Phase::Selected => false,
         Phase::Finished => false,
         Phase::Stopped => false,
+        Phase::WupaSent => false,
+        Phase::UidSelectSent(_) => false,
     }
 }
 
@@ -78,6 +80,8 @@ pub fn frame_bits(r: Reader) -> usize
         Phase::Selected => 0,
         Phase::Finished => 0,
         Phase::Stopped => 0,
+        Phase::WupaSent => 7,
+        Phase::UidSelectSent(_) => 81,
     }
 }
 
@@ -109,6 +113,14 @@ pub fn put_frame(r: Reader, out: &mut [u8])
         Phase::Selected => {}
         Phase::Finished => {}
         Phase::Stopped => {}
+        Phase::WupaSent => {
+            let row = selection::sent::wupa();
+            rows::within::put(out, 0, &row);
+        }
+        Phase::UidSelectSent(l) => {
+            let row = selection::sent::select(l, five);
+            rows::within::put(out, 0, &row);
+        }
     }
 }
 
@@ -148,7 +160,7 @@ fn finds(r: Reader) -> Turn
     }
 }
 
-fn stop(e: Refusal) -> Turn
+pub fn stop(e: Refusal) -> Turn
     ensures { λ t. ⌜ t ≡ stop e ⌝ }
 {
     let r = blank(Phase::Stopped, false);
@@ -250,7 +262,7 @@ fn longer(z: UidSize, l: Level, r: Reader, n: usize) -> Uid
 }
 
 // The UID is complete: in a sweep HLTA comes next.
-fn completes(s: bool, u: Uid, b: u8) -> Turn
+pub fn completes(s: bool, u: Uid, b: u8) -> Turn
     ensures { λ t. ⌜ t ≡ completes s u b ⌝ }
 {
     if s {
@@ -372,5 +384,7 @@ pub fn hear_rules(r: Reader, row: &[u8]) -> Turn
         Phase::Selected => not_due(r),
         Phase::Finished => not_due(r),
         Phase::Stopped => not_due(r),
+        Phase::WupaSent => crate::known::hear_wupa(r, row),
+        Phase::UidSelectSent(l) => crate::known::hear_uid_sak(l, r, row),
     }
 }

@@ -23,10 +23,10 @@ use Rattle.selection.specs.declared.SakRead.the-variants.{Sak, NotSak}
 use Rattle.selection.specs.declared.AtsRead.{AtsRead}
 use Rattle.selection.specs.declared.AtsRead.the-variants.{Index, NotAts}
 use Rattle.reader.specs.declared.Phase.{Phase}
-use Rattle.reader.specs.declared.Phase.the-variants.{New, ReqaSent, AnticollisionSent, SelectSent, HltaSent, Selected, Finished, Stopped}
+use Rattle.reader.specs.declared.Phase.the-variants.{New, ReqaSent, AnticollisionSent, SelectSent, HltaSent, Selected, Finished, Stopped, WupaSent, UidSelectSent}
 use Rattle.reader.specs.declared.Reader.{Reader}
 use Rattle.reader.specs.declared.Turn.{Turn}
-use Rattle.reader.specs.Reader.{sends, finds, opens, afterAtqa, hearAtqa, afterRest, hearRest, completes, afterSak, b3, contradicts, sakHeard, hearSak, hearSilence, hearIn, hear}
+use Rattle.reader.specs.Reader.{sends, finds, opens, afterAtqa, hearAtqa, afterRest, hearRest, completes, afterSak, b3, contradicts, sakHeard, hearSak, hearSilence, picks, pickNext, afterWupa, hearWupa, misfits, uidSakHeard, hearUidSak, hearIn, hear}
 use Rattle.reader.specs.Calls.{sentBy}
 use Rattle.block.specs.Out.{Out}
 use Rattle.reader_blocks.specs.declared.ReaderLink.{ReaderLink}
@@ -78,8 +78,23 @@ heard-exact : (l : Level) (r : Reader) (a : SakRead) → Exact (sakHeard l r a)
 heard-exact l r (Sak b) = either (contradicts l (b3 b) (getD (r .five) 0 0)) _ _ refl (sak-exact l r b (b3 b))
 heard-exact l r (NotSak e) = refl
 
+pick-exact : (l : Level) (u : Uid) → Exact (pickNext l u)
+unfolding picks
+pick-exact One u = sends-exact _
+pick-exact Two u = sends-exact _
+pick-exact Three u = refl
+
+wupa-exact : (u : Uid) (a : AtqaRead) → Exact (afterWupa u a)
+unfolding picks
+wupa-exact u Atqa = sends-exact _
+wupa-exact u (NotAtqa e) = refl
+
+uid-exact : (l : Level) (u : Uid) (a : SakRead) → Exact (uidSakHeard l u a)
+uid-exact l u (Sak b) = either (misfits l u (b3 b)) _ _ refl (either (b3 b) _ _ (pick-exact l u) (completes-exact false u b))
+uid-exact l u (NotSak e) = refl
+
 hear-exact : (p : Phase) (r : Reader) (h : List ℕ) → Exact (hearIn p r h)
-unfolding hearAtqa hearRest hearSak hearSilence
+unfolding hearAtqa hearRest hearSak hearSilence hearWupa hearUidSak
 hear-exact New r h = refl
 hear-exact ReqaSent r h = either (isNil h && r .sweeps) _ _ refl (atqa-exact (r .sweeps) (readAtqa h))
 hear-exact (AnticollisionSent l) r h = rest-exact l r (readRest (r .known) (r .five) h) (readRest (r .known) (r .five) h .says)
@@ -88,6 +103,8 @@ hear-exact HltaSent r h = either (isNil h) _ _ (sends-exact _) refl
 hear-exact Selected r h = refl
 hear-exact Finished r h = refl
 hear-exact Stopped r h = refl
+hear-exact WupaSent r h = wupa-exact (r .uid) (readAtqa h)
+hear-exact (UidSelectSent l) r h = uid-exact l (r .uid) (readSak h)
 
 -- ---- a call
 

@@ -3,6 +3,7 @@
 --
 -- The calls, each with the same contract form. With t what the definition gives:
 --     select(x, out), start_sweep(x, out) startCall false x (length out), startCall true x (length out)
+--     wake(x, bytes, out)               wakeCall x bytes (length out)
 --     rats(x, index, out)               ratsCall x index (length out)
 --     send(x, message, out)             sendCall x message (length out)
 --     deselect(x, out)                  deselectCall x (length out)
@@ -22,7 +23,7 @@ use Rattle.selection.specs.Heard.{readAts}
 use Rattle.selection.specs.declared.AtsRead.{AtsRead}
 use Rattle.selection.specs.declared.AtsRead.the-variants.{Index, NotAts}
 use Rattle.reader.specs.Reader.{blank, hear, begin, isNew}
-use Rattle.reader.specs.Calls.{awaits, sentBy}
+use Rattle.reader.specs.Calls.{awaits, wakeTurn, sentBy}
 use Rattle.reader.specs.declared.Phase.{Phase}
 use Rattle.reader.specs.declared.Phase.the-variants as phase
 use Rattle.reader.specs.declared.Reader.{Reader}
@@ -141,6 +142,10 @@ isNewIn (Linked l) r = false
 unfoldable pub startCall : Bool → LinkReader → ℕ → Called
 startCall s x room = tested (isNewIn (x .link) (x .reader)) x [] room (selecting (begin s) [])
 
+-- T-03: one known card, due where a selection is; 6 where its bytes are no valid UID
+unfoldable pub wakeCall : LinkReader → List ℕ → ℕ → Called
+wakeCall x l room = tested (isNewIn (x .link) (x .reader)) x [] room (selecting (wakeTurn (x .reader) l) [])
+
 abbrev pub isSelected : Phase → Bool
 isSelected phase.New = false
 isSelected phase.ReqaSent = false
@@ -150,6 +155,8 @@ isSelected phase.HltaSent = false
 isSelected phase.Selected = true
 isSelected phase.Finished = false
 isSelected phase.Stopped = false
+isSelected phase.WupaSent = false
+isSelected (phase.UidSelectSent l) = false
 
 -- b6 of a SAK: the card speaks blocks
 abbrev pub b6 : ℕ → Bool

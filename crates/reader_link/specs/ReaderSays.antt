@@ -7,6 +7,7 @@ use lib.ListN.{length}
 use lib.Dec.{ltb}
 use Rattle.limits.specs.Limits.{rowRoom, messageMax}
 use Rattle.refusal.specs.Refusal.{Said, giving, refusalSays, declineIf}
+use Rattle.uid.specs.Calls.{validBytes}
 use Rattle.reader.specs.Calls.{answerSays}
 use Rattle.reader.specs.declared.Reader.{Reader}
 use Rattle.block.specs.declared.Told.{Told}
@@ -37,6 +38,11 @@ linkTurnSays t = linkSays (t .answer) (t .reader .reader)
 -- a selection or a sweep begins: 11 unless the reader is new, 1, else the seven bits of REQA
 abbrev pub startSays : LinkReader → ℕ → Said
 startSays x room = declineIf (not (isNewIn (x .link) (x .reader))) 11 (declineIf (ltb room rowRoom) 1 (giving (7 ∷ [])))
+
+-- T-03: one known card: 11, 1, 6 for bytes that are no valid UID, else the seven bits of WUPA
+abbrev pub wakeSays : LinkReader → List ℕ → ℕ → Said
+wakeSays x l room =
+    declineIf (not (isNewIn (x .link) (x .reader))) 11 (declineIf (ltb room rowRoom) 1 (declineIf (not (validBytes l)) 6 (giving (7 ∷ []))))
 
 -- RATS: 11 unless a card is selected that speaks blocks, 1, 6, else its 36 bits
 abbrev pub ratsSays : LinkReader → ℕ → ℕ → Said

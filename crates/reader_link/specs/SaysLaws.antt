@@ -15,6 +15,9 @@ use Rattle.parity.specs.Bits.{bitsOf}
 use Rattle.crc.specs.Crc.{withCrc, crcBytes}
 use Rattle.frame.specs.Frame.{airByte, standard, short}
 use Rattle.selection.specs.Selection.{reqa, rats}
+use Rattle.uid.specs.Calls.{newUid, validBytes}
+use Rattle.reader.specs.Calls.{wakeTurn}
+use Rattle.reader.specs.KnownLaws.{wake-turn-says, wakes-seven}
 use Rattle.reader.specs.Reader.{blank, frame, sends, begin}
 use Rattle.reader.specs.declared.Phase.the-variants.{ReqaSent}
 use Rattle.reader.specs.declared.Reader.{Reader}
@@ -27,8 +30,8 @@ use Rattle.reader_link.specs.declared.Link.the-variants.{NoLink, RatsSen
 use Rattle.reader_link.specs.declared.LinkReader.{LinkReader}
 use Rattle.reader_link.specs.declared.LinkAnswer.the-variants.{Blocks}
 use Rattle.reader_link.specs.declared.LinkTurn.{LinkTurn}
-use Rattle.reader_link.specs.ReaderCalls.{Called, called, declinedBy, tested, selecting, linking, frameDue, hearsIn, hearCall, isNewIn, startCall, ratsDue, ratsCall, between, sendIn, sendCall, deselectIn, deselectCall}
-use Rattle.reader_link.specs.ReaderSays.{linkSays, linkTurnSays, startSays, ratsSays, sendSays, deselectSays, hearSays}
+use Rattle.reader_link.specs.ReaderCalls.{Called, called, declinedBy, tested, selecting, linking, frameDue, hearsIn, hearCall, isNewIn, startCall, wakeCall, ratsDue, ratsCall, between, sendIn, sendCall, deselectIn, deselectCall}
+use Rattle.reader_link.specs.ReaderSays.{linkSays, linkTurnSays, startSays, wakeSays, ratsSays, sendSays, deselectSays, hearSays}
 use Rattle.reader_link.specs.WholeLaws.{Two, Three}
 
 abbrev answered : Called → Said
@@ -64,6 +67,14 @@ unfolding startCall
 start-says s x room =
     tested-says (isNewIn (x .link) (x .reader)) x [] room (selecting (begin s) []) (giving (7 ∷ []))
     (λ e. begins s)
+
+-- ---- WUPA
+
+wake-says : (x : LinkReader) (l : List ℕ) (room : ℕ) → answered (wakeCall x l room) ≡ wakeSays x l room
+unfolding wakeCall selecting
+wake-says x l room =
+    tested-says (isNewIn (x .link) (x .reader)) x [] room (selecting (wakeTurn (x .reader) l) []) (declineIf (not (validBytes l)) 6 (giving (7 ∷ [])))
+    (λ e. wake-turn-says (x .reader) l ∙ ap (declineIf (not (validBytes l)) 6) (wakes-seven (newUid l .uid)))
 
 -- ---- RATS
 
@@ -137,6 +148,9 @@ two-said out o s e h = (h .0, (h .1, ap (λ t. linkTurnSays t) (h .0) ∙ e))
 module _ (x : LinkReader) (out : List ℕ) {t : LinkTurn} {out′ : List ℕ} where
   pub start-said : (s : Bool) → Two (startCall s x (length out)) t out out′ → Said2 (startCall s x (length out)) t out out′ (startSays x (length out))
   start-said s h = two-said out (startCall s x (length out)) (startSays x (length out)) (start-says s x (length out)) h
+
+  pub wake-said : (l : List ℕ) → Two (wakeCall x l (length out)) t out out′ → Said2 (wakeCall x l (length out)) t out out′ (wakeSays x l (length out))
+  wake-said l h = two-said out (wakeCall x l (length out)) (wakeSays x l (length out)) (wake-says x l (length out)) h
 
   pub rats-said : (index : ℕ) → Two (ratsCall x index (length out)) t out out′ → Said2 (ratsCall x index (length out)) t out out′ (ratsSays x index (length out))
   rats-said index h = two-said out (ratsCall x index (length out)) (ratsSays x index (length out)) (rats-says x index (length out)) h

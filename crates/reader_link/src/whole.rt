@@ -12,8 +12,8 @@ ghost use Rattle.reader.specs.Reader.{hear};
 ghost use Rattle.block.specs.Block.{behind};
 ghost use Rattle.block.specs.Row.{heardRow};
 ghost use Rattle.reader_blocks.specs.ReaderFrames.{readerHears, readerOut, readerBlock};
-ghost use Rattle.reader_link.specs.ReaderCalls.{newReader, bitsOf, bitsBy, called, declinedBy, selecting, linked, linking, afterAts, awaitsBlock, frameDue, hearsIn, hearCall, isNewIn, startCall, isSelected, b6, ratsDue, ratsCall, between, sendIn, sendCall, deselectIn, deselectCall};
-ghost use Rattle.reader_link.specs.ReaderSays.{linkTurnSays, startSays, ratsSays, sendSays, deselectSays, hearSays};
+ghost use Rattle.reader_link.specs.ReaderCalls.{newReader, bitsOf, bitsBy, called, declinedBy, selecting, linked, linking, afterAts, awaitsBlock, frameDue, hearsIn, hearCall, isNewIn, startCall, wakeCall, isSelected, b6, ratsDue, ratsCall, between, sendIn, sendCall, deselectIn, deselectCall};
+ghost use Rattle.reader_link.specs.ReaderSays.{linkTurnSays, startSays, wakeSays, ratsSays, sendSays, deselectSays, hearSays};
 use crate::Link;
 use crate::LinkAnswer;
 use crate::LinkReader;
@@ -334,6 +334,24 @@ pub fn start_sweep(x: LinkReader, out: &mut [u8]) -> LinkTurn
     start(true, x, out)
 }
 
+// T-03: begins the selection of the one card with this UID, by WUPA and SELECT. 11: the reader is not new; 6: the bytes are no valid UID.
+pub fn wake(x: LinkReader, bytes: &[u8], out: &mut [u8]) -> LinkTurn
+    ensures { λ t. ⌜ t ≡ wakeCall x (now (bytes .entry)) (length (now (out .entry))) .turn ⌝ }
+    ensures { λ _. ⌜ now (out .exit) ≡ overlay (now (out .entry)) 0 (wakeCall x (now (bytes .entry)) (length (now (out .entry))) .sent) ⌝ }
+    ensures { λ t. ⌜ linkTurnSays t ≡ wakeSays x (now (bytes .entry)) (length (now (out .entry))) ⌝ }
+{
+    let r = x.reader;
+    let link = x.link;
+    if !is_new(link, r) {
+        return declines(x, Refusal::NotDue);
+    }
+    if out.len() < limits::ROW_ROOM {
+        return declines(x, Refusal::Room);
+    }
+    let t = reader::known::wake_turn(r, bytes);
+    select_turn(t, out)
+}
+
 fn is_selected(p: Phase) -> bool
     ensures { λ r. ⌜ r ≡ isSelected p ⌝ }
 {
@@ -346,6 +364,8 @@ fn is_selected(p: Phase) -> bool
         Phase::Selected => true,
         Phase::Finished => false,
         Phase::Stopped => false,
+        Phase::WupaSent => false,
+        Phase::UidSelectSent(_) => false,
     }
 }
 

@@ -44,7 +44,7 @@ use Rattle.reader.specs.declared.Phase.the-variants.{Finished, ReqaSent, Antico
 use Rattle.reader.specs.declared.Reader.{Reader}
 use Rattle.reader.specs.declared.Turn.{Turn}
 
-up-lvl : (j : ℕ) → suc j < 3 → up (lvl j) ≡ lvl (suc j)
+pub up-lvl : (j : ℕ) → suc j < 3 → up (lvl j) ≡ lvl (suc j)
 unfolding lvl
 up-lvl zero h = refl
 up-lvl (suc zero) h = refl

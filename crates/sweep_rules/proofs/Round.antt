@@ -47,7 +47,7 @@ not-seven f n e h e′ = omega arith
 deaf-hlta : (c : Card) → rules c Halt hlta ≡ (Halt, [])
 deaf-hlta c = halt-else c hlta (not-seven hlta 36 length-hlta (omega arith))
 
-sit-hlta : (c : Card) (o : Option (List ℕ)) → rules c (sit₁ Active o) hlta ≡ (sit₁ Halt o, [])
+sit-hlta : (c : Card) (o : Option (List ℕ)) → rules c (sit₁ false Active o) hlta ≡ (sit₁ false Halt o, [])
 unfolding sit₁ rules
 sit-hlta c (some t) = rw (same-refl hlta)
 sit-hlta c none = idle-else c hlta (not-seven hlta 36 length-hlta (omega arith))
@@ -57,7 +57,7 @@ unfolding merge join
 merge-silent [] = refl
 merge-silent (a ∷ l) = merge-silent l
 
-said-sits : (l : Level) (n : ℕ) (K : List ℕ) (o : Option (List ℕ)) → said l n K o .0 ≡ sit₁ (Ready l) o
+said-sits : (l : Level) (n : ℕ) (K : List ℕ) (o : Option (List ℕ)) → said false l n K o .0 ≡ sit₁ false (Ready l) o
 unfolding said sit₁
 said-sits l n K (some t) = refl
 said-sits l n K none = refl
@@ -67,18 +67,18 @@ onward : Level → Option (List ℕ) → Step
 onward l (some t) = (Ready (up l), sakFrame 0x04)
 onward l none = (Idle, [])
 
-onward-sits : (l : Level) (o : Option (List ℕ)) → onward l o .0 ≡ sit₁ (Ready (up l)) o
+onward-sits : (l : Level) (o : Option (List ℕ)) → onward l o .0 ≡ sit₁ false (Ready (up l)) o
 unfolding onward sit₁
 onward-sits l (some t) = refl
 onward-sits l none = refl
 
-saked-more : (l : Level) (b : Bool) (o : Option (List ℕ)) → ((t : List ℕ) → o ≡ some t → isNil t ≡ false) → saked l b o ≡ onward l o
+saked-more : (l : Level) (b : Bool) (o : Option (List ℕ)) → ((t : List ℕ) → o ≡ some t → isNil t ≡ false) → saked false l b o ≡ onward l o
 unfolding saked onward isNil
 saked-more l b (some []) h = absurd (false≢true (sym (h [] refl)))
 saked-more l b (some (x ∷ t)) h = refl
 saked-more l b none h = refl
 
-saked-last : (l : Level) (b : Bool) (o : Option (List ℕ)) → ((t : List ℕ) → o ≡ some t → isNil t ≡ true) → saked l b o .0 ≡ sit₁ Active o
+saked-last : (l : Level) (b : Bool) (o : Option (List ℕ)) → ((t : List ℕ) → o ≡ some t → isNil t ≡ true) → saked false l b o .0 ≡ sit₁ false Active o
 unfolding saked sit₁ isNil
 saked-last l b (some []) h = refl
 saked-last l b (some (x ∷ t)) h = absurd (false≢true (h (x ∷ t) refl))
@@ -124,11 +124,11 @@ module _ (G : Bool → Option (List ℕ) → List ℕ) (W : List ℕ) where
 module _ (F : List Card) (hF : All Fits F) where
   pub turn-req : allTake reqa F ≡ at [] (Ready One) F
   unfolding sit₁ strip shape diff
-  turn-req = ap (allTake reqa) (sym (at-rest [] F)) ∙ turn-at reqa halt-reqa [] [] Idle (Ready One) F hF (all-of (λ c. ap (λ z. z .0) (idle-reqa c)) (idlers F))
+  turn-req = ap (allTake reqa) (sym (at-rest [] F hF)) ∙ turn-at reqa halt-reqa [] [] Idle (Ready One) F hF (all-of (λ c. ap (λ z. z .0) (idle-reqa c)) (idlers F))
 
   pub hear-req : heardFrom reqa F ≡ merge (map atqa (sizes F))
   unfolding sit₁ strip shape diff sizes
-  hear-req = ap (heardFrom reqa) (sym (at-rest [] F)) ∙ hear-at reqa halt-reqa [] Idle F hF
+  hear-req = ap (heardFrom reqa) (sym (at-rest [] F hF)) ∙ hear-at reqa halt-reqa [] Idle F hF
       ∙ ap merge (map-all (λ c. rules c Idle reqa .1) (λ c. atqa (c .uid .size)) (idlers F) (all-of (λ c. ap (λ z. z .1) (idle-reqa c)) (idlers F))
       ∙ sym (map-map atqa (λ c. c .uid .size) (idlers F)))
 
@@ -137,7 +137,7 @@ module _ (F : List Card) (hF : All Fits F) where
 
   pub hear-hlt : (W : List ℕ) → heardFrom hlta (at W Active F) ≡ []
   hear-hlt W = hear-at hlta deaf-hlta W Active F hF
-      ∙ ap merge (map-all (λ c. rules c (sit₁ Active (strip W (rowIn c))) hlta .1) (λ c. []) (idlers F) (all-of (λ c. ap (λ z. z .1) (sit-hlta c (strip W (rowIn c)))) (idlers F)))
+      ∙ ap merge (map-all (λ c. rules c (sit₁ false Active (strip W (rowIn c))) hlta .1) (λ c. []) (idlers F) (all-of (λ c. ap (λ z. z .1) (sit-hlta c (strip W (rowIn c)))) (idlers F)))
       ∙ merge-silent (idlers F)
 
   module _ (l : Level) (P Q R : List ℕ) (hP : length P ≡ wide * place l) (b : Bits (Q ++ R)) where
@@ -153,9 +153,9 @@ module _ (F : List Card) (hF : All Fits F) where
       unfolding f K
       deaf-f c = halt-else c f (not-seven f _ (length-anti l (length K) (bytesOf 5 K) (length-bytes 5 K) (omega arith)) (omega arith))
 
-      each : All (λ c. rules c (sit₁ (Ready l) (strip (P ++ Q) (rowIn c))) f ≡ said l n K (strip (P ++ K) (rowIn c))) (idlers F)
+      each : All (λ c. rules c (sit₁ false (Ready l) (strip (P ++ Q) (rowIn c))) f ≡ said false l n K (strip (P ++ K) (rowIn c))) (idlers F)
       unfolding f K idles
-      each = all-zip (idlers F) (λ c s g. card-anti c (s .sound) l P Q R hP b n hn h1 g) (all-idle Fits F hF)
+      each = all-zip (idlers F) (λ c s g. card-anti c (s .sound) false l P Q R hP b n hn h1 g) (all-idle Fits F hF)
           (all-unmap (λ r. (t : List ℕ) → strip (P ++ K) r ≡ some t → n ≤ length t) rowIn (idlers F) (all-unstrips (λ t. n ≤ length t) (P ++ K) (map rowIn (idlers F)) long))
 
       pub turn-anti : allTake (anticollision l (length (Q ++ R)) (bytesOf 5 (Q ++ R))) (at (P ++ Q) (Ready l) F) ≡ at (P ++ (Q ++ R)) (Ready l) F
@@ -166,7 +166,7 @@ module _ (F : List Card) (hF : All Fits F) where
       pub hear-anti : heardFrom (anticollision l (length (Q ++ R)) (bytesOf 5 (Q ++ R))) (at (P ++ Q) (Ready l) F)
           ≡ merge (map (λ t. drop (cut (length (Q ++ R))) (seal 5 (Q ++ R ++ take n t))) (strips (P ++ (Q ++ R)) (idles F)))
       unfolding f K said
-      hear-anti = hear-by f deaf-f (P ++ Q) (P ++ K) (Ready l) F hF (λ o. said l n K o .1) refl (all-weaken (idlers F) (λ c e. ap (λ z. z .1) e) each)
+      hear-anti = hear-by f deaf-f (P ++ Q) (P ++ K) (Ready l) F hF (λ o. said false l n K o .1) refl (all-weaken (idlers F) (λ c e. ap (λ z. z .1) e) each)
 
     -- SELECT of K
     module _ (hn : 40 ≡ length (Q ++ R)) where
@@ -177,9 +177,9 @@ module _ (F : List Card) (hF : All Fits F) where
       unfolding g K
       deaf-g c = halt-else c g (not-seven g 81 (length-select l (bytesOf 5 K) (length-bytes 5 K)) (omega arith))
 
-      all-saked : All (λ c. rules c (sit₁ (Ready l) (strip (P ++ Q) (rowIn c))) g ≡ saked l (c .blocks) (strip (P ++ K) (rowIn c))) (idlers F)
+      all-saked : All (λ c. rules c (sit₁ false (Ready l) (strip (P ++ Q) (rowIn c))) g ≡ saked false l (c .blocks) (strip (P ++ K) (rowIn c))) (idlers F)
       unfolding g K
-      all-saked = all-weaken (idlers F) (λ c s. card-sel c (s .sound) l P Q R hP b hn) (all-idle Fits F hF)
+      all-saked = all-weaken (idlers F) (λ c s. card-sel c (s .sound) false l P Q R hP b hn) (all-idle Fits F hF)
 
       -- what holds of all that is left, for each card
       left : (G : List ℕ → Type 0) → All G (strips (P ++ (Q ++ R)) (idles F)) → All (λ c. (t : List ℕ) → strip (P ++ K) (rowIn c) ≡ some t → G t) (idlers F)
@@ -187,7 +187,7 @@ module _ (F : List Card) (hF : All Fits F) where
       left G h = all-unmap (λ r. (t : List ℕ) → strip (P ++ K) r ≡ some t → G t) rowIn (idlers F) (all-unstrips G (P ++ K) (map rowIn (idlers F)) h)
 
       module _ (more : All (λ t. isNil t ≡ false) (strips (P ++ (Q ++ R)) (idles F))) where
-        each-more : All (λ c. rules c (sit₁ (Ready l) (strip (P ++ Q) (rowIn c))) g ≡ onward l (strip (P ++ K) (rowIn c))) (idlers F)
+        each-more : All (λ c. rules c (sit₁ false (Ready l) (strip (P ++ Q) (rowIn c))) g ≡ onward l (strip (P ++ K) (rowIn c))) (idlers F)
         each-more = all-zip (idlers F) (λ c e h. e ∙ saked-more l (c .blocks) (strip (P ++ K) (rowIn c)) h) all-saked (left (λ t. isNil t ≡ false) more)
 
         pub turn-more : allTake (select l (bytesOf 5 (Q ++ R))) (at (P ++ Q) (Ready l) F) ≡ at (P ++ (Q ++ R)) (Ready (up l)) F
@@ -215,5 +215,5 @@ module _ (F : List Card) (hF : All Fits F) where
         unfolding g K idles saked
         hear-last =
             hear-at g deaf-g (P ++ Q) (Ready l) F hF
-            ∙ ap merge (map-all (λ c. rules c (sit₁ (Ready l) (strip (P ++ Q) (rowIn c))) g .1) (λ c. saked l (c .blocks) (strip (P ++ K) (rowIn c)) .1) (idlers F) (all-weaken (idlers F) (λ c e. ap (λ z. z .1) e) all-saked))
-            ∙ one-answers (λ b o. saked l b o .1) (P ++ K) (idlers F) (λ b. refl) last
+            ∙ ap merge (map-all (λ c. rules c (sit₁ false (Ready l) (strip (P ++ Q) (rowIn c))) g .1) (λ c. saked false l (c .blocks) (strip (P ++ K) (rowIn c)) .1) (idlers F) (all-weaken (idlers F) (λ c e. ap (λ z. z .1) e) all-saked))
+            ∙ one-answers (λ b o. saked false l b o .1) (P ++ K) (idlers F) (λ b. refl) last

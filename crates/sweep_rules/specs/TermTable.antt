@@ -12,7 +12,7 @@ use Rattle.uid.specs.declared.UidSize.{UidSize}
 use Rattle.uid.specs.declared.UidSize.the-variants.{Single, Double, Triple}
 use Rattle.card.specs.declared.Card.{Card}
 use Rattle.card.specs.declared.CardState.{CardState}
-use Rattle.card.specs.declared.CardState.the-variants.{Off, Idle, Ready, Active, Halt, Protocol}
+use Rattle.card.specs.declared.CardState.the-variants.{Off, Idle, Ready, Active, Halt, ReadyStar, ActiveStar, Protocol}
 
 -- a card, by its UID's size, its u0 and u3, its size index and its state
 abbrev card : UidSize → ℕ → ℕ → ℕ → CardState → Card
@@ -36,6 +36,9 @@ pub record TermTable : Type 0 where
   pub off : within (of Off 8 ∷ []) ≡ false
   pub ready : within (of (Ready One) 8 ∷ []) ≡ false
   pub active : within (of Active 8 ∷ []) ≡ false
+  -- T-03: the second states are neither
+  pub ready-star : within (of (ReadyStar One) 8 ∷ []) ≡ false
+  pub active-star : within (of ActiveStar 8 ∷ []) ≡ false
   pub protocol : within (of (Protocol 8) 8 ∷ []) ≡ false
   -- "index over 8 (a card's in the field too)", of a halted one as well
   pub index-9 : within (of Idle 9 ∷ []) ≡ false
@@ -61,6 +64,8 @@ term-table = record {
   off = refl;
   ready = refl;
   active = refl;
+  ready-star = refl;
+  active-star = refl;
   protocol = refl;
   index-9 = refl;
   index-9-halted = refl;

@@ -8,7 +8,7 @@ use Rattle.uid.specs.Uid.{valid, uidBytes}
 use Rattle.limits.specs.Limits.{mostCards}
 use Rattle.card.specs.declared.Card.{Card}
 use Rattle.card.specs.declared.CardState.{CardState}
-use Rattle.card.specs.declared.CardState.the-variants.{Off, Idle, Ready, Active, Halt, Protocol}
+use Rattle.card.specs.declared.CardState.the-variants.{Off, Idle, Ready, Active, Halt, ReadyStar, ActiveStar, Protocol}
 
 abbrev pub isIdle : CardState → Bool
 isIdle Off = false
@@ -16,6 +16,8 @@ isIdle Idle = true
 isIdle (Ready l) = false
 isIdle Active = false
 isIdle Halt = false
+isIdle (ReadyStar l) = false
+isIdle ActiveStar = false
 isIdle (Protocol i) = false
 
 abbrev pub isHalt : CardState → Bool
@@ -24,6 +26,8 @@ isHalt Idle = false
 isHalt (Ready l) = false
 isHalt Active = false
 isHalt Halt = true
+isHalt (ReadyStar l) = false
+isHalt ActiveStar = false
 isHalt (Protocol i) = false
 
 -- a valid UID, an index up to 8, Idle or Halt

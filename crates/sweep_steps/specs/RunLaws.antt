@@ -59,7 +59,7 @@ follow-onward Finishes t cs o = refl
 follow-onward (Declines e) t cs o = refl
 
 -- one exchange, then the rest
-after : ℕ → Turn → List Card → Out
+unfoldable pub after : ℕ → Turn → List Card → Out
 after k t cs =
     let t′ : Turn = hear (t .reader) (heardFrom (frame (t .reader)) cs) in
     before (exchangeOf (t .reader) cs) (with-found (foundBy t′) (rest k t′ (allTake (frame (t .reader)) cs)))
@@ -71,7 +71,7 @@ run-after k t cs =
     let cs′ : List Card = allTake (frame (t .reader)) cs in
     ap (before (sentHeard (frame (t .reader)) (heardFrom (frame (t .reader)) cs))) (follow-onward (t′ .answer) t′ cs′ (run k t′ cs′))
 
-rest-step : (k : ℕ) (t : Turn) (cs : List Card) → goes (t .answer) ≡ true → rest (suc k) t cs ≡ after k t cs
+pub rest-step : (k : ℕ) (t : Turn) (cs : List Card) → goes (t .answer) ≡ true → rest (suc k) t cs ≡ after k t cs
 unfolding rest
 rest-step k t cs g = go (t .answer) g
   where
@@ -82,7 +82,7 @@ rest-step k t cs g = go (t .answer) g
     go Finishes g = absurd (false≢true g)
     go (Declines e) g = absurd (false≢true g)
 
-rest-stops : (k : ℕ) (t : Turn) (cs : List Card) → goes (t .answer) ≡ false → rest k t cs ≡ ended cs t
+pub rest-stops : (k : ℕ) (t : Turn) (cs : List Card) → goes (t .answer) ≡ false → rest k t cs ≡ ended cs t
 unfolding rest
 rest-stops k t cs g = go (t .answer) g
   where
@@ -93,7 +93,7 @@ rest-stops k t cs g = go (t .answer) g
     go Finishes g = refl
     go (Declines e) g = refl
 
-rest-spent : (t : Turn) (cs : List Card) → rest 0 t cs ≡ ended cs t
+pub rest-spent : (t : Turn) (cs : List Card) → rest 0 t cs ≡ ended cs t
 unfolding rest run
 rest-spent t cs = go (t .answer)
   where
@@ -175,15 +175,15 @@ length-taken : (cards : List Card) (n : ℕ) (f : List ℕ) → n ≤ length car
 unfolding allTake
 length-taken cards n f h = rw length-map (length-take-le n cards h)
 
-take-after : (cards : List Card) (n : ℕ) (f : List ℕ) → n ≤ length cards → take n (cardsAfter cards n f) ≡ allTake f (take n cards)
+pub take-after : (cards : List Card) (n : ℕ) (f : List ℕ) → n ≤ length cards → take n (cardsAfter cards n f) ≡ allTake f (take n cards)
 unfolding cardsAfter
 take-after cards n f h = take-at (allTake f (take n cards)) (drop n cards) n (length-taken cards n f h)
 
-drop-after : (cards : List Card) (n : ℕ) (f : List ℕ) → n ≤ length cards → drop n (cardsAfter cards n f) ≡ drop n cards
+pub drop-after : (cards : List Card) (n : ℕ) (f : List ℕ) → n ≤ length cards → drop n (cardsAfter cards n f) ≡ drop n cards
 unfolding cardsAfter
 drop-after cards n f h = drop-at (allTake f (take n cards)) (drop n cards) n (length-taken cards n f h)
 
-length-after : (cards : List Card) (n : ℕ) (f : List ℕ) → n ≤ length cards → length (cardsAfter cards n f) ≡ length cards
+pub length-after : (cards : List Card) (n : ℕ) (f : List ℕ) → n ≤ length cards → length (cardsAfter cards n f) ≡ length cards
 unfolding cardsAfter
 length-after cards n f h =
     rw (length-append, length-taken cards n f h, length-drop) (omega arith)

@@ -22,6 +22,8 @@ fn is_idle_or_halt(s: CardState) -> bool
         CardState::Ready(_) => false,
         CardState::Active => false,
         CardState::Halt => true,
+        CardState::ReadyStar(_) => false,
+        CardState::ActiveStar => false,
         CardState::Protocol(_) => false,
     }
 }

@@ -26,9 +26,10 @@ pub fn card_line(card: LinkCard, name: &[u8], g: Given, word: &[u8]) -> Answer {
     }
 }
 
-// `hear ROOM LENT BUFFER HEX`, `select ROOM`, `start_sweep ROOM`, `rats ROOM INDEX`, `send ROOM BYTES`, `deselect ROOM`
+// `hear ROOM LENT BUFFER HEX`, `select ROOM`, `start_sweep ROOM`, `rats ROOM INDEX`, `send ROOM BYTES`, `deselect ROOM`, `wake ROOM BYTES`: the UID
+// has so many bytes
 pub fn reader_line(r: LinkReader, name: &[u8], g: Given, word: &[u8]) -> Answer {
-    let k = bench_talk::which(b"hear select start_sweep rats send deselect", 6, name);
+    let k = bench_talk::which(b"hear select start_sweep rats send deselect wake", 7, name);
     match k {
         0 => hear(r, g, word),
         1 => select(r, g),
@@ -36,6 +37,7 @@ pub fn reader_line(r: LinkReader, name: &[u8], g: Given, word: &[u8]) -> Answer 
         3 => rats(r, g),
         4 => send(r, g),
         5 => deselect(r, g),
+        6 => wake(r, g),
         _ => bench_talk::none(),
     }
 }
@@ -147,6 +149,13 @@ fn send(r: LinkReader, g: Given) -> Answer {
 fn deselect(r: LinkReader, g: Given) -> Answer {
     let mut sent = [0u8; 2304];
     let t = reader_link::whole::deselect(r, bench_talk::room(&mut sent, g.a));
+    reader_said(t, &sent)
+}
+
+fn wake(r: LinkReader, g: Given) -> Answer {
+    let uid = [1u8, 2, 3, 4, 5, 6, 7, 8, 9, 10, 11];
+    let mut sent = [0u8; 2304];
+    let t = reader_link::whole::wake(r, bench::front(&uid, g.b), bench_talk::room(&mut sent, g.a));
     reader_said(t, &sent)
 }
 

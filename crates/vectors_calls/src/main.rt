@@ -100,17 +100,17 @@ fn call(bench: Bench, text: &[u8]) -> Answer {
 // The calls that need no ends.
 fn alone(name: &[u8], g: Given, word: &[u8]) -> Answer {
     let k = bench_talk::which(
-        b"write write_crc write_short read read_crc air_row reader_select reader_start_sweep reader_hear sweep sweep_row",
-        11,
+        b"write write_crc write_short read read_crc air_row reader_select reader_start_sweep reader_hear reader_wake sweep sweep_row wake_field",
+        13,
         name,
     );
     if k < 6 {
         return frames::line(k, g);
     }
-    if k < 9 {
+    if k < 10 {
         return readers::line(k, g);
     }
-    if k < 11 {
+    if k < 13 {
         return sweeps::line(k, g, word);
     }
     bench_talk::none()

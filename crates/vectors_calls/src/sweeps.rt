@@ -1,4 +1,4 @@
-// The two sweeps over a field in which one thing may be off.
+// The calls over a field in which one thing may be off.
 use crate::Given;
 use bench_talk::Answer;
 use card::Card;
@@ -10,11 +10,19 @@ use uid::Level;
 use uid::Uid;
 
 // `sweep LOG LIST N OFF`, `sweep_row LOG LIST N OFF`: the call is handed as many cards as a sweep takes, of which N count. What is off: the first card's index is 9, its
-// UID is not valid, it is Ready or Off, its UID is the second card's, or the reader is not new.
+// UID is not valid, it is Ready, Off, Ready* or Active*, its UID is the second card's, or the reader is not new. `wake_field BYTES FIRST N OFF`:
+// the UID has so many bytes, FIRST and then 2, 3, 4 ..
 pub fn line(k: usize, g: Given, word: &[u8]) -> Answer {
-    let off = bench_talk::which(b"none index uid ready off twice used", 7, word);
-    if off > 6 {
+    let off = bench_talk::which(
+        b"none index uid ready off twice used ready* active*",
+        9,
+        word,
+    );
+    if off > 8 {
         return bench_talk::none();
+    }
+    if k > 11 {
+        return woken(g, off);
     }
     let mut log = [0u8; limits::LOG_ROOM];
     let mut list = [0u8; limits::LIST_ROOM];
@@ -31,20 +39,34 @@ pub fn line(k: usize, g: Given, word: &[u8]) -> Answer {
 fn sweep_by(k: usize, g: Given, off: usize, log: &mut [u8], list: &mut [u8]) -> Swept {
     let cards = spoil(good(), off);
     let r = reader_for(off);
-    if k == 9 {
+    if k == 10 {
         return sweep::sweep(r, cards, g.c, log, list);
     }
     sweep_row::within::sweep_by_row(r, cards, g.c, log, list)
 }
 
+fn woken(g: Given, off: usize) -> Answer {
+    let cards = spoil(good(), off);
+    let r = reader_for(off);
+    let mut uid = [1u8, 2, 3, 4, 5, 6, 7, 8, 9, 10, 11];
+    uid[0] = bench_lines::within_byte(g.b);
+    let w = wake::wake(r, bench::front(&uid, g.a), cards, g.c);
+    let a = w.answer;
+    frames(a, w.frames)
+}
+
 // `frames N` or `refused N`
 fn said(s: Swept) -> Answer {
     let a = s.answer;
+    frames(a, s.frames)
+}
+
+fn frames(a: reader::Answer, count: usize) -> Answer {
     let n = bench_ends::declined_in(a);
     if n > 0 {
         return bench_talk::refused(n);
     }
-    bench_talk::number(bench_talk::word(bench_talk::none(), b"frames", 0), s.frames)
+    bench_talk::number(bench_talk::word(bench_talk::none(), b"frames", 0), count)
 }
 
 fn reader_for(off: usize) -> Reader {
@@ -91,6 +113,8 @@ fn spoilt(c: Card, off: usize) -> Card {
         3 => with(c, u, 8, CardState::Ready(Level::One)),
         4 => with(c, u, 8, CardState::Off),
         5 => with(c, with_first(u, 1), 8, s),
+        7 => with(c, u, 8, CardState::ReadyStar(Level::One)),
+        8 => with(c, u, 8, CardState::ActiveStar),
         _ => c,
     }
 }

@@ -12,6 +12,7 @@ pub fn script() -> S {
     frames(&mut s);
     readers(&mut s);
     sweeps(&mut s);
+    wakes(&mut s);
     new_ends(&mut s);
     open_ends(&mut s);
     owing_card(&mut s);
@@ -60,6 +61,11 @@ fn readers(s: &mut S) {
         refused(s, &format!("{call} 80 1"), 11);
         refused(s, &format!("{call} 81 1"), 11);
     }
+    beside(s, "reader_wake 80 0 4", 1, "reader_wake 81 0 4");
+    refused(s, "reader_wake 80 0 5", 1);
+    beside(s, "reader_wake 81 0 5", 6, "reader_wake 81 0 10");
+    refused(s, "reader_wake 81 0 0", 6);
+    refused(s, "reader_wake 80 1 5", 11);
     beside(s, "reader_hear 80 1", 1, "reader_hear 81 1");
     refused(s, "reader_hear 80 0", 11);
     refused(s, "reader_hear 81 0", 11);
@@ -68,7 +74,7 @@ fn readers(s: &mut S) {
 fn sweeps(s: &mut S) {
     for call in ["sweep", "sweep_row"] {
         s.remark(&format!("{call}: a field with one thing off"));
-        for off in ["index", "uid", "ready", "off"] {
+        for off in ["index", "uid", "ready", "off", "ready*", "active*"] {
             beside(s, &format!("{call} 24576 352 1 {off}"), 6, &format!("{call} 24576 352 0 {off}"));
         }
         beside(s, &format!("{call} 24576 352 2 twice"), 6, &format!("{call} 24576 352 1 twice"));
@@ -90,12 +96,34 @@ fn sweeps(s: &mut S) {
     }
 }
 
+fn wakes(s: &mut S) {
+    s.remark("wake_field: 6 for the UID, and for a field with one thing off");
+    for bytes in [0, 1, 3, 5, 6, 8, 9, 11] {
+        refused(s, &format!("wake_field {bytes} 3 16 none"), 6);
+    }
+    beside(s, "wake_field 4 136 16 none", 6, "wake_field 4 15 16 none");
+    for off in ["index", "uid", "ready", "off", "ready*", "active*"] {
+        beside(s, &format!("wake_field 4 3 16 {off}"), 6, "wake_field 4 3 16 none");
+    }
+    refused(s, "wake_field 4 3 16 twice", 6);
+    beside(s, "wake_field 4 3 33 none", 6, "wake_field 4 3 32 none");
+    s.remark("7: not there, or an empty field; 11 ahead of all");
+    for (line, number) in
+        [("4 3 3 none", 7), ("4 3 0 none", 7), ("7 3 16 none", 7), ("10 3 16 none", 7), ("4 3 16 used", 11), ("5 3 17 used", 11), ("4 3 99999 none", 6)]
+    {
+        refused(s, &format!("wake_field {line}"), number);
+    }
+}
+
 fn new_ends(s: &mut S) {
     s.remark("the whole card and the whole reader, new: 11 ahead of room");
     s.say("new");
     for call in ["select", "start_sweep"] {
         beside(s, &format!("{call} 2303"), 1, &format!("{call} 2304"));
     }
+    beside(s, "wake 2303 4", 1, "wake 2304 4");
+    refused(s, "wake 2303 5", 1);
+    beside(s, "wake 2304 11", 6, "wake 2304 7");
     beside(s, "take 2303 0 0 5000", 1, "take 2304 0 0 5000");
     for line in ["reply 2303 0", "reply 2304 5000", "ask 2303 0", "ask 2304 60", "rats 2303 9", "rats 2304 8", "send 2303 5000"] {
         refused(s, line, 11);
@@ -109,7 +137,7 @@ fn new_ends(s: &mut S) {
     refused(s, "rats 2303 9", 1);
     refused(s, "rats 2304 9", 6);
     refused(s, "rats 2304 255", 6);
-    for call in ["select 2303", "start_sweep 2303", "send 2303 0", "deselect 2303", "hear 2303 0 0 -"] {
+    for call in ["select 2303", "start_sweep 2303", "wake 2303 5", "send 2303 0", "deselect 2303", "hear 2303 0 0 -"] {
         refused(s, call, 11);
     }
 }
@@ -237,5 +265,5 @@ fn longest_message(s: &mut S) {
 
 fn not_understood(s: &mut S) {
     s.remark("lines that are not understood");
-    say_all(s, &["sing 1", "sweep 24576 352 1 tired", "sweep 24576 352 1"]);
+    say_all(s, &["sing 1", "wake_field 4 3 16 tired", "sweep 24576 352 1 tired", "sweep 24576 352 1"]);
 }

@@ -97,6 +97,33 @@ pub fn halt(s: &mut S) {
     }
 }
 
+/// Brings the card to Ready* at a level, woken from Halt.
+pub fn ready_star(s: &mut S, level: usize) {
+    if !matches!(state(s), State::ReadyStar(at) if at <= level) {
+        halt(s);
+        s.say("short 52");
+    }
+    while let State::ReadyStar(at) = state(s) {
+        if at == level {
+            return;
+        }
+        let line = crc_line(&select_bytes(&own_uid(s), at));
+        s.say(&line);
+    }
+    panic!("the card has no such level");
+}
+
+pub fn active_star(s: &mut S) {
+    if state(s) == State::ActiveStar {
+        return;
+    }
+    let uid = own_uid(s);
+    let last = uid::level_count(&uid);
+    ready_star(s, last);
+    s.say(&crc_line(&select_bytes(&uid, last)));
+    assert_eq!(state(s), State::ActiveStar);
+}
+
 fn language(s: &mut S) {
     s.remark("before the first card only card and room are understood");
     for line in [
@@ -409,13 +436,13 @@ fn block_frames() -> Vec<String> {
 pub fn every_state(s: &mut S, strangers: bool) {
     s.remark(if strangers { "every state with RATS and blocks" } else { "every state with every frame of selection" });
     for sak in ["20", "00"] {
-        for place in 0..7 {
-            // A card that speaks no blocks differs in Active only; RATS and blocks are the same at each level.
-            if (sak == "00" && place != 5) || (strangers && (place == 3 || place == 4)) {
+        for place in 0..11 {
+            // A card that speaks no blocks differs in Active and Active* only; RATS and blocks are the same at each level.
+            if (sak == "00" && place != 5 && place != 10) || (strangers && [3, 4, 8, 9].contains(&place)) {
                 continue;
             }
             // The card of three levels where the level matters, else one that is sooner Active.
-            let uid = if place < 5 { UID10 } else { UID4 };
+            let uid = if place < 5 || (7..10).contains(&place) { UID10 } else { UID4 };
             let lines = if strangers { block_frames() } else { selection_frames(&hex(uid)) };
             fresh(s, uid, sak, 8);
             let bring = |s: &mut S| match place {
@@ -425,7 +452,9 @@ pub fn every_state(s: &mut S, strangers: bool) {
                 1 => idle(s),
                 2 | 3 | 4 => ready(s, place - 1),
                 5 => active(s),
-                _ => halt(s),
+                6 => halt(s),
+                7 | 8 | 9 => ready_star(s, place - 6),
+                _ => active_star(s),
             };
             for line in &lines {
                 bring(s);
@@ -473,6 +502,10 @@ fn damage(s: &mut S) {
     damage_of(s, &frames::anticollision(1, &bits[..32]), 7, &|s| ready(s, 1));
     damage_of(s, &frames::select(1, &uid::levels(&hex(UID4))[0]), 5, &|s| ready(s, 1));
     damage_of(s, &frames::hlta(), 4, &active);
+    s.remark("the same of a woken card, which goes back to Halt");
+    damage_of(s, &frames::anticollision(1, &bits[..13]), 11, &|s| ready_star(s, 1));
+    damage_of(s, &frames::select(1, &uid::levels(&hex(UID4))[0]), 17, &|s| ready_star(s, 1));
+    damage_of(s, &frames::hlta(), 7, &active_star);
     fresh(s, UID10, "00", 8);
     damage_of(s, &frames::anticollision(3, &level_bits(s, 3)[..24]), 13, &|s| ready(s, 3));
     damage_of(s, &frames::select(2, &uid::levels(&hex(UID10))[1]), 19, &|s| ready(s, 2));
@@ -511,7 +544,7 @@ fn random_line(s: &S, random: &mut Random, blocks: bool) -> String {
         State::Protocol(_) => return super::card_blocks::random_protocol_line(s, random),
         State::Idle => frames::short(random.pick(&[REQA, REQA, WUPA])),
         State::Halt => frames::short(random.pick(&[WUPA, WUPA, WUPA, REQA])),
-        State::Active => {
+        State::Active | State::ActiveStar => {
             if blocks && random.chance(80) {
                 frames::standard_with_crc(&[
                     0xE0,
@@ -521,7 +554,7 @@ fn random_line(s: &S, random: &mut Random, blocks: bool) -> String {
                 frames::hlta()
             }
         }
-        State::Ready(level) => {
+        State::Ready(level) | State::ReadyStar(level) => {
             let own = uid::levels(&own_uid(s))[level - 1];
             let bits = frames::bits_of(&own);
             match random.below(10) {

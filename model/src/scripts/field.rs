@@ -139,9 +139,10 @@ pub fn script(seed: u64) -> Script<VectorsSweep> {
     combs(&mut s, &mut random);
     refused_fields(&mut s);
     rooms(&mut s);
+    woken_fields(&mut s, &mut random);
     s.remark("random fields");
     let mut fields = 0;
-    while fields < 260 && s.output.len() < 252_000 {
+    while fields < 260 && s.output.len() < 285_000 {
         let lines = random_field(&mut random);
         // Large fields are rare: their logs take most of the room.
         if lines.len() > 5 && random.chance(if lines.len() > 12 { 95 } else { 70 }) {
@@ -152,6 +153,69 @@ pub fn script(seed: u64) -> Script<VectorsSweep> {
     }
     assert!(fields >= 200, "only {fields} random fields fit");
     s
+}
+
+/// T-03: one known card woken, in fields of idle and halted cards.
+fn woken_fields(s: &mut Script<VectorsSweep>, random: &mut Random) {
+    s.remark("one card woken: the examples, a halted card and an idle one, one that is not there, an empty field");
+    let field = ["80122821 halt", "01020304 idle 00"];
+    assert_eq!(
+        both(s, &texts(&[&field[..], &["wake 80122821"]].concat())),
+        "selected 80122821 20\nframes 2\nrats send 000001110000000010100011000110011100\ncard 80122821 active* 20 8\ncard 01020304 idle 00 8"
+    );
+    assert_eq!(
+        both(s, &texts(&[&field[..], &["wake 01020304"]].concat())),
+        "selected 01020304 00\nframes 2\nrats refused 11\ncard 80122821 halt 20 8\ncard 01020304 active 00 8"
+    );
+    assert_eq!(both(s, &texts(&["80122821 halt", "wake 80122822"])), "refused 7\nrats refused 11\ncard 80122821 halt 20 8");
+    assert_eq!(both(s, &texts(&["wake 80122822"])), "refused 7\nrats refused 11");
+    s.remark("cards that share first levels, and are not disturbed; a UID that ends where others go on; 88 where it may stand");
+    let family = ["80122821441020 halt", "80122821441021", "80122899441020334455 halt 00", "80122821441020334456", "80122821 halt"];
+    for uid in ["80122821441020", "80122821441021", "80122821441022", "80122899441020334455", "80122821441020334456", "80122899441020334456", "80122821", "80122822"] {
+        both(s, &texts(&[&family[..], &[&format!("wake {uid}")]].concat()));
+    }
+    both(s, &texts(&["01020304050688080910 halt", "01020304050608080910", "wake 01020304050688080910"]));
+    both(s, &texts(&["88888888888888888888", "88888808888888 halt", "wake 88888808888888"]));
+    s.remark("refused: the UID, or the field; the last such line counts, and one that is not understood does not");
+    for lines in [
+        &["01020304", "wake 88020304"][..],
+        &["01020304", "wake 0102"],
+        &["wake 0102030405"],
+        &["01020304", "01020304 halt", "wake 01020304"],
+        &["01020304 off", "wake 01020304"],
+        &["01020304 ready 1", "wake 01020304"],
+        &["01020304 ready* 3 00 4", "wake 01020304"],
+        &["01020304 active", "wake 01020304"],
+        &["01020304 active* 20", "wake 01020304"],
+        &["01020304 protocol", "wake 01020304"],
+        &["01020304 halt 00 9", "wake 01020304"],
+    ] {
+        assert_eq!(both(s, &texts(lines)), "refused 6");
+    }
+    both(s, &texts(&["wake 01020305", "01020304", "wake 01020304", "01020305 halt 00", "wake", "wake -", "wake 01 02", "wake 0102030405060708090A0B"]));
+    for state in ["ready", "ready 0", "ready 4", "ready* x", "ready 1 20 8 8", "active 1", "Active", "ready*1", "protocol 8 8"] {
+        s.say(&format!("01020304 {state}"));
+    }
+    s.say("sweep");
+    s.remark("the same states without a line to wake");
+    for state in ["ready 1", "ready 2 00", "ready 3 20 0", "ready* 1", "ready* 2", "ready* 3 00", "active", "active* 00 3", "protocol"] {
+        assert_eq!(both(s, &texts(&[&format!("01020304 {state}")])), "refused 6");
+    }
+    s.remark("random fields, one card woken");
+    for i in 0..90 {
+        let mut lines = random_field(random);
+        let uid = match random.below(10) {
+            0 => random.uid(),
+            1 | 2 if !lines.is_empty() => {
+                let uids: Vec<Vec<u8>> = lines.iter().filter_map(|line| crate::language::read_hex(line.split(' ').next()?)).collect();
+                relative(random, &uids)
+            }
+            _ if !lines.is_empty() => crate::language::read_hex(random.pick(&lines).split(' ').next().unwrap()).unwrap(),
+            _ => random.uid(),
+        };
+        lines.insert(random.below(lines.len() + 1), format!("wake {}", show_hex(&uid)));
+        nth(s, i, &lines);
+    }
 }
 
 fn document_fields(s: &mut Script<VectorsSweep>) {

@@ -23,6 +23,7 @@ pub fn script(seed: u64) -> S {
     two_faults(&mut s);
     where_it_broke(&mut s);
     sak(&mut s);
+    wake(&mut s);
     sweep_by_hand(&mut s);
     fields_by_hand(&mut s);
     s.remark("random scripts");
@@ -33,7 +34,7 @@ pub fn script(seed: u64) -> S {
 }
 
 /// The lines that bring a new reader into each phase of selection.
-pub const SELECTION_PHASES: [&[&str]; 9] = [
+pub const SELECTION_PHASES: [&[&str]; 11] = [
     &["new"],
     &["new", "select"],
     &["new", "sweep"],
@@ -43,6 +44,8 @@ pub const SELECTION_PHASES: [&[&str]; 9] = [
     &["new", "select", "bytes 0400", "bytes 0102030404", "crc 00"],
     &["new", "sweep", "silence"],
     &["new", "select", "silence"],
+    &["new", "wake 04112233445566"],
+    &["new", "wake 04112233445566", "bytes 4400", "crc 04"],
 ];
 
 /// A card selected that speaks blocks: here only for the calls that are not due.
@@ -116,7 +119,7 @@ pub fn not_due(s: &mut S, phases: &[&[&str]], blocks: bool) {
     for lines in phases.iter().chain([&SELECTED]) {
         say_all(s, lines);
         for call in
-            ["select", "sweep", "rats 8", "rats 9", "rats 255", "send 0102", "send -", "deselect", "row -", "bytes 0400", "row x"]
+            ["select", "sweep", "wake 05060708", "wake 88060708", "rats 8", "rats 9", "rats 255", "send 0102", "send -", "deselect", "row -", "bytes 0400", "row x"]
         {
             let before = s.program.reader.clone();
             // RATS where it is due belongs to the other half of the script.
@@ -130,6 +133,63 @@ pub fn not_due(s: &mut S, phases: &[&[&str]], blocks: bool) {
             }
         }
     }
+}
+
+/// T-03: one known card. The UID, ATQA, and SAK at each level.
+fn wake(s: &mut S) {
+    s.remark("one known card, T-03: lines that are not understood, UIDs that are not valid, and 88s that are");
+    s.say("new");
+    for line in ["wake", "wake -", "wake 0", "wake 01 02", "wake 0102030405060708090A0B", "wake x", "Wake 01020304"] {
+        s.say(line);
+    }
+    for uid in ["01", "010203", "88020304", "0102030405", "010203040506", "01020388050607", "0102030405060708", "010203040506070809"] {
+        assert_eq!(s.say(&format!("wake {uid}")), "refused 6");
+    }
+    for uid in ["05060708", "88020304050607", "88020388050688080910"] {
+        s.say("new");
+        assert_eq!(s.say(&format!("wake {uid}")), "send 0100101");
+    }
+    s.remark("ATQA is tested as ever");
+    let row = frames::standard(&[0x04, 0x00]);
+    let mut rows = vec![Row::new(), row[..17].to_vec(), [row.clone(), vec![1]].concat(), frames::standard(&[0xC4, 0x00])];
+    rows.extend([frames::standard(&[0x20, 0x00]), frames::standard(&[0x00, 0x1F]), vec![2; 18]]);
+    rows.extend((0..18).step_by(3).map(|place| flipped(&row, place)));
+    rows.extend([4, 8, 13, 17].map(|place| collided(&row, place)));
+    for row in rows {
+        say_all(s, &["new", "wake 05060708"]);
+        s.say(&plain_row(&row));
+    }
+    s.remark("SAK at each level: b3 set exactly if it is not the last; any other bits");
+    for uid in ["05060708", "04112233445566", "56341280122821440010"] {
+        for level in 1..=uid::level_count(&hex(uid)) {
+            let bring = |s: &mut S| {
+                say_all(s, &["new", &format!("wake {uid}"), "bytes 0400"]);
+                (1..level).for_each(|_| drop(s.say("crc 04")));
+            };
+            for sak in ["00", "04", "20", "24", "08", "FB", "FF", "18"] {
+                bring(s);
+                s.say(&format!("crc {sak}"));
+                s.say("silence");
+            }
+            let row = frames::standard_with_crc(&[if level < uid::level_count(&hex(uid)) { 0x04 } else { 0x20 }]);
+            for place in (0..27).step_by(5).chain([8, 17, 26]) {
+                bring(s);
+                s.say(&plain_row(&flipped(&row, place)));
+                bring(s);
+                s.say(&plain_row(&collided(&row, place)));
+            }
+            let wrong_crc = frames::standard(&[row_byte(&row), 0, 0]);
+            for row in [Row::new(), row[..26].to_vec(), [row.clone(), vec![0]].concat(), wrong_crc] {
+                bring(s);
+                s.say(&plain_row(&row));
+            }
+        }
+    }
+}
+
+/// The first byte of a row.
+fn row_byte(row: &[u8]) -> u8 {
+    frames::byte_of(&row[..8])
 }
 
 /// A reader that has sent ANTICOLLISION with k = 0 at a level, by levels 88 01 02 03 and 88 04 05 06.

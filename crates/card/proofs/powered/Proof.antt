@@ -21,6 +21,12 @@ enum-told-4 c = search needs
 enum-known-s-2 : tie.Need-enum-known-s-2
 enum-known-s-2 c = search needs
 
+enum-told-5 : tie.Need-enum-told-5
+enum-told-5 c = search needs
+
+enum-known-s-3 : tie.Need-enum-known-s-3
+enum-known-s-3 c = search needs
+
 returns : tie.Need-returns
 returns c = search needs
 
@@ -39,6 +45,12 @@ returns-5 c = search needs
 returns-6 : tie.Need-returns-6
 returns-6 c = rw (c .before .s2 .given .1)
 
+returns-7 : tie.Need-returns-7
+returns-7 c = search needs
+
+returns-8 : tie.Need-returns-8
+returns-8 c = rw (c .before .s3 .given .1)
+
 pub powered-spec : {M : Type 1} → statement M
 powered-spec =
     tie.close
@@ -49,9 +61,13 @@ powered-spec =
     enum-told-3
     enum-told-4
     enum-known-s-2
+    enum-told-5
+    enum-known-s-3
     returns
     returns-2
     returns-3
     returns-4
     returns-5
-    returns-6)
+    returns-6
+    returns-7
+    returns-8)

@@ -1,11 +1,12 @@
 -- `card::ready::ready_at` meets its contract: the rules of Ready at what the tests told. Assumes nothing.
 use mathlib.Core.Path.{refl, ap, _∙_}
 use mathlib.Core.Bool.{true, false}
+use mathlib.Core.List.{[]}
 use native.Mathlib.Omega.{arith}
 use denote.Ref.{now}
 use borrow.Author.Needs.{needs}
 use Rattle.selection.specs.Selection.{others}
-use Rattle.card.specs.declared.CardState.the-variants.{Ready}
+use Rattle.card.specs.Card.{readyIn}
 use Rattle.card.specs.ReadyLaws.{match-few, ready-step}
 use Rattle.card.specs.TakenLaws.{handed, unmoved, told}
 use Rattle.card.proofs.ready.ready_at.Statement.{statement}
@@ -33,8 +34,8 @@ same-length c = search needs
 returns : tie.Need-returns
 returns c =
     let a = c .before .before .before .before .before .before .before .before .before .args in
-    let e = ready-step (a .c) (a .l) (a .five) (now (a .row)) true _ (c .before .before .before .before .before .before .is-matching .ensures) (c .before .before .before .before .before .if1 .taken) refl in
-    handed (a .c) (now (a .out)) (ap (λ k. (Ready (a .l), others k (a .five))) (c .before .before .before .before .bits-sent .ensures) ∙ e) (c .before .before .send-rest .ensures)
+    let e = ready-step (a .c) (a .woken) (a .l) (a .five) (now (a .row)) true _ (c .before .before .before .before .before .before .is-matching .ensures) (c .before .before .before .before .before .if1 .taken) refl in
+    handed (a .c) (now (a .out)) (ap (λ k. (readyIn (a .woken) (a .l), others k (a .five))) (c .before .before .before .before .bits-sent .ensures) ∙ e) (c .before .before .send-rest .ensures)
 
 select-requires : tie.Need-select-requires
 select-requires c κs = search needs
@@ -55,18 +56,21 @@ returns-2 : tie.Need-returns-2
 returns-2 c =
     let a = c .before .before .before .before .before .before .before .before .before .before .before .before .args in
     let s = told (now (a .row)) (c .before .before .before .before .before .is-same .ensures) (c .before .before .before .before .before .before .before .select .ensures) (c .before .before .before .before .if2 .taken) in
-    let e = ready-step (a .c) (a .l) (a .five) (now (a .row)) false true (c .before .before .before .before .before .before .before .before .before .is-matching .ensures) (c .before .before .before .before .before .before .before .before .if1 .left) s in
+    let e = ready-step (a .c) (a .woken) (a .l) (a .five) (now (a .row)) false true (c .before .before .before .before .before .before .before .before .before .is-matching .ensures) (c .before .before .before .before .before .before .before .before .if1 .left) s in
     handed (a .c) (now (a .out)) e (c .before .before .send-sak .ensures)
+
+home-requires : tie.Need-home-requires
+home-requires c κs = search needs
 
 silent-requires : tie.Need-silent-requires
 silent-requires c κs = search needs
 
 returns-3 : tie.Need-returns-3
 returns-3 c =
-    let a = c .before .before .before .before .before .before .before .before .before .args in
-    let s = told (now (a .row)) (c .before .before .is-same .ensures) (c .before .before .before .before .select .ensures) (c .before .if2 .left) in
-    let e = ready-step (a .c) (a .l) (a .five) (now (a .row)) false false (c .before .before .before .before .before .before .is-matching .ensures) (c .before .before .before .before .before .if1 .left) s in
-    unmoved (a .c) (now (a .out)) e (c .silent .ensures)
+    let a = c .before .before .before .before .before .before .before .before .before .before .args in
+    let s = told (now (a .row)) (c .before .before .before .is-same .ensures) (c .before .before .before .before .before .select .ensures) (c .before .before .if2 .left) in
+    let e = ready-step (a .c) (a .woken) (a .l) (a .five) (now (a .row)) false false (c .before .before .before .before .before .before .before .is-matching .ensures) (c .before .before .before .before .before .before .if1 .left) s in
+    unmoved (a .c) (now (a .out)) (ap (λ s. (s, [])) (c .before .home .ensures) ∙ e) (c .silent .ensures)
 
 pub ready-at-spec : {M : Type 1} → statement M
 ready-at-spec =
@@ -84,5 +88,6 @@ ready-at-spec =
     send-sak-requires
     same-length-2
     returns-2
+    home-requires
     silent-requires
     returns-3)

@@ -1,8 +1,7 @@
 -- `card::ready::send_rest` meets its contract: the rest of the row is what the definition drops to. Assumes nothing.
-use mathlib.Core.Path.{ap}
+use mathlib.Core.Path.{ap₂}
 use denote.Ref.{now}
 use borrow.Author.Needs.{needs}
-use Rattle.card.specs.declared.CardState.the-variants.{Ready}
 use Rattle.card.specs.ReadyLaws.{rest-made}
 use Rattle.card.specs.TakenLaws.{handed}
 use Rattle.card.proofs.ready.send_rest.Statement.{statement}
@@ -13,6 +12,9 @@ level-row-requires c κs = search needs
 
 cut-requires : tie.Need-cut-requires
 cut-requires c κs = search needs
+
+ready-in-requires : tie.Need-ready-in-requires
+ready-in-requires c κs = search needs
 
 sub-send : tie.Need-sub-send
 sub-send c = search needs
@@ -31,8 +33,8 @@ same-length c = search needs
 
 returns : tie.Need-returns
 returns c =
-    let a = c .before .before .before .before .before .before .before .before .before .args in
-    handed (a .c) (now (a .out)) (ap (λ r. (Ready (a .l), r)) (rest-made (a .k) _ (a .five) _ (c .before .before .before .before .before .before .before .before .before .pre .0) (search needs) (c .before .before .before .before .before .before .cut .ensures) (c .before .before .before .before .before .before .before .level-row .ensures))) (c .before .before .send .ensures)
+    let a = c .before .before .before .before .before .before .before .before .before .before .args in
+    handed (a .c) (now (a .out)) (ap₂ (λ s r. (s, r)) (c .before .before .before .before .before .before .ready-in .ensures) (rest-made (a .k) _ (a .five) _ (c .before .before .before .before .before .before .before .before .before .before .pre .0) (search needs) (c .before .before .before .before .before .before .before .cut .ensures) (c .before .before .before .before .before .before .before .before .level-row .ensures))) (c .before .before .send .ensures)
 
 pub send-rest-spec : {M : Type 1} → statement M
 send-rest-spec =
@@ -40,6 +42,7 @@ send-rest-spec =
     (tie.spec
     level-row-requires
     cut-requires
+    ready-in-requires
     sub-send
     part-send-start
     part-send-end

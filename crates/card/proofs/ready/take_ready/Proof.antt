@@ -1,4 +1,6 @@
 -- `card::ready::take_ready` meets its contract: the level is one of the UID's, or it is not. Assumes nothing.
+use mathlib.Core.Path.{ap, _∙_}
+use mathlib.Core.List.{[]}
 use native.Mathlib.Omega.{arith}
 use borrow.Author.Needs.{needs}
 use denote.Ref.{now}
@@ -13,15 +15,18 @@ place-requires c κs = search needs
 level-count-requires : tie.Need-level-count-requires
 level-count-requires c κs = search needs
 
+home-requires : tie.Need-home-requires
+home-requires c κs = search needs
+
 silent-requires : tie.Need-silent-requires
 silent-requires c κs = search needs
 
 returns : tie.Need-returns
 returns c =
-    let a = c .before .before .before .before .before .before .before .args in
-    let p = c .before .before .before .place in
-    let n = c .before .before .level-count in
-    unmoved (a .c) (now (a .out)) (level-none (a .c) (a .l) (now (a .row)) (p .result) (n .result) (p .ensures) (n .ensures) (omega arith)) (c .silent .ensures)
+    let a = c .before .before .before .before .before .before .before .before .args in
+    let p = c .before .before .before .before .place in
+    let n = c .before .before .before .level-count in
+    unmoved (a .c) (now (a .out)) (ap (λ s. (s, [])) (c .before .home .ensures) ∙ level-none (a .c) (a .woken) (a .l) (now (a .row)) (p .result) (n .result) (p .ensures) (n .ensures) (omega arith)) (c .silent .ensures)
 
 levels-requires : tie.Need-levels-requires
 levels-requires c κs = search needs
@@ -44,7 +49,7 @@ returns-2 c =
     let p = c .before .before .before .before .before .before .before .before .place in
     let n = c .before .before .before .before .before .before .before .level-count in
     let ls = c .before .before .before .before .before .levels in
-    handed (a .c) (now (a .out)) (level-step (a .c) (a .l) (now (a .row)) (p .result) (n .result) (p .ensures) (n .ensures) (ls .result) (ls .ensures) (omega arith)) (c .before .before .ready-at .ensures)
+    handed (a .c) (now (a .out)) (level-step (a .c) (a .woken) (a .l) (now (a .row)) (p .result) (n .result) (p .ensures) (n .ensures) (ls .result) (ls .ensures) (omega arith)) (c .before .before .ready-at .ensures)
 
 pub take-ready-spec : {M : Type 1} → statement M
 take-ready-spec =
@@ -52,6 +57,7 @@ take-ready-spec =
     (tie.spec
     place-requires
     level-count-requires
+    home-requires
     silent-requires
     returns
     levels-requires

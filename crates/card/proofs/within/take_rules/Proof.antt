@@ -40,6 +40,18 @@ take-halt-requires c κs = search needs
 enum-known-s-2 : tie.Need-enum-known-s-2
 enum-known-s-2 c = search needs
 
+take-ready-requires-2 : tie.Need-take-ready-requires-2
+take-ready-requires-2 c κs = search needs
+
+enum-told-5 : tie.Need-enum-told-5
+enum-told-5 c = search needs
+
+take-active-requires-2 : tie.Need-take-active-requires-2
+take-active-requires-2 c κs = search needs
+
+enum-known-s-3 : tie.Need-enum-known-s-3
+enum-known-s-3 c = search needs
+
 silent-requires-2 : tie.Need-silent-requires-2
 silent-requires-2 c κs = search needs
 
@@ -81,11 +93,27 @@ returns-5 c =
     let a = c .before .before .before .before .before .before .before .before .args in
     handed (a .c) (now (a .out)) (ap (λ s. rules (a .c) s (now (a .row))) (sym (c .before .before .before .before .enum-told4 .given .1))) (c .before .before .take-halt .ensures)
 
+same-length-5 : tie.Need-same-length-5
+same-length-5 c = search needs
+
 returns-6 : tie.Need-returns-6
-unfolding rules
 returns-6 c =
+    let a = c .before .before .before .before .before .before .before .before .before .args in
+    handed (a .c) (now (a .out)) (ap (λ s. rules (a .c) s (now (a .row))) (sym (c .before .before .before .before .before .s2 .given .1))) (c .before .before .take-ready2 .ensures)
+
+same-length-6 : tie.Need-same-length-6
+same-length-6 c = search needs
+
+returns-7 : tie.Need-returns-7
+returns-7 c =
+    let a = c .before .before .before .before .before .before .before .before .args in
+    handed (a .c) (now (a .out)) (ap (λ s. rules (a .c) s (now (a .row))) (sym (c .before .before .before .before .enum-told5 .given .1))) (c .before .before .take-active2 .ensures)
+
+returns-8 : tie.Need-returns-8
+unfolding rules
+returns-8 c =
     let a = c .before .before .before .before .before .before .args in
-    unmoved (a .c) (now (a .out)) (ap (λ s. rules (a .c) s (now (a .row))) (sym (c .before .before .s2 .given .1))) (c .silent2 .ensures)
+    unmoved (a .c) (now (a .out)) (ap (λ s. rules (a .c) s (now (a .row))) (sym (c .before .before .s3 .given .1))) (c .silent2 .ensures)
 
 pub take-rules-spec : {M : Type 1} → statement M
 take-rules-spec =
@@ -102,6 +130,10 @@ take-rules-spec =
     enum-told-4
     take-halt-requires
     enum-known-s-2
+    take-ready-requires-2
+    enum-told-5
+    take-active-requires-2
+    enum-known-s-3
     silent-requires-2
     returns
     same-length
@@ -112,4 +144,8 @@ take-rules-spec =
     returns-4
     same-length-4
     returns-5
-    returns-6)
+    same-length-5
+    returns-6
+    same-length-6
+    returns-7
+    returns-8)

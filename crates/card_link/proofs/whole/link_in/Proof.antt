@@ -32,11 +32,23 @@ enum-told-5 c = search needs
 open-requires-5 : tie.Need-open-requires-5
 open-requires-5 c κs = search needs
 
-enum-known-s : tie.Need-enum-known-s
-enum-known-s c = search needs
+enum-told-6 : tie.Need-enum-told-6
+enum-told-6 c = search needs
 
 open-requires-6 : tie.Need-open-requires-6
 open-requires-6 c κs = search needs
+
+enum-told-7 : tie.Need-enum-told-7
+enum-told-7 c = search needs
+
+open-requires-7 : tie.Need-open-requires-7
+open-requires-7 c κs = search needs
+
+enum-known-s : tie.Need-enum-known-s
+enum-known-s c = search needs
+
+open-requires-8 : tie.Need-open-requires-8
+open-requires-8 c κs = search needs
 
 returns : tie.Need-returns
 returns c = rw (c .open .ensures, c .before .enum-told .given .1)
@@ -54,7 +66,13 @@ returns-5 : tie.Need-returns-5
 returns-5 c = rw (c .open5 .ensures, c .before .enum-told5 .given .1)
 
 returns-6 : tie.Need-returns-6
-returns-6 c = rw (c .open6 .ensures, c .before .before .s .given .1)
+returns-6 c = rw (c .open6 .ensures, c .before .enum-told6 .given .1)
+
+returns-7 : tie.Need-returns-7
+returns-7 c = rw (c .open7 .ensures, c .before .enum-told7 .given .1)
+
+returns-8 : tie.Need-returns-8
+returns-8 c = rw (c .open8 .ensures, c .before .before .s .given .1)
 
 pub link-in-spec : {M : Type 1} → statement M
 link-in-spec =
@@ -70,11 +88,17 @@ link-in-spec =
     open-requires-4
     enum-told-5
     open-requires-5
-    enum-known-s
+    enum-told-6
     open-requires-6
+    enum-told-7
+    open-requires-7
+    enum-known-s
+    open-requires-8
     returns
     returns-2
     returns-3
     returns-4
     returns-5
-    returns-6)
+    returns-6
+    returns-7
+    returns-8)

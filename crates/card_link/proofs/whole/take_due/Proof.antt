@@ -39,6 +39,18 @@ take-outside-requires-5 c κs = search needs
 enum-told-6 : tie.Need-enum-told-6
 enum-told-6 c = search needs
 
+take-outside-requires-6 : tie.Need-take-outside-requires-6
+take-outside-requires-6 c κs = search needs
+
+enum-told-7 : tie.Need-enum-told-7
+enum-told-7 c = search needs
+
+take-outside-requires-7 : tie.Need-take-outside-requires-7
+take-outside-requires-7 c κs = search needs
+
+enum-told-8 : tie.Need-enum-told-8
+enum-told-8 c = search needs
+
 take-inside-requires : tie.Need-take-inside-requires
 take-inside-requires c κs = search needs
 
@@ -85,13 +97,29 @@ returns-5 c =
 same-length-6 : tie.Need-same-length-6
 same-length-6 c = search needs
 
+returns-6 : tie.Need-returns-6
+returns-6 c =
+    let a = c .before .before .before .before .before .before .before .before .before .before .before .args in
+    due-outside (a .x) (now (a .row)) (now (a .answer)) (now (a .buffer)) (now (a .out)) (c .before .before .before .before .enum-told6 .given .1) refl (c .before .before .take-outside6 .ensures)
+
 same-length-7 : tie.Need-same-length-7
 same-length-7 c = search needs
 
-returns-6 : tie.Need-returns-6
-returns-6 c =
+returns-7 : tie.Need-returns-7
+returns-7 c =
+    let a = c .before .before .before .before .before .before .before .before .before .before .before .args in
+    due-outside (a .x) (now (a .row)) (now (a .answer)) (now (a .buffer)) (now (a .out)) (c .before .before .before .before .enum-told7 .given .1) refl (c .before .before .take-outside7 .ensures)
+
+same-length-8 : tie.Need-same-length-8
+same-length-8 c = search needs
+
+same-length-9 : tie.Need-same-length-9
+same-length-9 c = search needs
+
+returns-8 : tie.Need-returns-8
+returns-8 c =
     let a = c .before .before .before .before .before .before .before .before .before .before .before .before .before .before .args in
-    due-inside (a .x) (now (a .row)) (now (a .answer)) (now (a .buffer)) (now (a .out)) (c .before .before .before .before .before .before .before .enum-told6 .given .1) refl (c .before .before .before .before .take-inside .ensures)
+    due-inside (a .x) (now (a .row)) (now (a .answer)) (now (a .buffer)) (now (a .out)) (c .before .before .before .before .before .before .before .enum-told8 .given .1) refl (c .before .before .before .before .take-inside .ensures)
 
 pub take-due-spec : {M : Type 1} → statement M
 take-due-spec =
@@ -108,6 +136,10 @@ take-due-spec =
     enum-told-5
     take-outside-requires-5
     enum-told-6
+    take-outside-requires-6
+    enum-told-7
+    take-outside-requires-7
+    enum-told-8
     take-inside-requires
     same-length
     returns
@@ -120,5 +152,9 @@ take-due-spec =
     same-length-5
     returns-5
     same-length-6
+    returns-6
     same-length-7
-    returns-6)
+    returns-7
+    same-length-8
+    same-length-9
+    returns-8)

@@ -1,6 +1,6 @@
 use mathlib.Core.Path.{_≡_, sym, ap, _∙_}
 use lib.ListN.{length}
-use Rattle.selection.specs.SelectionLaws.{length-reqa, length-hlta, length-select}
+use Rattle.selection.specs.SelectionLaws.{length-reqa, length-wupa, length-hlta, length-select}
 use Rattle.selection.specs.SentLaws.{anti-length}
 use Rattle.reader.specs.StepLaws.{frame-at}
 use borrow.Author.Needs.{needs}
@@ -34,6 +34,12 @@ enum-told-7 c = search needs
 enum-told-8 : tie.Need-enum-told-8
 enum-told-8 c = search needs
 
+enum-told-9 : tie.Need-enum-told-9
+enum-told-9 c = search needs
+
+enum-told-10 : tie.Need-enum-told-10
+enum-told-10 c = search needs
+
 returns : tie.Need-returns
 returns c = sym (ap length (frame-at (c .before .before .args .r) _ (c .enum-told .given .1)))
 
@@ -58,6 +64,12 @@ returns-7 c = sym (ap length (frame-at (c .before .before .args .r) _ (c .enum-t
 returns-8 : tie.Need-returns-8
 returns-8 c = sym (ap length (frame-at (c .before .before .args .r) _ (c .enum-told8 .given .1)))
 
+returns-9 : tie.Need-returns-9
+returns-9 c = sym (ap length (frame-at (c .before .before .args .r) _ (c .enum-told9 .given .1)) ∙ length-wupa)
+
+returns-10 : tie.Need-returns-10
+returns-10 c = sym (ap length (frame-at (c .before .before .args .r) _ (c .enum-told10 .given .1)) ∙ length-select _ _ (search needs))
+
 pub frame-bits-spec : {M : Type 1} → statement M
 frame-bits-spec =
     tie.close
@@ -71,6 +83,8 @@ frame-bits-spec =
     enum-told-6
     enum-told-7
     enum-told-8
+    enum-told-9
+    enum-told-10
     returns
     returns-2
     returns-3
@@ -78,4 +92,6 @@ frame-bits-spec =
     returns-5
     returns-6
     returns-7
-    returns-8)
+    returns-8
+    returns-9
+    returns-10)

@@ -53,6 +53,18 @@ enum-told-6 c = search needs
 not-due-requires-4 : tie.Need-not-due-requires-4
 not-due-requires-4 c κs = search needs
 
+enum-told-7 : tie.Need-enum-told-7
+enum-told-7 c = search needs
+
+hear-wupa-requires : tie.Need-hear-wupa-requires
+hear-wupa-requires c κs = search needs
+
+enum-known-p-3 : tie.Need-enum-known-p-3
+enum-known-p-3 c = search needs
+
+hear-uid-sak-requires : tie.Need-hear-uid-sak-requires
+hear-uid-sak-requires c κs = search needs
+
 returns : tie.Need-returns
 returns c = let a = c .before .before .before .before .args in c .not-due .ensures ∙ sym (hear-at (a .r) (now (a .row)) _ (c .before .enum-told .given .1))
 
@@ -77,6 +89,12 @@ returns-7 c = let a = c .before .before .before .before .args in c .not-due3 .en
 returns-8 : tie.Need-returns-8
 returns-8 c = let a = c .before .before .before .before .args in c .not-due4 .ensures ∙ sym (hear-at (a .r) (now (a .row)) _ (c .before .enum-told6 .given .1))
 
+returns-9 : tie.Need-returns-9
+returns-9 c = let a = c .before .before .before .before .args in c .hear-wupa .ensures ∙ sym (hear-at (a .r) (now (a .row)) _ (c .before .enum-told7 .given .1))
+
+returns-10 : tie.Need-returns-10
+returns-10 c = let a = c .before .before .before .before .before .args in c .hear-uid-sak .ensures ∙ sym (hear-at (a .r) (now (a .row)) _ (c .before .before .p3 .given .1))
+
 pub hear-rules-spec : {M : Type 1} → statement M
 hear-rules-spec =
     tie.close
@@ -97,6 +115,10 @@ hear-rules-spec =
     not-due-requires-3
     enum-told-6
     not-due-requires-4
+    enum-told-7
+    hear-wupa-requires
+    enum-known-p-3
+    hear-uid-sak-requires
     returns
     returns-2
     returns-3
@@ -104,4 +126,6 @@ hear-rules-spec =
     returns-5
     returns-6
     returns-7
-    returns-8)
+    returns-8
+    returns-9
+    returns-10)

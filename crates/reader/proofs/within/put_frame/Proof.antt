@@ -61,6 +61,30 @@ enum-told-5 c = search needs
 enum-told-6 : tie.Need-enum-told-6
 enum-told-6 c = search needs
 
+enum-told-7 : tie.Need-enum-told-7
+enum-told-7 c = search needs
+
+wupa-requires : tie.Need-wupa-requires
+wupa-requires c κs = search needs
+
+slice-aggregate-put-4 : tie.Need-slice-aggregate-put-4
+slice-aggregate-put-4 c = search needs
+
+put-requires-4 : tie.Need-put-requires-4
+put-requires-4 c κs = search needs
+
+enum-known-p-3 : tie.Need-enum-known-p-3
+enum-known-p-3 c = search needs
+
+select-requires-2 : tie.Need-select-requires-2
+select-requires-2 c κs = search needs
+
+slice-aggregate-put-5 : tie.Need-slice-aggregate-put-5
+slice-aggregate-put-5 c = search needs
+
+put-requires-5 : tie.Need-put-requires-5
+put-requires-5 c κs = search needs
+
 returns : tie.Need-returns
 returns c = let a = c .before .before .before .before .args in sym (ap (overlay (now (a .out)) 0) (frame-at (a .r) _ (c .enum-told .given .1)) ∙ overlay-nil (now (a .out)) 0)
 
@@ -97,6 +121,18 @@ returns-7 c = let a = c .before .before .before .before .args in sym (ap (overla
 returns-8 : tie.Need-returns-8
 returns-8 c = let a = c .before .before .before .before .args in sym (ap (overlay (now (a .out)) 0) (frame-at (a .r) _ (c .enum-told6 .given .1)) ∙ overlay-nil (now (a .out)) 0)
 
+same-length-5 : tie.Need-same-length-5
+same-length-5 c = search needs
+
+returns-9 : tie.Need-returns-9
+returns-9 c = let a = c .before .before .before .before .before .before .before .before .before .before .args in c .before .before .put4 .ensures ∙ ap (overlay (now (a .out)) 0) (c .before .before .before .before .before .wupa .ensures ∙ sym (frame-at (a .r) _ (c .before .before .before .before .before .before .enum-told7 .given .1)))
+
+same-length-6 : tie.Need-same-length-6
+same-length-6 c = search needs
+
+returns-10 : tie.Need-returns-10
+returns-10 c = let a = c .before .before .before .before .before .before .before .before .before .before .before .args in c .before .before .put5 .ensures ∙ ap (overlay (now (a .out)) 0) (c .before .before .before .before .before .select2 .ensures ∙ sym (frame-at (a .r) _ (c .before .before .before .before .before .before .before .p3 .given .1)))
+
 pub put-frame-spec : {M : Type 1} → statement M
 put-frame-spec =
     tie.close
@@ -119,6 +155,14 @@ put-frame-spec =
     enum-told-4
     enum-told-5
     enum-told-6
+    enum-told-7
+    wupa-requires
+    slice-aggregate-put-4
+    put-requires-4
+    enum-known-p-3
+    select-requires-2
+    slice-aggregate-put-5
+    put-requires-5
     returns
     same-length
     returns-2
@@ -130,4 +174,8 @@ put-frame-spec =
     returns-5
     returns-6
     returns-7
-    returns-8)
+    returns-8
+    same-length-5
+    returns-9
+    same-length-6
+    returns-10)

@@ -1,0 +1,4 @@
+pub mod Known
+pub mod Stage
+pub mod Claimed
+pub mod Example
