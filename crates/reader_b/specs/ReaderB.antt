@@ -1,12 +1,14 @@
 -- Document 02, T-05: what a Type B reader does with its host's calls and with a row. What the row says is the matter of crate selection_b.
 use Prim.Native.Nat.{ℕ, _+_}
-use mathlib.Core.Bool.{Bool, true, false, cond}
-use mathlib.Core.List.{List}
+use mathlib.Core.Bool.{Bool, true, false, cond, not}
+use mathlib.Core.List.{List, [], _∷_}
 use lib.ListN.{replicate}
 use lib.Dec.{ltb}
 use Rattle.rows.specs.Rows.{overlay}
+use Rattle.frame_b.specs.LimitsB.{frameRoomB}
 use Rattle.selection_b.specs.TypeB.{isSlots, marker}
-use Rattle.selection_b.specs.HeardB.{readSlot, readAttrib, readHltb}
+use Rattle.selection_b.specs.HeardB.{entry, readSlot, readAttrib, readHltb}
+use Rattle.refusal.specs.Refusal.{Said, giving, refusalSays, declineIf}
 use Rattle.refusal.specs.declared.Refusal.{Refusal}
 use Rattle.refusal.specs.declared.Refusal.the-variants.{Room, Argument, NotDue}
 use Rattle.selection_b.specs.declared.Held.{Held}
@@ -99,13 +101,9 @@ hear r h = hearIn (r .phase) r h
 
 -- ---- calls, with lent room for the frame that goes out
 
--- the longest frame is ATTRIB, 11 bytes
-abbrev pub frameRoom : ℕ
-frameRoom = 88
-
 -- 11, then 1; both change nothing
 unfoldable pub callWith : Bool → ReaderB → ℕ → TurnB → TurnB
-callWith isDue r room t = cond isDue (cond (ltb room frameRoom) (turn r (Declines Room)) t) (turn r (Declines NotDue))
+callWith isDue r room t = cond isDue (cond (ltb room frameRoomB) (turn r (Declines Room)) t) (turn r (Declines NotDue))
 
 -- a row is due
 abbrev pub awaits : PhaseB → Bool
@@ -123,3 +121,21 @@ rowAfter (Ends k) frame out = out
 rowAfter (Attached m) frame out = out
 rowAfter Halted frame out = out
 rowAfter (Declines e) frame out = out
+
+-- ---- what an answer says, in the table's numbers
+
+-- the bits of the frame that goes out; of a slot its 13 bytes of the list; of a card that is attached its MBLI
+abbrev pub answerSays : AnswerB → List ℕ → Said
+answerSays (Sends n) atqb = giving (n ∷ [])
+answerSays (Marks k) atqb = giving (entry k atqb)
+answerSays (Ends k) atqb = giving (entry k atqb)
+answerSays (Attached m) atqb = giving (m ∷ [])
+answerSays Halted atqb = giving []
+answerSays (Declines e) atqb = refusalSays e
+
+abbrev pub turnSays : TurnB → Said
+turnSays t = answerSays (t .answer) (t .atqb)
+
+-- "A call tests 11, 1": a call that is due or not, with a lent row of so many bits, by the rules' turn t
+abbrev pub callSays : Bool → ℕ → TurnB → Said
+callSays isDue room t = declineIf (not isDue) 11 (declineIf (ltb room frameRoomB) 1 (turnSays t))

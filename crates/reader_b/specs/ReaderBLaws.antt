@@ -1,13 +1,16 @@
 -- Laws for the reader's code: a turn and the lent row after it, and the calls by what their tests told. Assumes nothing.
 use mathlib.Core.Path.{_≡_, refl, sym, ap, _∙_}
 use Prim.Native.Nat.{ℕ, _+_, _≤_, _<_}
-use mathlib.Core.Bool.{Bool, true, false}
+use mathlib.Core.Bool.{Bool, true, false, cond, not}
 use mathlib.Core.List.{List}
 use borrow.Author.Tests.{lt-ltb, le-ltb}
 use Rattle.rows.specs.Rows.{overlay}
+use Rattle.frame_b.specs.LimitsB.{frameRoomB}
 use Rattle.selection_b.specs.TypeB.{isSlots}
 use Rattle.selection_b.specs.HeardB.{readSlot}
-use Rattle.reader_b.specs.ReaderB.{reader, blank, isReady, turn, stop, requests, attaches, halts, held, slotTurn, attribTurn, hltbTurn, hearIn, hear, frameRoom, callWith, rowAfter}
+use Rattle.reader_b.specs.ReaderB.{reader, blank, isReady, turn, stop, requests, attaches, halts, held, slotTurn, attribTurn, hltbTurn, hearIn, hear, callWith, rowAfter, turnSays, callSays}
+use lib.Dec.{ltb}
+use Rattle.refusal.specs.Refusal.{declining}
 use Rattle.refusal.specs.declared.Refusal.{Refusal}
 use Rattle.refusal.specs.declared.Refusal.the-variants.{Room, Argument, NotDue}
 use Rattle.selection_b.specs.declared.Held.{Held}
@@ -39,13 +42,26 @@ module _ (isDue : Bool) (r : ReaderB) (room : ℕ) (t : TurnB) where
   unfolding callWith
   not-due e = rw e
 
-  pub no-room : isDue ≡ true → room < frameRoom → turn r (Declines Room) ≡ callWith isDue r room t
+  pub no-room : isDue ≡ true → room < frameRoomB → turn r (Declines Room) ≡ callWith isDue r room t
   unfolding callWith
-  no-room e h = rw (e, lt-ltb room frameRoom h)
+  no-room e h = rw (e, lt-ltb room frameRoomB h)
 
-  pub made : isDue ≡ true → frameRoom ≤ room → t ≡ callWith isDue r room t
+  pub made : isDue ≡ true → frameRoomB ≤ room → t ≡ callWith isDue r room t
   unfolding callWith
-  made e h = rw (e, le-ltb room frameRoom h)
+  made e h = rw (e, le-ltb room frameRoomB h)
+
+  -- the same in the table's numbers
+  call-says : turnSays (callWith isDue r room t) ≡ callSays isDue room t
+  unfolding callWith
+  call-says = go isDue (ltb room frameRoomB)
+    where
+      go : (b d : Bool) → turnSays (cond b (cond d (turn r (Declines Room)) t) (turn r (Declines NotDue))) ≡ cond (not b) (declining 11) (cond d (declining 1) (turnSays t))
+      go true true = refl
+      go true false = refl
+      go false d = refl
+
+  pub says-too : {q : TurnB} {R : Type 0} → (q ≡ callWith isDue r room t) × R → (q ≡ callWith isDue r room t) × (R × (turnSays q ≡ callSays isDue room t))
+  says-too h = (h .0, (h .1, ap turnSays (h .0) ∙ call-says))
 
 -- ---- the calls of a reader that is ready
 

@@ -6,7 +6,8 @@ ghost use Prim.Native.Nat.{_≤_};
 ghost use lib.ListN.{length};
 ghost use Rattle.selection_b.specs.TypeB.{request, attribFor, hltb};
 ghost use Rattle.selection_b.specs.HeardB.{readSlot, readAttrib, readHltb};
-ghost use Rattle.reader_b.specs.ReaderB.{turn, stop, blank, isReady, awaits, requests, attaches, halts, next, held, slotTurn, attribTurn, hltbTurn, hear, callWith, rowAfter};
+ghost use Rattle.reader_b.specs.ReaderB.{turn, stop, blank, isReady, awaits, requests, attaches, halts, next, held, slotTurn, attribTurn, hltbTurn, hear, callWith, rowAfter, turnSays, callSays};
+ghost use Rattle.frame_b.specs.LimitsB.{frameRoomB};
 ghost use Rattle.reader_b.specs.declared.PhaseB.the-variants.{Ready};
 use refusal::Refusal;
 use selection_b::AttribRead;
@@ -109,12 +110,13 @@ fn awaits(p: PhaseB) -> bool
 pub fn request(r: ReaderB, wake: bool, n: u8, afi: u8, out: &mut [u8]) -> TurnB
     ensures { λ q. ⌜ q ≡ callWith (isReady (r .phase)) r (length (now (out .entry))) (requests r wake n afi) ⌝ }
     ensures { λ q. ⌜ now (out .exit) ≡ rowAfter (q .answer) (request wake n afi) (now (out .entry)) ⌝ }
+    ensures { λ q. ⌜ turnSays q ≡ callSays (isReady (r .phase)) (length (now (out .entry))) (requests r wake n afi) ⌝ }
 {
     let p = r.phase;
     if !is_ready(p) {
         return turn(r, AnswerB::Declines(Refusal::NotDue));
     }
-    if out.len() < 88 {
+    if out.len() < frame_b::FRAME_ROOM {
         return turn(r, AnswerB::Declines(Refusal::Room));
     }
     if !selection_b::sent::is_slots(n) {
@@ -134,12 +136,13 @@ pub fn request(r: ReaderB, wake: bool, n: u8, afi: u8, out: &mut [u8]) -> TurnB
 pub fn halt(r: ReaderB, pupi: [u8; 4], out: &mut [u8]) -> TurnB
     ensures { λ q. ⌜ q ≡ callWith (isReady (r .phase)) r (length (now (out .entry))) (halts r) ⌝ }
     ensures { λ q. ⌜ now (out .exit) ≡ rowAfter (q .answer) (hltb pupi) (now (out .entry)) ⌝ }
+    ensures { λ q. ⌜ turnSays q ≡ callSays (isReady (r .phase)) (length (now (out .entry))) (halts r) ⌝ }
 {
     let p = r.phase;
     if !is_ready(p) {
         return turn(r, AnswerB::Declines(Refusal::NotDue));
     }
-    if out.len() < 88 {
+    if out.len() < frame_b::FRAME_ROOM {
         return turn(r, AnswerB::Declines(Refusal::Room));
     }
     let row = selection_b::sent::hltb(pupi);
@@ -156,12 +159,13 @@ pub fn halt(r: ReaderB, pupi: [u8; 4], out: &mut [u8]) -> TurnB
 pub fn attach(r: ReaderB, atqb: [u8; 12], index: u8, out: &mut [u8]) -> TurnB
     ensures { λ q. ⌜ q ≡ callWith (isReady (r .phase)) r (length (now (out .entry))) (attaches r index) ⌝ }
     ensures { λ q. ⌜ now (out .exit) ≡ rowAfter (q .answer) (attribFor atqb index) (now (out .entry)) ⌝ }
+    ensures { λ q. ⌜ turnSays q ≡ callSays (isReady (r .phase)) (length (now (out .entry))) (attaches r index) ⌝ }
 {
     let p = r.phase;
     if !is_ready(p) {
         return turn(r, AnswerB::Declines(Refusal::NotDue));
     }
-    if out.len() < 88 {
+    if out.len() < frame_b::FRAME_ROOM {
         return turn(r, AnswerB::Declines(Refusal::Room));
     }
     if index > 8 {
@@ -179,7 +183,7 @@ pub fn attach(r: ReaderB, atqb: [u8; 12], index: u8, out: &mut [u8]) -> TurnB
 
 // What a slot held is told, and the next marker goes out.
 fn hold(r: ReaderB, k: Held, atqb: [u8; 12], out: &mut [u8]) -> TurnB
-    requires { ⌜ 88 ≤ length (now out) ⌝ }
+    requires { ⌜ frameRoomB ≤ length (now out) ⌝ }
     ensures { λ q. ⌜ q ≡ held r k atqb ⌝ }
     ensures { λ q. ⌜ now (out .exit) ≡ rowAfter (q .answer) (next (q .reader)) (now (out .entry)) ⌝ }
 {
@@ -207,7 +211,7 @@ fn hold(r: ReaderB, k: Held, atqb: [u8; 12], out: &mut [u8]) -> TurnB
 }
 
 fn hear_slot(r: ReaderB, row: &[u8], out: &mut [u8]) -> TurnB
-    requires { ⌜ 88 ≤ length (now out) ⌝ }
+    requires { ⌜ frameRoomB ≤ length (now out) ⌝ }
     ensures { λ q. ⌜ q ≡ slotTurn r (readSlot (now (row .entry)) .says) (readSlot (now (row .entry)) .atqb) ⌝ }
     ensures { λ q. ⌜ now (out .exit) ≡ rowAfter (q .answer) (next (q .reader)) (now (out .entry)) ⌝ }
 {
@@ -247,7 +251,7 @@ fn hear_hltb(row: &[u8]) -> TurnB
 }
 
 fn hear_due(r: ReaderB, row: &[u8], out: &mut [u8]) -> TurnB
-    requires { ⌜ 88 ≤ length (now out) ⌝ }
+    requires { ⌜ frameRoomB ≤ length (now out) ⌝ }
     ensures { λ q. ⌜ q ≡ hear r (now (row .entry)) ⌝ }
     ensures { λ q. ⌜ now (out .exit) ≡ rowAfter (q .answer) (next (q .reader)) (now (out .entry)) ⌝ }
 {
@@ -265,12 +269,13 @@ fn hear_due(r: ReaderB, row: &[u8], out: &mut [u8]) -> TurnB
 pub fn hear(r: ReaderB, row: &[u8], out: &mut [u8]) -> TurnB
     ensures { λ q. ⌜ q ≡ callWith (awaits (r .phase)) r (length (now (out .entry))) (hear r (now (row .entry))) ⌝ }
     ensures { λ q. ⌜ now (out .exit) ≡ rowAfter (q .answer) (next (q .reader)) (now (out .entry)) ⌝ }
+    ensures { λ q. ⌜ turnSays q ≡ callSays (awaits (r .phase)) (length (now (out .entry))) (hear r (now (row .entry))) ⌝ }
 {
     let p = r.phase;
     if !awaits(p) {
         return turn(r, AnswerB::Declines(Refusal::NotDue));
     }
-    if out.len() < 88 {
+    if out.len() < frame_b::FRAME_ROOM {
         return turn(r, AnswerB::Declines(Refusal::Room));
     }
     hear_due(r, row, out)

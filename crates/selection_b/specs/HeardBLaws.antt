@@ -17,6 +17,7 @@ use Rattle.frame.specs.ByteLaws.{length-bytes}
 use Rattle.frame.specs.Frame.{bytesOf}
 use Rattle.frame_b.specs.FrameB.{withoutCrcB, readB}
 use Rattle.selection_b.specs.HeardB.{nobody, alone, slotOf, readSlot, byteOf, readByte, readAttrib, readHltb}
+use Rattle.refusal.specs.Refusal.{Said}
 use Rattle.refusal.specs.declared.Refusal.{Refusal}
 use Rattle.refusal.specs.declared.Refusal.the-variants.{Length, Silence, Collision, Crc, Forbidden}
 use Rattle.selection_b.specs.declared.Held.the-variants.{None, More}
@@ -122,3 +123,9 @@ module _ (h : List ℕ) (a : ByteRead) (e : a ≡ readByte h) where
   pub hltb-not : (x : Refusal) → a ≡ NotByte x → NotHalted x ≡ readHltb h
   unfolding readHltb
   hltb-not x f = rw (← e, f)
+
+-- ---- what equals a definition says what it says
+
+module _ {A : Type 0} (says : A → Said) where
+  pub says-too : {r d : A} → r ≡ d → (r ≡ d) × (says r ≡ says d)
+  says-too e = (e, ap says e)

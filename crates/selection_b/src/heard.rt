@@ -6,6 +6,7 @@ ghost use Rattle.rows.specs.Rows.{clean};
 ghost use Rattle.frame.specs.Frame.{bytesOf};
 ghost use Rattle.frame_b.specs.FrameB.{withoutCrcB};
 ghost use Rattle.selection_b.specs.HeardB.{nobody, slotOf, readSlot, byteOf, readByte, readAttrib, readHltb};
+ghost use Rattle.selection_b.specs.SaysB.{slotSays, attribSays, hltbSays};
 use crate::AttribRead;
 use crate::ByteRead;
 use crate::Held;
@@ -48,6 +49,7 @@ fn slot_in(row: &[u8]) -> SlotRead
 // What was heard in a slot.
 pub fn read_slot(row: &[u8]) -> SlotRead
     ensures { λ r. ⌜ r ≡ readSlot (now (row .entry)) ⌝ }
+    ensures { λ r. ⌜ slotSays r ≡ slotSays (readSlot (now (row .entry))) ⌝ }
 {
     if row.len() == 0 {
         return nobody(SlotSays::Holds(Held::None));
@@ -93,6 +95,7 @@ fn read_byte(row: &[u8]) -> ByteRead
 // The answer to ATTRIB.
 pub fn read_attrib(row: &[u8]) -> AttribRead
     ensures { λ r. ⌜ r ≡ readAttrib (now (row .entry)) ⌝ }
+    ensures { λ r. ⌜ attribSays r ≡ attribSays (readAttrib (now (row .entry))) ⌝ }
 {
     let a = read_byte(row);
     match a {
@@ -109,6 +112,7 @@ pub fn read_attrib(row: &[u8]) -> AttribRead
 // The answer to HLTB.
 pub fn read_hltb(row: &[u8]) -> HltbRead
     ensures { λ r. ⌜ r ≡ readHltb (now (row .entry)) ⌝ }
+    ensures { λ r. ⌜ hltbSays r ≡ hltbSays (readHltb (now (row .entry))) ⌝ }
 {
     let a = read_byte(row);
     match a {

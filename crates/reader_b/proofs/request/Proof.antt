@@ -5,7 +5,7 @@ use denote.Ref.{now}
 use Rattle.reader_b.specs.ReaderB.{isReady}
 use Rattle.selection_b.specs.TypeB.{request}
 use Rattle.rows.specs.Rows.{overlay}
-use Rattle.reader_b.specs.ReaderBLaws.{refused, sent, not-due, no-room, made, no-slots, requested}
+use Rattle.reader_b.specs.ReaderBLaws.{refused, sent, not-due, no-room, made, no-slots, requested, says-too}
 use borrow.Author.Needs.{needs}
 use Rattle.reader_b.proofs.request.Statement.{statement}
 use Rattle.reader_b.proofs.request.Tie as tie
@@ -19,7 +19,7 @@ turn-requires c κs = search needs
 returns : tie.Need-returns
 returns c = let i = c .before .before in
     let a = i .before .before .args in
-    refused _ _ _ _ (c .turn .ensures) (not-due (isReady (a .r .phase)) (a .r) _ _ (sym (i .is-ready .ensures) ∙ not-true _ (c .before .if1 .taken)))
+    says-too _ _ _ _ (refused _ _ _ _ (c .turn .ensures) (not-due (isReady (a .r .phase)) (a .r) _ _ (sym (i .is-ready .ensures) ∙ not-true _ (c .before .if1 .taken))))
 
 turn-requires-2 : tie.Need-turn-requires-2
 turn-requires-2 c κs = search needs
@@ -27,7 +27,7 @@ turn-requires-2 c κs = search needs
 returns-2 : tie.Need-returns-2
 returns-2 c = let i = c .before .before .before in
     let a = i .before .before .args in
-    refused _ _ _ _ (c .turn2 .ensures) (no-room (isReady (a .r .phase)) (a .r) _ _ (sym (i .is-ready .ensures) ∙ not-false _ (c .before .before .if1 .left)) (c .before .if2 .taken))
+    says-too _ _ _ _ (refused _ _ _ _ (c .turn2 .ensures) (no-room (isReady (a .r .phase)) (a .r) _ _ (sym (i .is-ready .ensures) ∙ not-false _ (c .before .before .if1 .left)) (c .before .if2 .taken)))
 
 is-slots-requires : tie.Need-is-slots-requires
 is-slots-requires c κs = search needs
@@ -40,7 +40,7 @@ returns-3 c = let s = c .before .before in
     let i = s .before .before .before in
     let a = i .before .before .args in
     let y = sym (i .is-ready .ensures) ∙ not-false _ (s .before .before .if1 .left) in
-    refused _ _ _ _ (c .turn3 .ensures) (no-slots (a .r) y (a .wake) (a .n) (a .afi) (sym (s .is-slots .ensures) ∙ not-true _ (c .before .if3 .taken)) ∙ made (isReady (a .r .phase)) (a .r) _ _ y (s .before .if2 .left))
+    says-too _ _ _ _ (refused _ _ _ _ (c .turn3 .ensures) (no-slots (a .r) y (a .wake) (a .n) (a .afi) (sym (s .is-slots .ensures) ∙ not-true _ (c .before .if3 .taken)) ∙ made (isReady (a .r .phase)) (a .r) _ _ y (s .before .if2 .left)))
 
 request-requires : tie.Need-request-requires
 request-requires c κs = search needs
@@ -64,7 +64,7 @@ returns-4 c = let b = c .before .before .before in
     let i = s .before .before .before in
     let a = i .before .before .args in
     let y = sym (i .is-ready .ensures) ∙ not-false _ (s .before .before .if1 .left) in
-    sent _ _ _ _ _ (c .turn4 .ensures) (requested (a .r) y (a .wake) (a .n) (a .afi) (sym (s .is-slots .ensures) ∙ not-false _ (g .before .if3 .left)) ∙ made (isReady (a .r .phase)) (a .r) _ _ y (s .before .if2 .left)) (b .put .ensures ∙ ap (overlay (now (a .out)) 0) (g .request .ensures))
+    says-too _ _ _ _ (sent _ _ _ _ _ (c .turn4 .ensures) (requested (a .r) y (a .wake) (a .n) (a .afi) (sym (s .is-slots .ensures) ∙ not-false _ (g .before .if3 .left)) ∙ made (isReady (a .r .phase)) (a .r) _ _ y (s .before .if2 .left)) (b .put .ensures ∙ ap (overlay (now (a .out)) 0) (g .request .ensures)))
 
 pub request-spec : {M : Type 1} → statement M
 request-spec =
