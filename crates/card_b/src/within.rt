@@ -6,6 +6,7 @@ ghost use Prim.Native.Nat.{_≤_};
 ghost use lib.ListN.{length};
 ghost use Rattle.rows.specs.Rows.{overlay};
 ghost use Rattle.frame_b.specs.FrameB.{frameB};
+ghost use Rattle.frame_b.specs.LimitsB.{answerRoomB};
 ghost use Rattle.selection_b.specs.TypeB.{done};
 ghost use Rattle.selection_b.specs.TakenB.{isRequest, slotsIn};
 ghost use Rattle.card_b.specs.declared.StateB.the-variants.{Requested, Declared};
@@ -52,7 +53,7 @@ fn heeds(s: StateB, wake: bool) -> bool
 
 // ATQB, and Declared.
 fn send_atqb(c: CardB, out: &mut [u8]) -> TakenB
-    requires { ⌜ 112 ≤ length (now out) ⌝ }
+    requires { ⌜ answerRoomB ≤ length (now out) ⌝ }
     ensures { λ r. ⌜ r ≡ taken c (Declared, frameB (atqbOf c)) ⌝ }
     ensures { λ r. ⌜ now (out .exit) ≡ overlay (now (out .entry)) 0 (frameB (atqbOf c)) ⌝ }
 {
@@ -65,7 +66,7 @@ fn send_atqb(c: CardB, out: &mut [u8]) -> TakenB
 
 // An admitted request.
 fn take_requested(c: CardB, number: u8, out: &mut [u8]) -> TakenB
-    requires { ⌜ 112 ≤ length (now out) ⌝ }
+    requires { ⌜ answerRoomB ≤ length (now out) ⌝ }
     ensures { λ r. ⌜ r ≡ taken c (requested c number) ⌝ }
     ensures { λ r. ⌜ now (out .exit) ≡ overlay (now (out .entry)) 0 (requested c number .1) ⌝ }
 {
@@ -80,7 +81,7 @@ fn take_requested(c: CardB, number: u8, out: &mut [u8]) -> TakenB
 
 // REQB, or WUPB where wake.
 fn take_asked(c: CardB, number: u8, wake: bool, n: u8, afi: u8, out: &mut [u8]) -> TakenB
-    requires { ⌜ 112 ≤ length (now out) ⌝ }
+    requires { ⌜ answerRoomB ≤ length (now out) ⌝ }
     ensures { λ r. ⌜ r ≡ taken c (asked c (c .state) number wake n afi) ⌝ }
     ensures { λ r. ⌜ now (out .exit) ≡ overlay (now (out .entry)) 0 (asked c (c .state) number wake n afi .1) ⌝ }
 {
@@ -99,7 +100,7 @@ fn take_asked(c: CardB, number: u8, wake: bool, n: u8, afi: u8, out: &mut [u8]) 
 
 // A frame that is no request, in Requested.
 fn take_marked(c: CardB, slot: u8, row: &[u8], out: &mut [u8]) -> TakenB
-    requires { ⌜ 112 ≤ length (now out) ⌝ }
+    requires { ⌜ answerRoomB ≤ length (now out) ⌝ }
     ensures { λ r. ⌜ r ≡ taken c (other c (Requested slot) (now (row .entry))) ⌝ }
     ensures { λ r. ⌜ now (out .exit) ≡ overlay (now (out .entry)) 0 (other c (Requested slot) (now (row .entry)) .1) ⌝ }
 {
@@ -111,7 +112,7 @@ fn take_marked(c: CardB, slot: u8, row: &[u8], out: &mut [u8]) -> TakenB
 
 // .. in Declared.
 fn take_declared(c: CardB, row: &[u8], out: &mut [u8]) -> TakenB
-    requires { ⌜ 112 ≤ length (now out) ⌝ }
+    requires { ⌜ answerRoomB ≤ length (now out) ⌝ }
     ensures { λ r. ⌜ r ≡ taken c (other c Declared (now (row .entry))) ⌝ }
     ensures { λ r. ⌜ now (out .exit) ≡ overlay (now (out .entry)) 0 (other c Declared (now (row .entry)) .1) ⌝ }
 {
@@ -129,7 +130,7 @@ fn take_declared(c: CardB, row: &[u8], out: &mut [u8]) -> TakenB
 
 // .. by the card's state.
 fn take_other(c: CardB, row: &[u8], out: &mut [u8]) -> TakenB
-    requires { ⌜ 112 ≤ length (now out) ⌝ }
+    requires { ⌜ answerRoomB ≤ length (now out) ⌝ }
     ensures { λ r. ⌜ r ≡ taken c (other c (c .state) (now (row .entry))) ⌝ }
     ensures { λ r. ⌜ now (out .exit) ≡ overlay (now (out .entry)) 0 (other c (c .state) (now (row .entry)) .1) ⌝ }
 {
@@ -146,7 +147,7 @@ fn take_other(c: CardB, row: &[u8], out: &mut [u8]) -> TakenB
 
 // A frame, by the card's rules.
 pub fn take_rules(c: CardB, number: u8, row: &[u8], out: &mut [u8]) -> TakenB
-    requires { ⌜ 112 ≤ length (now out) ⌝ }
+    requires { ⌜ answerRoomB ≤ length (now out) ⌝ }
     ensures { λ r. ⌜ r ≡ taken c (rules c (c .state) number (now (row .entry))) ⌝ }
     ensures { λ r. ⌜ now (out .exit) ≡ overlay (now (out .entry)) 0 (rules c (c .state) number (now (row .entry)) .1) ⌝ }
 {
