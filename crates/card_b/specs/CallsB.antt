@@ -19,6 +19,12 @@ abbrev pub answerOf : List ℕ → AnswerB
 answerOf [] = Silent
 answerOf (x ∷ r) = Sends (length (x ∷ r))
 
+-- the bits of an answer
+abbrev pub bitsIn : AnswerB → ℕ
+bitsIn (Sends n) = n
+bitsIn Silent = 0
+bitsIn (NotTaken e) = 0
+
 -- the card after a step of the rules, and its answer
 abbrev pub taken : CardB → Step → TakenB
 taken c s = record { card = withState c (s .0); answer = answerOf (s .1) }

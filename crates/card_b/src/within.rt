@@ -11,10 +11,22 @@ ghost use Rattle.selection_b.specs.TypeB.{done};
 ghost use Rattle.selection_b.specs.TakenB.{isRequest, slotsIn};
 ghost use Rattle.card_b.specs.declared.StateB.the-variants.{Requested, Declared};
 ghost use Rattle.card_b.specs.CardB.{atqbOf, drawn, heeds, requested, asked, other, rules};
-ghost use Rattle.card_b.specs.CallsB.{taken};
+ghost use Rattle.card_b.specs.CallsB.{taken, bitsIn};
+use crate::AnswerB;
 use crate::CardB;
 use crate::StateB;
 use crate::TakenB;
+
+// The bits of an answer.
+pub fn bits_in(a: AnswerB) -> usize
+    ensures { λ r. ⌜ r ≡ bitsIn a ⌝ }
+{
+    match a {
+        AnswerB::Sends(n) => n,
+        AnswerB::Silent => 0,
+        AnswerB::NotTaken(_) => 0,
+    }
+}
 
 // Is a slot number 1 to n?
 fn is_drawn(number: u8, n: u8) -> bool
