@@ -53,9 +53,13 @@ stop e = turn (blank Stopped) (Declines e)
 abbrev pub due : ReaderB → TurnB → TurnB
 due r t = cond (isReady (r .phase)) t (turn r (Declines NotDue))
 
--- REQB, or WUPB where wake, of 40 bits: "N in 1, 2, 4, 8, 16; others are 6"
+-- a request with n slots goes out, of 40 bits: what comes back is slot 1
+abbrev pub opens : ℕ → TurnB
+opens n = turn (reader Slot n 1) (Sends 40)
+
+-- REQB, or WUPB where wake: "N in 1, 2, 4, 8, 16; others are 6"
 unfoldable pub requests : ReaderB → Bool → ℕ → ℕ → TurnB
-requests r wake n afi = due r (cond (isSlots n) (turn (reader Slot n 1) (Sends 40)) (turn r (Declines Argument)))
+requests r wake n afi = due r (cond (isSlots n) (opens n) (turn r (Declines Argument)))
 
 -- ATTRIB, of 88 bits, to the card of an ATQB, with the reader's own size index: document 01: "index over 8" is 6
 unfoldable pub attaches : ReaderB → ℕ → TurnB
