@@ -117,6 +117,15 @@ awaits AttribSent = true
 awaits HltbSent = true
 awaits Stopped = false
 
+-- a frame is out
+abbrev pub goes : AnswerB → Bool
+goes (Sends n) = true
+goes (Marks k) = true
+goes (Ends k) = false
+goes (Attached m) = false
+goes Halted = false
+goes (Declines e) = false
+
 -- the lent row afterwards: the frame that goes out at its front, or unchanged
 abbrev pub rowAfter : AnswerB → List ℕ → List ℕ → List ℕ
 rowAfter (Sends n) frame out = overlay out 0 frame

@@ -1,14 +1,14 @@
 -- Laws for the reader's code: a turn and the lent row after it, and the calls by what their tests told. Assumes nothing.
 use mathlib.Core.Path.{_≡_, refl, sym, ap, _∙_}
 use Prim.Native.Nat.{ℕ, _+_, _≤_, _<_}
-use mathlib.Core.Bool.{Bool, true, false, cond, not}
+use mathlib.Core.Bool.{Bool, true, false, cond, not, false≢true}
 use mathlib.Core.List.{List}
 use borrow.Author.Tests.{lt-ltb, le-ltb}
 use Rattle.rows.specs.Rows.{overlay}
 use Rattle.frame_b.specs.LimitsB.{frameRoomB}
 use Rattle.selection_b.specs.TypeB.{isSlots}
 use Rattle.selection_b.specs.HeardB.{readSlot}
-use Rattle.reader_b.specs.ReaderB.{reader, blank, isReady, turn, stop, requests, attaches, halts, held, slotTurn, attribTurn, hltbTurn, hearIn, hear, callWith, rowAfter, turnSays, callSays}
+use Rattle.reader_b.specs.ReaderB.{reader, blank, isReady, turn, stop, requests, attaches, halts, held, slotTurn, hearIn, hear, callWith, goes, rowAfter, turnSays, callSays}
 use lib.Dec.{ltb}
 use Rattle.refusal.specs.Refusal.{declining}
 use Rattle.refusal.specs.declared.Refusal.{Refusal}
@@ -16,14 +16,11 @@ use Rattle.refusal.specs.declared.Refusal.the-variants.{Room, Argument, NotDue}
 use Rattle.selection_b.specs.declared.Held.{Held}
 use Rattle.selection_b.specs.declared.SlotSays.the-variants.{Holds, NotSlot}
 use Rattle.selection_b.specs.declared.SlotRead.{SlotRead}
-use Rattle.selection_b.specs.declared.AttribRead.{AttribRead}
-use Rattle.selection_b.specs.declared.AttribRead.the-variants.{Mbli, NotAttached}
-use Rattle.selection_b.specs.declared.HltbRead.{HltbRead}
-use Rattle.selection_b.specs.declared.HltbRead.the-variants.{Obeys, NotHalted}
 use Rattle.reader_b.specs.declared.PhaseB.{PhaseB}
 use Rattle.reader_b.specs.declared.PhaseB.the-variants.{Ready, Slot, AttribSent, HltbSent}
 use Rattle.reader_b.specs.declared.ReaderB.{ReaderB}
-use Rattle.reader_b.specs.declared.AnswerB.the-variants.{Sends, Marks, Ends, Declines}
+use Rattle.reader_b.specs.declared.AnswerB.{AnswerB}
+use Rattle.reader_b.specs.declared.AnswerB.the-variants.{Sends, Marks, Ends, Attached, Halted, Declines}
 use Rattle.reader_b.specs.declared.TurnB.{TurnB}
 
 -- ---- a turn q that the code hands back, where T is due, and the lent row
@@ -109,15 +106,20 @@ pub by-phase : (r : ReaderB) (h : List ℕ) (y : PhaseB) → r .phase ≡ y → 
 unfolding hear
 by-phase r h y e = ap (λ y. hearIn y r h) (sym e)
 
--- after the answer to ATTRIB or HLTB no frame goes out
-pub attrib-row : (x : AttribRead) (frame out : List ℕ) → out ≡ rowAfter (attribTurn x .answer) frame out
-attrib-row (Mbli m) frame out = refl
-attrib-row (NotAttached e) frame out = refl
+-- ---- the lent row
 
-pub hltb-row : (x : HltbRead) (frame out : List ℕ) → out ≡ rowAfter (hltbTurn x .answer) frame out
-hltb-row Obeys frame out = refl
-hltb-row (NotHalted e) frame out = refl
+pub row-goes : (a : AnswerB) (frame out : List ℕ) → goes a ≡ true → overlay out 0 frame ≡ rowAfter a frame out
+row-goes (Sends n) frame out e = refl
+row-goes (Marks k) frame out e = refl
+row-goes (Ends k) frame out e = absurd (false≢true e)
+row-goes (Attached m) frame out e = absurd (false≢true e)
+row-goes Halted frame out e = absurd (false≢true e)
+row-goes (Declines x) frame out e = absurd (false≢true e)
 
-module _ {q T : TurnB} (frame out : List ℕ) where
-  pub quiet : (t : TurnB) → q ≡ t → t ≡ T → out ≡ rowAfter (t .answer) frame out → (q ≡ T) × (out ≡ rowAfter (q .answer) frame out)
-  quiet t a b c = (a ∙ b, c ∙ sym (ap (λ t. rowAfter (t .answer) frame out) a))
+pub row-stays : (a : AnswerB) (frame out : List ℕ) → goes a ≡ false → out ≡ rowAfter a frame out
+row-stays (Sends n) frame out e = absurd (false≢true (sym e))
+row-stays (Marks k) frame out e = absurd (false≢true (sym e))
+row-stays (Ends k) frame out e = refl
+row-stays (Attached m) frame out e = refl
+row-stays Halted frame out e = refl
+row-stays (Declines x) frame out e = refl

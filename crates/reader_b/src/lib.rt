@@ -1,19 +1,14 @@
 // Document 02, T-05: one Type B reader, stepped by what it hears, by value. Each frame that goes out stands at the front of a lent row, which has
 // room for 88 bits.
+pub mod within;
+
 ghost use mathlib.Core.Path.{_≡_};
-ghost use mathlib.Core.List.{[], _∷_};
-ghost use Prim.Native.Nat.{_≤_};
 ghost use lib.ListN.{length};
 ghost use Rattle.selection_b.specs.TypeB.{request, attribFor, hltb};
-ghost use Rattle.selection_b.specs.HeardB.{readSlot, readAttrib, readHltb};
-ghost use Rattle.reader_b.specs.ReaderB.{turn, stop, blank, isReady, awaits, requests, attaches, halts, next, held, slotTurn, attribTurn, hltbTurn, hear, callWith, rowAfter, turnSays, callSays};
-ghost use Rattle.frame_b.specs.LimitsB.{frameRoomB};
+ghost use Rattle.reader_b.specs.ReaderB.{blank, isReady, awaits, requests, attaches, halts, next, hear, callWith, rowAfter, turnSays, callSays};
 ghost use Rattle.reader_b.specs.declared.PhaseB.the-variants.{Ready};
 use refusal::Refusal;
-use selection_b::AttribRead;
 use selection_b::Held;
-use selection_b::HltbRead;
-use selection_b::SlotSays;
 
 // Slot: the request or a marker is out; AttribSent, HltbSent: their answer is awaited.
 pub enum PhaseB {
@@ -60,41 +55,8 @@ pub fn new_reader() -> ReaderB
     }
 }
 
-fn turn(r: ReaderB, a: AnswerB) -> TurnB
-    ensures { λ q. ⌜ q ≡ turn r a ⌝ }
-{
-    let atqb = [0u8; 12];
-    TurnB {
-        reader: r,
-        answer: a,
-        atqb: atqb,
-    }
-}
-
-fn stop(e: Refusal) -> TurnB
-    ensures { λ q. ⌜ q ≡ stop e ⌝ }
-{
-    let r = ReaderB {
-        phase: PhaseB::Stopped,
-        slots: 0,
-        slot: 0,
-    };
-    turn(r, AnswerB::Declines(e))
-}
-
-fn is_ready(p: PhaseB) -> bool
-    ensures { λ r. ⌜ r ≡ isReady p ⌝ }
-{
-    match p {
-        PhaseB::Ready => true,
-        PhaseB::Slot => false,
-        PhaseB::AttribSent => false,
-        PhaseB::HltbSent => false,
-        PhaseB::Stopped => false,
-    }
-}
-
-fn awaits(p: PhaseB) -> bool
+// Is a row due?
+pub fn is_awaiting(p: PhaseB) -> bool
     ensures { λ r. ⌜ r ≡ awaits p ⌝ }
 {
     match p {
@@ -113,14 +75,14 @@ pub fn request(r: ReaderB, wake: bool, n: u8, afi: u8, out: &mut [u8]) -> TurnB
     ensures { λ q. ⌜ turnSays q ≡ callSays (isReady (r .phase)) (length (now (out .entry))) (requests r wake n afi) ⌝ }
 {
     let p = r.phase;
-    if !is_ready(p) {
-        return turn(r, AnswerB::Declines(Refusal::NotDue));
+    if !within::is_ready(p) {
+        return within::turn(r, AnswerB::Declines(Refusal::NotDue));
     }
     if out.len() < frame_b::FRAME_ROOM {
-        return turn(r, AnswerB::Declines(Refusal::Room));
+        return within::turn(r, AnswerB::Declines(Refusal::Room));
     }
     if !selection_b::sent::is_slots(n) {
-        return turn(r, AnswerB::Declines(Refusal::Argument));
+        return within::turn(r, AnswerB::Declines(Refusal::Argument));
     }
     let row = selection_b::sent::request(wake, n, afi);
     rows::within::put(out, 0, &row);
@@ -129,7 +91,7 @@ pub fn request(r: ReaderB, wake: bool, n: u8, afi: u8, out: &mut [u8]) -> TurnB
         slots: n,
         slot: 1,
     };
-    turn(k, AnswerB::Sends(40))
+    within::turn(k, AnswerB::Sends(40))
 }
 
 // HLTB to the card with this PUPI.
@@ -139,11 +101,11 @@ pub fn halt(r: ReaderB, pupi: [u8; 4], out: &mut [u8]) -> TurnB
     ensures { λ q. ⌜ turnSays q ≡ callSays (isReady (r .phase)) (length (now (out .entry))) (halts r) ⌝ }
 {
     let p = r.phase;
-    if !is_ready(p) {
-        return turn(r, AnswerB::Declines(Refusal::NotDue));
+    if !within::is_ready(p) {
+        return within::turn(r, AnswerB::Declines(Refusal::NotDue));
     }
     if out.len() < frame_b::FRAME_ROOM {
-        return turn(r, AnswerB::Declines(Refusal::Room));
+        return within::turn(r, AnswerB::Declines(Refusal::Room));
     }
     let row = selection_b::sent::hltb(pupi);
     rows::within::put(out, 0, &row);
@@ -152,7 +114,7 @@ pub fn halt(r: ReaderB, pupi: [u8; 4], out: &mut [u8]) -> TurnB
         slots: 0,
         slot: 0,
     };
-    turn(k, AnswerB::Sends(56))
+    within::turn(k, AnswerB::Sends(56))
 }
 
 // ATTRIB to the card of an ATQB, with the reader's own size index.
@@ -162,14 +124,14 @@ pub fn attach(r: ReaderB, atqb: [u8; 12], index: u8, out: &mut [u8]) -> TurnB
     ensures { λ q. ⌜ turnSays q ≡ callSays (isReady (r .phase)) (length (now (out .entry))) (attaches r index) ⌝ }
 {
     let p = r.phase;
-    if !is_ready(p) {
-        return turn(r, AnswerB::Declines(Refusal::NotDue));
+    if !within::is_ready(p) {
+        return within::turn(r, AnswerB::Declines(Refusal::NotDue));
     }
     if out.len() < frame_b::FRAME_ROOM {
-        return turn(r, AnswerB::Declines(Refusal::Room));
+        return within::turn(r, AnswerB::Declines(Refusal::Room));
     }
     if index > 8 {
-        return turn(r, AnswerB::Declines(Refusal::Argument));
+        return within::turn(r, AnswerB::Declines(Refusal::Argument));
     }
     let row = selection_b::sent::attrib_for(atqb, index);
     rows::within::put(out, 0, &row);
@@ -178,105 +140,23 @@ pub fn attach(r: ReaderB, atqb: [u8; 12], index: u8, out: &mut [u8]) -> TurnB
         slots: 0,
         slot: 0,
     };
-    turn(k, AnswerB::Sends(88))
+    within::turn(k, AnswerB::Sends(88))
 }
 
-// What a slot held is told, and the next marker goes out.
-fn hold(r: ReaderB, k: Held, atqb: [u8; 12], out: &mut [u8]) -> TurnB
-    requires { ⌜ frameRoomB ≤ length (now out) ⌝ }
-    ensures { λ q. ⌜ q ≡ held r k atqb ⌝ }
-    ensures { λ q. ⌜ now (out .exit) ≡ rowAfter (q .answer) (next (q .reader)) (now (out .entry)) ⌝ }
-{
-    if r.slot < r.slots {
-        let m = r.slot + 1;
-        let row = selection_b::sent::marker(m);
-        rows::within::put(out, 0, &row);
-        let after = ReaderB {
-            phase: PhaseB::Slot,
-            slots: r.slots,
-            slot: m,
-        };
-        return TurnB {
-            reader: after,
-            answer: AnswerB::Marks(k),
-            atqb: atqb,
-        };
-    }
-    let after = new_reader();
-    TurnB {
-        reader: after,
-        answer: AnswerB::Ends(k),
-        atqb: atqb,
-    }
-}
-
-fn hear_slot(r: ReaderB, row: &[u8], out: &mut [u8]) -> TurnB
-    requires { ⌜ frameRoomB ≤ length (now out) ⌝ }
-    ensures { λ q. ⌜ q ≡ slotTurn r (readSlot (now (row .entry)) .says) (readSlot (now (row .entry)) .atqb) ⌝ }
-    ensures { λ q. ⌜ now (out .exit) ≡ rowAfter (q .answer) (next (q .reader)) (now (out .entry)) ⌝ }
-{
-    let s = selection_b::heard::read_slot(row);
-    let says = s.says;
-    let atqb = s.atqb;
-    match says {
-        SlotSays::Holds(k) => hold(r, k, atqb, out),
-        SlotSays::NotSlot(e) => stop(e),
-    }
-}
-
-fn hear_attrib(row: &[u8]) -> TurnB
-    ensures { λ q. ⌜ q ≡ attribTurn (readAttrib (now (row .entry))) ⌝ }
-{
-    let s = selection_b::heard::read_attrib(row);
-    match s {
-        AttribRead::Mbli(m) => {
-            let after = new_reader();
-            turn(after, AnswerB::Attached(m))
-        }
-        AttribRead::NotAttached(e) => stop(e),
-    }
-}
-
-fn hear_hltb(row: &[u8]) -> TurnB
-    ensures { λ q. ⌜ q ≡ hltbTurn (readHltb (now (row .entry))) ⌝ }
-{
-    let s = selection_b::heard::read_hltb(row);
-    match s {
-        HltbRead::Obeys => {
-            let after = new_reader();
-            turn(after, AnswerB::Halted)
-        }
-        HltbRead::NotHalted(e) => stop(e),
-    }
-}
-
-fn hear_due(r: ReaderB, row: &[u8], out: &mut [u8]) -> TurnB
-    requires { ⌜ frameRoomB ≤ length (now out) ⌝ }
-    ensures { λ q. ⌜ q ≡ hear r (now (row .entry)) ⌝ }
-    ensures { λ q. ⌜ now (out .exit) ≡ rowAfter (q .answer) (next (q .reader)) (now (out .entry)) ⌝ }
-{
-    let p = r.phase;
-    match p {
-        PhaseB::Ready => turn(r, AnswerB::Declines(Refusal::NotDue)),
-        PhaseB::Slot => hear_slot(r, row, out),
-        PhaseB::AttribSent => hear_attrib(row),
-        PhaseB::HltbSent => hear_hltb(row),
-        PhaseB::Stopped => turn(r, AnswerB::Declines(Refusal::NotDue)),
-    }
-}
-
-// A row is heard; an empty one is silence.
+// A row is heard; an empty one is silence. The next slot's marker, if one goes out, stands at the front of the lent row.
 pub fn hear(r: ReaderB, row: &[u8], out: &mut [u8]) -> TurnB
     ensures { λ q. ⌜ q ≡ callWith (awaits (r .phase)) r (length (now (out .entry))) (hear r (now (row .entry))) ⌝ }
     ensures { λ q. ⌜ now (out .exit) ≡ rowAfter (q .answer) (next (q .reader)) (now (out .entry)) ⌝ }
     ensures { λ q. ⌜ turnSays q ≡ callSays (awaits (r .phase)) (length (now (out .entry))) (hear r (now (row .entry))) ⌝ }
 {
     let p = r.phase;
-    if !awaits(p) {
-        return turn(r, AnswerB::Declines(Refusal::NotDue));
+    if !is_awaiting(p) {
+        return within::turn(r, AnswerB::Declines(Refusal::NotDue));
     }
     if out.len() < frame_b::FRAME_ROOM {
-        return turn(r, AnswerB::Declines(Refusal::Room));
+        return within::turn(r, AnswerB::Declines(Refusal::Room));
     }
-    hear_due(r, row, out)
+    let t = within::hear_rules(r, row);
+    within::put_next(t, out);
+    t
 }
