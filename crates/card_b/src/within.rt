@@ -29,7 +29,7 @@ pub fn bits_in(a: AnswerB) -> usize
 }
 
 // Is a slot number 1 to n?
-fn is_drawn(number: u8, n: u8) -> bool
+pub fn is_drawn(number: u8, n: u8) -> bool
     ensures { λ r. ⌜ r ≡ drawn number n ⌝ }
 {
     if number < 1 {

@@ -31,9 +31,9 @@ before s o = record { slots = s ∷ o .slots; cards = o .cards; last = o .last }
 unfoldable pub ended : List Told → List Drawn → TurnB → Out
 ended s ds t = record { slots = s; cards = ds; last = t }
 
--- the run goes on while markers go out
+-- the run goes on while frames go out
 abbrev pub follow : AnswerB → TurnB → List Drawn → Out → Out
-follow (Sends n) t ds o = ended [] ds t
+follow (Sends n) t ds o = o
 follow (Marks k) t ds o = before (k, t .atqb) o
 follow (Ends k) t ds o = ended ((k, t .atqb) ∷ []) ds t
 follow (Attached m) t ds o = ended [] ds t

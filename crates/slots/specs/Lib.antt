@@ -1,0 +1,4 @@
+pub mod Steps
+pub mod TermLaws
+pub mod StepLaws
+pub mod RunLaws
