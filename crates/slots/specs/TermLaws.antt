@@ -6,13 +6,35 @@ use native.Mathlib.Omega.{arith}
 use mathlib.Core.Bool.{Bool, true, false, not}
 use mathlib.Core.List.{List, [], _∷_}
 use lib.ListN.{length, take, drop, getD, length-take, drop-of-length-le}
-use lib.Seq.{drop-cons, getD-take, length-take-le}
+use lib.Seq.{drop-cons, take-suc, getD-take, length-take-le}
+use mir.Val.{Fits}
+use mir.Syntax.{w8}
 use borrow.Author.Tests.{le-leb}
-use Rattle.rows.specs.Rows.{any, same}
+use Rattle.rows.specs.ListLaws.{all-append, bytes-at}
+use Rattle.rows.specs.Rows.{All, any, same}
 use Rattle.limits.specs.Limits.{mostCards}
 use Rattle.selection_b.specs.TypeB.{isSlots}
+use Rattle.slots_rules.specs.Claim.{Typed}
 use Rattle.slots_rules.specs.TermsB.{cardFits, allFit, apart, within}
 use Rattle.field_b.specs.declared.Drawn.{Drawn}
+
+-- what a card's type says of its bytes
+pub typed-card : (d : Drawn) → length (d .card .pupi) ≡ 4 → ((i : ℕ) → Fits w8 (getD (d .card .pupi) i 0))
+    → length (d .card .application) ≡ 4 → ((i : ℕ) → Fits w8 (getD (d .card .application) i 0))
+    → length (d .card .protocol) ≡ 3 → ((i : ℕ) → Fits w8 (getD (d .card .protocol) i 0)) → Typed d
+typed-card d a b e f g h =
+    record {
+      four = a;
+      pupi-bytes = bytes-at (d .card .pupi) b;
+      application-four = e;
+      application-bytes = bytes-at (d .card .application) f;
+      three = g;
+      protocol-bytes = bytes-at (d .card .protocol) h;
+    }
+
+-- one card more has its type
+pub all-next : (l : List Drawn) (i : ℕ) (d : Drawn) → i < length l → All Typed (take i l) → Typed (getD l i d) → All Typed (take (i + 1) l)
+all-next l i d h a f = rw (add-one, take-suc l i d h) (all-append Typed (take i l) (getD l i d ∷ []) a (f, tt))
 
 -- ---- the cards from i on, the first k being the field
 

@@ -1,10 +1,12 @@
 // Is a field one that a request takes? `inquire` declines any other with 6.
 ghost use mathlib.Core.Path.{_≡_};
-ghost use mathlib.Core.Bool.{not};
+ghost use mathlib.Core.Bool.{true, not};
 ghost use Prim.Native.Nat.{_≤_};
 ghost use lib.ListN.{take, drop};
 ghost use Rattle.limits.specs.Limits.{mostCards};
-ghost use Rattle.rows.specs.Rows.{any, same};
+ghost use Rattle.rows.specs.Rows.{All, any, same};
+ghost use Rattle.selection_b.specs.TypeB.{isSlots};
+ghost use Rattle.slots_rules.specs.Claim.{Typed};
 ghost use Rattle.slots_rules.specs.TermsB.{idleOrHalted, cardFits, allFit, apart, within};
 use card_b::StateB;
 use field_b::Drawn;
@@ -26,6 +28,7 @@ fn is_idle_or_halted(s: StateB) -> bool
 // Idle or halted, and a slot number from 1 to n.
 pub fn card_fits(n: u8, d: Drawn) -> bool
     ensures { λ r. ⌜ r ≡ cardFits n d ⌝ }
+    ensures { λ r. ⌜ Typed d ⌝ }
 {
     let c = d.card;
     let s = c.state;
@@ -38,6 +41,7 @@ pub fn card_fits(n: u8, d: Drawn) -> bool
 fn all_fit(n: u8, cards: [Drawn; MOST_CARDS], count: usize) -> bool
     requires { ⌜ count ≤ mostCards ⌝ }
     ensures { λ r. ⌜ r ≡ allFit n (take count cards) ⌝ }
+    ensures { λ r. ⌜ (r ≡ true → All Typed (take count cards)) ⌝ }
 {
     for i in 0..count {
         let d = cards[i];
@@ -91,6 +95,7 @@ fn is_apart(cards: [Drawn; MOST_CARDS], count: usize) -> bool
 pub fn is_within(n: u8, cards: [Drawn; MOST_CARDS], count: usize) -> bool
     requires { ⌜ count ≤ mostCards ⌝ }
     ensures { λ r. ⌜ r ≡ within n (take count cards) ⌝ }
+    ensures { λ r. ⌜ (r ≡ true → (All Typed (take count cards) × (isSlots n ≡ true))) ⌝ }
 {
     if !selection_b::sent::is_slots(n) {
         return false;

@@ -2,7 +2,7 @@
 -- channel that only merges bits, one request with all its markers hears exactly the cards that are alone in their slot, and names each slot
 -- that held more than one."
 use mathlib.Core.Path.{_≡_}
-use Prim.Native.Nat.{ℕ, zero, suc, _*_, _<_, _≤_}
+use Prim.Native.Nat.{ℕ, zero, suc, _*_, _≤_}
 use mathlib.Core.Bool.{Bool, true, cond}
 use mathlib.Core.List.{List, [], _∷_, map}
 use lib.ListN.{length, replicate}
@@ -23,19 +23,21 @@ use Rattle.field_b.specs.declared.Drawn.{Drawn}
 
 -- ---- the terms
 
--- "idle, admitted by the request's AFI, answering slot markers", the slot number from 1 to n; and what its type says of a card's bytes
+-- "idle, admitted by the request's AFI, answering slot markers", the slot number from 1 to n
 pub record Asked (n afi : ℕ) (d : Drawn) : Type 0 where
   pub idle : d .card .state ≡ Idle
   pub admitted : admits afi (d .card .afi) ≡ true
   pub marked : d .card .markers ≡ true
   pub least : 1 ≤ d .number
   pub most : d .number ≤ n
-  pub parts : Parts (d .card .pupi) (d .card .application) (d .card .protocol)
 
--- "all cards .., with different PUPIs", N of the five, and AFI a byte
+-- what its type says of a card's bytes
+abbrev pub Typed : Drawn → Type 0
+Typed d = Parts (d .card .pupi) (d .card .application) (d .card .protocol)
+
+-- "all cards .., with different PUPIs", and N one of the five
 pub record Terms (n afi : ℕ) (ds : List Drawn) : Type 0 where
   pub slots : isSlots n ≡ true
-  pub byte : afi < 256
   pub all : All (Asked n afi) ds
   pub different : apart ds ≡ true
 

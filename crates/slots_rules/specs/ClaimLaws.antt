@@ -9,7 +9,7 @@ use lib.Dec.{eqb}
 use lib.ListN.{length, getD, length-append}
 use borrow.Author.Tests.{lt-ltb, le-ltb, ne-eqb}
 use native.Mathlib.Omega.{arith}
-use Rattle.rows.specs.EachLaws.{all-weaken}
+use Rattle.rows.specs.EachLaws.{all-weaken, all-zip}
 use Rattle.rows.specs.Rows.{All}
 use Rattle.selection_b.specs.TypeB.{isSlots, request, marker}
 use Rattle.selection_b.specs.HeardB.{readSlot, entry}
@@ -21,9 +21,9 @@ use Rattle.field.specs.Merge.{merge}
 use Rattle.field_b.specs.FieldB.{allTake, heardFrom}
 use Rattle.slots_rules.specs.RunB.{Told, Out, before, ended, outFrame, run, inquiry, listBytes}
 use Rattle.slots_rules.specs.TermsB.{apart}
-use Rattle.slots_rules.specs.Claim.{inSlot, told, slotsFrom, Asked, Terms, Claim}
-use Rattle.slots_rules.specs.SlotLaws.{Typed, sent, reads-slot, merge-slot, slot-all, apart-slot}
-use Rattle.slots_rules.specs.StepLaws.{at, first-cards, first-heard, next-cards, next-heard, last-cards}
+use Rattle.slots_rules.specs.Claim.{inSlot, told, slotsFrom, Asked, Typed, Terms, Claim}
+use Rattle.slots_rules.specs.SlotLaws.{OfCard, sent, reads-slot, merge-slot, slot-all, apart-slot}
+use Rattle.slots_rules.specs.StepLaws.{Fits, at, first-cards, first-heard, next-cards, next-heard, last-cards}
 use Rattle.selection_b.specs.declared.SlotSays.the-variants.{Holds}
 use Rattle.selection_b.specs.declared.SlotRead.{SlotRead}
 use Rattle.card_b.specs.declared.CardB.{CardB}
@@ -37,7 +37,7 @@ use Rattle.field_b.specs.declared.Drawn.{Drawn}
 abbrev toldOf : ℕ → List Drawn → Told
 toldOf s ds = told (inSlot s ds)
 
-module _ (wake : Bool) (n afi : ℕ) (good : isSlots n ≡ true) (byte : afi < 256) (ds : List Drawn) (all : All (Asked n afi) ds) (different : apart ds ≡ true) where
+module _ (wake : Bool) (n afi : ℕ) (good : isSlots n ≡ true) (byte : afi < 256) (ds : List Drawn) (all : All (Fits n afi) ds) (different : apart ds ≡ true) where
   -- a run from some slot on, over the slots l
   record Runs (l : List ℕ) (o : Out) : Type 0 where
     slots : o .slots ≡ map (λ s. toldOf s ds) l
@@ -48,7 +48,7 @@ module _ (wake : Bool) (n afi : ℕ) (good : isSlots n ≡ true) (byte : afi < 2
   reads : (s : ℕ) → _≡_ {A = SlotRead} (readSlot (merge (map (sent s) ds))) (record { says = Holds (toldOf s ds .0); atqb = toldOf s ds .1 })
   reads s =
       ap readSlot (merge-slot s ds)
-      ∙ reads-slot (inSlot s ds) (slot-all Typed s ds (all-weaken {F = Asked n afi} ds (λ d h. h .parts) all)) (apart-slot s ds different)
+      ∙ reads-slot (inSlot s ds) (slot-all OfCard s ds (all-weaken {F = Fits n afi} ds (λ d h. h .parts) all)) (apart-slot s ds different)
 
   -- .. and what it does
   turns : (s : ℕ) (r : ReaderB) (f : List ℕ) (es : List Drawn) → r ≡ reader Slot n s → heardFrom f es ≡ merge (map (sent s) ds)
@@ -95,7 +95,7 @@ module _ (wake : Bool) (n afi : ℕ) (good : isSlots n ≡ true) (byte : afi < 2
 
   -- ---- the list
 
-  told-long : (cs : List CardB) → All Typed cs → length (told cs .1) ≡ 12
+  told-long : (cs : List CardB) → All OfCard cs → length (told cs .1) ≡ 12
   unfolding atqbOf
   told-long [] t = refl
   told-long (c ∷ []) t = length-atqb (c .pupi) (c .application) (c .protocol) (t .0)
@@ -105,7 +105,7 @@ module _ (wake : Bool) (n afi : ℕ) (good : isSlots n ≡ true) (byte : afi < 2
   unfolding listBytes entry
   length-list [] = refl
   length-list (s ∷ l) =
-      let e : length (toldOf s ds .1) ≡ 12 = told-long (inSlot s ds) (slot-all Typed s ds (all-weaken {F = Asked n afi} ds (λ d h. h .parts) all)) in
+      let e : length (toldOf s ds .1) ≡ 12 = told-long (inSlot s ds) (slot-all OfCard s ds (all-weaken {F = Fits n afi} ds (λ d h. h .parts) all)) in
       rw (length-append, e, length-list l) (omega arith)
 
   length-from : (s k : ℕ) → length (slotsFrom s k) ≡ k
@@ -132,9 +132,13 @@ module _ (wake : Bool) (n afi : ℕ) (good : isSlots n ≡ true) (byte : afi < 2
         list = ap (λ l. length (listBytes l)) (w .slots) ∙ length-list (slotsFrom 1 n) ∙ ap (λ k. 13 * k) (length-from 1 n);
       }
 
--- the claim
-pub claim : (wake : Bool) (n afi : ℕ) (ds : List Drawn) → Terms n afi ds → Claim n ds (inquiry wake n afi ds)
-claim wake n afi ds t = heard wake n afi (t .slots) (t .byte) ds (t .all) (t .different)
+-- the claim; that AFI and the cards' bytes are bytes is what their types say
+pub claim : (wake : Bool) (n afi : ℕ) (ds : List Drawn) → afi < 256 → All Typed ds → Terms n afi ds → Claim n ds (inquiry wake n afi ds)
+claim wake n afi ds byte typed t =
+    heard wake n afi (t .slots) byte ds
+    (all-zip {F = Asked n afi} {G = Typed} {H = Fits n afi} ds
+    (λ d a p. record { idle = a .idle; admitted = a .admitted; marked = a .marked; least = a .least; most = a .most; parts = p }) (t .all) typed)
+    (t .different)
 
 -- ---- slot by slot
 

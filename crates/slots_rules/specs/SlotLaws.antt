@@ -29,19 +29,19 @@ use Rattle.selection_b.specs.declared.SlotRead.{SlotRead}
 use Rattle.card_b.specs.declared.CardB.{CardB}
 use Rattle.field_b.specs.declared.Drawn.{Drawn}
 
-abbrev pub Typed : CardB → Type 0
-Typed c = Parts (c .pupi) (c .application) (c .protocol)
+abbrev pub OfCard : CardB → Type 0
+OfCard c = Parts (c .pupi) (c .application) (c .protocol)
 
 -- the row of a card's ATQB
 unfoldable pub atqbRow : CardB → List ℕ
 atqbRow c = frameB (atqbOf c)
 
-length-row : (c : CardB) → Typed c → length (atqbRow c) ≡ 112
+length-row : (c : CardB) → OfCard c → length (atqbRow c) ≡ 112
 unfolding atqbRow atqbOf
 length-row c h = rw (length-frame, length-atqb (c .pupi) (c .application) (c .protocol) h)
 
 -- an ATQB tells its PUPI
-row-tells : (c e : CardB) → Typed c → Typed e → atqbRow c ≡ atqbRow e → c .pupi ≡ e .pupi
+row-tells : (c e : CardB) → OfCard c → OfCard e → atqbRow c ≡ atqbRow e → c .pupi ≡ e .pupi
 unfolding atqbRow atqbOf atqbBytes
 row-tells c e h k q =
     let x : List ℕ = c .application ++ c .protocol in
@@ -55,16 +55,17 @@ abbrev pub Apart : List CardB → Type 0
 Apart [] = Unit {0}
 Apart (c ∷ cs) = All (λ e. c .pupi ≢ e .pupi) cs × Apart cs
 
--- more than one card: some bit collided
-collides : (c e : CardB) (cs : List CardB) → All Typed (c ∷ e ∷ cs) → c .pupi ≢ e .pupi → clean (merge (map atqbRow (c ∷ e ∷ cs))) ≡ false
-collides c e cs t n = go (clean (merge (map atqbRow (c ∷ e ∷ cs)))) refl
+-- Two different ATQBs collide in some bit, whoever sends beside them. An ATQB is clean and ends with a CRC_B that its bytes fix, so rows that merge to
+-- a clean row are one row, and one row is one ATQB.
+pub atqbs-collide : (c e : CardB) (cs : List CardB) → All OfCard (c ∷ e ∷ cs) → c .pupi ≢ e .pupi → clean (merge (map atqbRow (c ∷ e ∷ cs))) ≡ false
+atqbs-collide c e cs t n = go (clean (merge (map atqbRow (c ∷ e ∷ cs)))) refl
   where
     T : List (List ℕ)
     T = map atqbRow (c ∷ e ∷ cs)
 
     go : (b : Bool) → clean (merge T) ≡ b → b ≡ false
     go true q =
-        let a : All (λ r. r ≡ merge T) T = clean-merge 112 T (omega arith) (all-map {F = Typed} (λ r. length r ≡ 112) atqbRow (c ∷ e ∷ cs) length-row t) q in
+        let a : All (λ r. r ≡ merge T) T = clean-merge 112 T (omega arith) (all-map {F = OfCard} (λ r. length r ≡ 112) atqbRow (c ∷ e ∷ cs) length-row t) q in
         absurd (n (row-tells c e (t .0) (t .1 .0) (a .0 ∙ sym (a .1 .0))))
     go false q = refl
 
@@ -74,14 +75,14 @@ unfolding readSlot
 reads-more h n c = rw (not-nil h (omega arith), n, c)
 
 -- what the reader reads where the cards of a slot answer together
-pub reads-slot : (cs : List CardB) → All Typed cs → Apart cs → _≡_ {A = SlotRead} (readSlot (merge (map atqbRow cs))) (record { says = Holds (told cs .0); atqb = told cs .1 })
+pub reads-slot : (cs : List CardB) → All OfCard cs → Apart cs → _≡_ {A = SlotRead} (readSlot (merge (map atqbRow cs))) (record { says = Holds (told cs .0); atqb = told cs .1 })
 reads-slot [] t a = unfold readSlot merge isNil in refl
 reads-slot (c ∷ []) t a =
     let e : merge (map atqbRow (c ∷ [])) ≡ atqbRow c = unfold merge in join-nil (atqbRow c) in
     rw e (unfold atqbRow atqbOf in reads-atqb (c .pupi) (c .application) (c .protocol) (t .0))
 reads-slot (c ∷ e ∷ cs) t a =
-    reads-more (merge (map atqbRow (c ∷ e ∷ cs))) (length-merge atqbRow 112 (c ∷ e ∷ cs) (omega arith) (all-weaken {F = Typed} (c ∷ e ∷ cs) length-row t))
-    (collides c e cs t (a .0 .0))
+    reads-more (merge (map atqbRow (c ∷ e ∷ cs))) (length-merge atqbRow 112 (c ∷ e ∷ cs) (omega arith) (all-weaken {F = OfCard} (c ∷ e ∷ cs) length-row t))
+    (atqbs-collide c e cs t (a .0 .0))
 
 -- ---- the cards of a slot
 

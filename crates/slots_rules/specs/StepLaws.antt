@@ -10,18 +10,27 @@ use native.Mathlib.Omega.{arith}
 use Rattle.rows.specs.EachLaws.{all-weaken}
 use Rattle.rows.specs.ListLaws.{map-all}
 use Rattle.rows.specs.Rows.{All}
-use Rattle.selection_b.specs.TypeB.{isSlots, request, marker}
+use Rattle.selection_b.specs.TypeB.{Parts, isSlots, request, marker}
+use Rattle.selection_b.specs.TakenB.{admits}
 use Rattle.selection_b.specs.SlotsLaws.{slots-most}
 use Rattle.card_b.specs.CardB.{atqbOf, withState, requested, asked, other, rules, takes, answers}
 use Rattle.card_b.specs.CardBLaws.{rules-request, own-marker, other-marker, declared-marker}
 use Rattle.field.specs.Merge.{merge}
 use Rattle.field_b.specs.FieldB.{withCard, takesB, answersB, allTake, heardFrom}
-use Rattle.slots_rules.specs.Claim.{Asked}
 use Rattle.slots_rules.specs.SlotLaws.{atqbRow, sent}
 use Rattle.card_b.specs.declared.CardB.{CardB}
 use Rattle.card_b.specs.declared.StateB.{StateB}
 use Rattle.card_b.specs.declared.StateB.the-variants.{Off, Idle, Requested, Declared, Active, Halt}
 use Rattle.field_b.specs.declared.Drawn.{Drawn}
+
+-- a card within the terms
+pub record Fits (n afi : ℕ) (d : Drawn) : Type 0 where
+  pub idle : d .card .state ≡ Idle
+  pub admitted : admits afi (d .card .afi) ≡ true
+  pub marked : d .card .markers ≡ true
+  pub least : 1 ≤ d .number
+  pub most : d .number ≤ n
+  pub parts : Parts (d .card .pupi) (d .card .application) (d .card .protocol)
 
 -- the state of a card after slot s
 unfoldable pub after : ℕ → ℕ → StateB
@@ -42,7 +51,7 @@ rules-state c x Halt number f = refl
 
 module _ (wake : Bool) (n afi : ℕ) (good : isSlots n ≡ true) (byte : afi < 256) where
   -- the request, by an idle card
-  first-step : (d : Drawn) → Asked n afi d → rules (d .card) (d .card .state) (d .number) (request wake n afi) ≡ (after 1 (d .number), sent 1 d)
+  first-step : (d : Drawn) → Fits n afi d → rules (d .card) (d .card .state) (d .number) (request wake n afi) ≡ (after 1 (d .number), sent 1 d)
   unfolding requested after sent atqbRow
   first-step d h =
       ap (λ y. rules (d .card) y (d .number) (request wake n afi)) (h .idle)
@@ -53,7 +62,7 @@ module _ (wake : Bool) (n afi : ℕ) (good : isSlots n ≡ true) (byte : afi < 2
       go false e = rw (e, h .marked, lt-leb (d .number) 1 (omega (arith, eqb-false (d .number) 1 e, h .least)))
 
   -- the marker of the slot behind slot s
-  next-step : (s : ℕ) (d : Drawn) → Asked n afi d → 1 ≤ s → s < n → rules (d .card) (after s (d .number)) (d .number) (marker (suc s)) ≡ (after (suc s) (d .number), sent (suc s) d)
+  next-step : (s : ℕ) (d : Drawn) → Fits n afi d → 1 ≤ s → s < n → rules (d .card) (after s (d .number)) (d .number) (marker (suc s)) ≡ (after (suc s) (d .number), sent (suc s) d)
   unfolding after sent atqbRow
   next-step s d h a b = go (leb (d .number) s) refl (eqb (d .number) (suc s)) refl
     where
@@ -79,19 +88,19 @@ module _ (wake : Bool) (n afi : ℕ) (good : isSlots n ≡ true) (byte : afi < 2
 
   -- ---- every card of the field
 
-  module _ (ds : List Drawn) (all : All (Asked n afi) ds) where
+  module _ (ds : List Drawn) (all : All (Fits n afi) ds) where
     pub first-cards : allTake (request wake n afi) ds ≡ map (at 1) ds
     unfolding allTake takesB takes at
     first-cards = map-all (λ d. withCard d (takes (d .card) (d .number) (request wake n afi))) (at 1) ds
-        (all-weaken {F = Asked n afi} ds (λ d h. ap (λ p. withCard d (withState (d .card) (p .0))) (first-step d h)) all)
+        (all-weaken {F = Fits n afi} ds (λ d h. ap (λ p. withCard d (withState (d .card) (p .0))) (first-step d h)) all)
 
     pub first-heard : heardFrom (request wake n afi) ds ≡ merge (map (sent 1) ds)
     unfolding heardFrom answersB answers
     first-heard = ap merge (map-all (λ d. answers (d .card) (d .number) (request wake n afi)) (sent 1) ds
-        (all-weaken {F = Asked n afi} ds (λ d h. ap (λ p. p .1) (first-step d h)) all))
+        (all-weaken {F = Fits n afi} ds (λ d h. ap (λ p. p .1) (first-step d h)) all))
 
     module _ (s : ℕ) (a : 1 ≤ s) (b : s < n) where
-      step : (d : Drawn) → Asked n afi d → rules (at s d .card) (at s d .card .state) (d .number) (marker (suc s)) ≡ (after (suc s) (d .number), sent (suc s) d)
+      step : (d : Drawn) → Fits n afi d → rules (at s d .card) (at s d .card .state) (d .number) (marker (suc s)) ≡ (after (suc s) (d .number), sent (suc s) d)
       unfolding at
       step d h = rules-state (d .card) (after s (d .number)) (after s (d .number)) (d .number) (marker (suc s)) ∙ next-step s d h a b
 
@@ -99,16 +108,16 @@ module _ (wake : Bool) (n afi : ℕ) (good : isSlots n ≡ true) (byte : afi < 2
       unfolding allTake takesB takes at
       next-cards = map-map (λ d. withCard d (takes (d .card) (d .number) (marker (suc s)))) (at s) ds
           ∙ map-all (λ d. withCard (at s d) (takes (at s d .card) (d .number) (marker (suc s)))) (at (suc s)) ds
-          (all-weaken {F = Asked n afi} ds (λ d h. ap (λ p. withCard d (withState (d .card) (p .0))) (step d h)) all)
+          (all-weaken {F = Fits n afi} ds (λ d h. ap (λ p. withCard d (withState (d .card) (p .0))) (step d h)) all)
 
       pub next-heard : heardFrom (marker (suc s)) (map (at s) ds) ≡ merge (map (sent (suc s)) ds)
       unfolding heardFrom answersB answers at
       next-heard = ap merge (map-map (λ d. answers (d .card) (d .number) (marker (suc s))) (at s) ds
           ∙ map-all (λ d. answers (at s d .card) (d .number) (marker (suc s))) (sent (suc s)) ds
-          (all-weaken {F = Asked n afi} ds (λ d h. ap (λ p. p .1) (step d h)) all))
+          (all-weaken {F = Fits n afi} ds (λ d h. ap (λ p. p .1) (step d h)) all))
 
     -- after the last slot every card is declared
     pub last-cards : map (at n) ds ≡ map (λ d. withCard d (withState (d .card) Declared)) ds
     unfolding at after
     last-cards = map-all (at n) (λ d. withCard d (withState (d .card) Declared)) ds
-        (all-weaken {F = Asked n afi} ds (λ d h. rw (le-leb (d .number) n (h .most))) all)
+        (all-weaken {F = Fits n afi} ds (λ d h. rw (le-leb (d .number) n (h .most))) all)

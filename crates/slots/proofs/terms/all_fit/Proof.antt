@@ -7,18 +7,21 @@ use borrow.Author.Tests.{not-true, not-false}
 use lib.ListN.{length, take, drop}
 use Rattle.limits.specs.Limits.{mostCards}
 use Rattle.slots_rules.specs.TermsB.{allFit}
-use Rattle.slots.specs.TermLaws.{fit-next, fit-not, fit-done}
+use Rattle.slots.specs.TermLaws.{all-next, fit-next, fit-not, fit-done}
+use Rattle.slots_rules.specs.Claim.{Typed}
+use Rattle.rows.specs.Rows.{All}
+use mathlib.Core.Bool.{false≢true}
 use Rattle.slots.proofs.terms.all_fit.Statement.{statement}
 use Rattle.slots.proofs.terms.all_fit.Tie as tie
 
 abbrev Inv-loop : tie.InvT-loop
-Inv-loop n count cards i₀ i = (i ≤ count) × (length cards ≡ mostCards) × (allFit n (drop i (take count cards)) ≡ allFit n (take count cards))
+Inv-loop n count cards i₀ i = (i ≤ count) × (length cards ≡ mostCards) × (allFit n (drop i (take count cards)) ≡ allFit n (take count cards)) × All Typed (take i cards)
 
 abbrev μ-loop : tie.MeasureT-loop
 μ-loop n count cards i₀ i = count - i
 
 loop-holds : tie.Need-loop-holds Inv-loop μ-loop
-loop-holds c = (omega arith, search needs, refl)
+loop-holds c = (omega arith, search needs, refl, tt)
 
 mul-d : tie.Need-mul-d Inv-loop μ-loop
 mul-d c = omega arith
@@ -33,7 +36,7 @@ returns : tie.Need-returns Inv-loop μ-loop
 returns c = 
     let l = c .before .before .before .before .loop in
     let a = c .before .before .before .before .before .args in
-    sym (sym (l .inv .2) ∙ fit-not (a .t2) (a .count) (omega arith) (l .i) _ (omega arith) (a .n) (sym (c .before .card-fits .ensures) ∙ not-true _ (c .if1 .taken)))
+    (sym (sym (l .inv .2) ∙ fit-not (a .t2) (a .count) (omega arith) (l .i) _ (omega arith) (a .n) (sym (c .before .card-fits .ensures .0) ∙ not-true _ (c .if1 .taken))), λ t. absurd (false≢true t))
 
 add-i : tie.Need-add-i Inv-loop μ-loop
 add-i c = omega arith
@@ -45,13 +48,19 @@ loop-again : tie.Need-loop-again Inv-loop μ-loop
 loop-again c = 
     let l = c .before .before .before .before .loop in
     let a = c .before .before .before .before .before .args in
-    (omega arith, omega arith, sym (fit-next (a .t2) (a .count) (omega arith) (l .i) _ (omega arith) (a .n) (sym (c .before .card-fits .ensures) ∙ not-false _ (c .if1 .left))) ∙ l .inv .2)
+    let e = sym (c .before .card-fits .ensures .0) ∙ not-false _ (c .if1 .left) in (
+      omega arith,
+      omega arith,
+      sym (fit-next (a .t2) (a .count) (omega arith) (l .i) _ (omega arith) (a .n) e) ∙ l .inv .2,
+      all-next (a .t2) (l .i) _ (omega arith) (l .inv .3) (c .before .card-fits .ensures .1),
+    )
 
 returns-2 : tie.Need-returns-2 Inv-loop μ-loop
 returns-2 c = 
     let l = c .before .loop in
     let a = c .before .before .args in
-    sym (sym (l .inv .2) ∙ fit-done (a .t2) (a .count) (omega arith) (a .n) (l .i) (omega arith))
+    let e : l .i ≡ a .count = omega arith in
+    (sym (sym (l .inv .2) ∙ fit-done (a .t2) (a .count) (omega arith) (a .n) (l .i) (omega arith)), λ t. rw e at (l .inv .3))
 
 pub all-fit-spec : {M : Type 1} → statement M
 all-fit-spec =
