@@ -3,6 +3,7 @@
 mod bench_card;
 mod bench_reader;
 mod bench_sweep;
+mod bench_type_b;
 mod blocks;
 mod card;
 mod card_link;
@@ -19,6 +20,7 @@ mod reader_link;
 mod refusal;
 mod scripts;
 mod sweep;
+mod type_b;
 mod uid;
 mod vectors_calls;
 mod vectors_exchange;
@@ -26,12 +28,12 @@ mod vectors_frame;
 mod write;
 
 const USAGE: &str = "\
-model vectors_frame | vectors_sweep | vectors_exchange | vectors_calls | bench_sweep | bench_card | bench_reader
+model vectors_frame | vectors_sweep | vectors_exchange | vectors_calls | bench_sweep | bench_card | bench_reader | bench_type_b
                                          play a script from standard input
 model write DIR                          write the stored scripts and their answers
 model check DIR                          compare the stored ones with what would be written
 model coverage                           what the stored scripts reach
-model scripts card|reader|field|exchange COUNT SEED   random scripts for larger comparisons";
+model scripts card|reader|field|exchange|type_b COUNT SEED   random scripts for larger comparisons";
 
 fn report(outcome: Result<(), String>) {
     if let Err(what) = outcome {
@@ -48,7 +50,8 @@ fn random_scripts(kind: &str, count: &str, seed: &str) -> Result<(), String> {
         "reader" => scripts::reader::random_scripts(count, seed).input,
         "field" => scripts::field::random_scripts(count, seed).input,
         "exchange" => scripts::exchange::random_scripts(count, seed).input,
-        _ => return Err("scripts for card, reader, field or exchange".to_string()),
+        "type_b" => scripts::type_b::random_scripts(count, seed).input,
+        _ => return Err("scripts for card, reader, field, exchange or type_b".to_string()),
     };
     print!("{text}");
     Ok(())
@@ -65,6 +68,7 @@ fn main() {
         ["bench_sweep"] => language::play(bench_sweep::BenchSweep::default()),
         ["bench_card"] => language::play(bench_card::BenchCard::new()),
         ["bench_reader"] => language::play(bench_reader::BenchReader::new()),
+        ["bench_type_b"] => language::play(bench_type_b::BenchTypeB::new()),
         ["write", folder] => report(write::write(folder)),
         ["check", folder] => report(write::check(folder)),
         ["coverage"] => report(coverage::report()),

@@ -61,8 +61,10 @@ module _ {f : List ℕ} (t : TypeA f) where
   no-request =
       let g : List ℕ = frameB (0x05 ∷ afiIn f ∷ paramIn f ∷ []) in
       let n : length g ≡ 40 = length-frame (0x05 ∷ afiIn f ∷ paramIn f ∷ []) in
-      rw (same-ne f g (differs t g (λ z. omega (arith, n)) (λ k z. omega (arith, n)) (headed-by 0x05 (afiIn f ∷ paramIn f ∷ []) (omega arith))),
-        and-false)
+      rw (
+        same-ne f g (differs t g (λ z. omega (arith, n)) (λ k z. omega (arith, n)) (headed-by 0x05 (afiIn f ∷ paramIn f ∷ []) (omega arith))),
+        and-false,
+      )
 
   no-marker : (s : ℕ) → isMarker s f ≡ false
   unfolding isMarker

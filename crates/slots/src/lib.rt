@@ -1,6 +1,5 @@
 // Document 02, T-05: one request with all its markers over a field of Type B cards, over values.
 mod terms;
-
 pub mod within;
 
 ghost use mathlib.Core.Path.{_≡_};

@@ -139,7 +139,14 @@ fn goes_on(p: ProgressB, n: u8) -> bool
 }
 
 // A whole request with n slots over the first cards.
-pub fn run(wake: bool, n: u8, afi: u8, cards: [Drawn; MOST_CARDS], count: usize, list: &mut [u8]) -> ProgressB
+pub fn run(
+    wake: bool,
+    n: u8,
+    afi: u8,
+    cards: [Drawn; MOST_CARDS],
+    count: usize,
+    list: &mut [u8],
+) -> ProgressB
     requires { ⌜ (count ≤ mostCards) × (n ≤ mostSlots) × (listRoomB ≤ length (now list)) ⌝ }
     ensures { λ p. ⌜ p .turn ≡ inquiry wake n afi (take count cards) .last ⌝ }
     ensures { λ p. ⌜ p .cards ≡ ends cards count (inquiry wake n afi (take count cards)) ⌝ }

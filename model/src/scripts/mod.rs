@@ -8,6 +8,7 @@ pub mod field;
 pub mod frame;
 pub mod reader;
 pub mod reader_blocks;
+pub mod type_b;
 
 use crate::frames::{self, Row, COLLIDED};
 use crate::language::{show_hex, show_row};

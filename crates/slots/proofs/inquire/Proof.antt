@@ -20,7 +20,7 @@ refused-requires : tie.Need-refused-requires
 refused-requires c κs = search needs
 
 returns : tie.Need-returns
-returns c = 
+returns c =
     let a = c .before .before .before .before .args in
     not-due (a .r) (a .wake) (a .n) (a .afi) (a .cards) (a .count) (now (a .list)) (search needs) (c .refused .result) (c .refused .ensures) (sym (c .before .before .is-ready .ensures) ∙ not-true _ (c .before .if1 .taken))
 
@@ -28,7 +28,7 @@ refused-requires-2 : tie.Need-refused-requires-2
 refused-requires-2 c κs = search needs
 
 returns-2 : tie.Need-returns-2
-returns-2 c = 
+returns-2 c =
     let a = c .before .before .before .before .before .args in
     let y : isReady (a .r .phase) ≡ true = sym (c .before .before .before .is-ready .ensures) ∙ not-false _ (c .before .before .if1 .left) in
     no-list (a .r) (a .wake) (a .n) (a .afi) (a .cards) (a .count) (now (a .list)) (search needs) y (c .refused2 .result) (c .refused2 .ensures) (c .before .if2 .taken)
@@ -37,7 +37,7 @@ refused-requires-3 : tie.Need-refused-requires-3
 refused-requires-3 c κs = search needs
 
 returns-3 : tie.Need-returns-3
-returns-3 c = 
+returns-3 c =
     let a = c .before .before .before .before .before .before .args in
     let y : isReady (a .r .phase) ≡ true = sym (c .before .before .before .before .is-ready .ensures) ∙ not-false _ (c .before .before .before .if1 .left) in
     too-many (a .r) (a .wake) (a .n) (a .afi) (a .cards) (a .count) (now (a .list)) (search needs) y (c .before .before .if2 .left) (c .refused3 .result) (c .refused3 .ensures) (c .before .if3 .taken)
@@ -49,13 +49,13 @@ refused-requires-4 : tie.Need-refused-requires-4
 refused-requires-4 c κs = search needs
 
 returns-4 : tie.Need-returns-4
-returns-4 c = 
+returns-4 c =
     let a = c .before .before .before .before .before .before .before .before .args in
     let y : isReady (a .r .phase) ≡ true = sym (c .before .before .before .before .before .before .is-ready .ensures) ∙ not-false _ (c .before .before .before .before .before .if1 .left) in
     no-field (a .r) (a .wake) (a .n) (a .afi) (a .cards) (a .count) (now (a .list)) (search needs) y (c .before .before .before .before .if2 .left) (c .before .before .before .if3 .left) (c .refused4 .result) (c .refused4 .ensures) (sym (c .before .before .is-within .ensures .0) ∙ not-true _ (c .before .if4 .taken))
 
 run-requires : tie.Need-run-requires
-run-requires c κs = 
+run-requires c κs =
     let a = c .before .before .before .before .before .before .before .before .args in
     let w = c .before .before .is-within .ensures .1 (not-false _ (c .before .if4 .left)) in
     (c .before .before .before .if3 .left, slots-most (a .n) (w .1), c .before .before .before .before .if2 .left)
@@ -64,7 +64,7 @@ same-length : tie.Need-same-length
 same-length c = search needs
 
 returns-5 : tie.Need-returns-5
-returns-5 c = 
+returns-5 c =
     let a = c .before .before .before .before .before .before .before .before .before .before .before .before .before .before .args in
     let y : isReady (a .r .phase) ≡ true = sym (c .before .before .before .before .before .before .before .before .before .before .before .before .is-ready .ensures) ∙ not-false _ (c .before .before .before .before .before .before .before .before .before .before .before .if1 .left) in
     let k = c .before .before .before .before .before .before .before .before .is-within in

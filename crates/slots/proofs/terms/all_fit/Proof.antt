@@ -33,7 +33,7 @@ card-fits-requires : tie.Need-card-fits-requires Inv-loop μ-loop
 card-fits-requires c κs = search needs
 
 returns : tie.Need-returns Inv-loop μ-loop
-returns c = 
+returns c =
     let l = c .before .before .before .before .loop in
     let a = c .before .before .before .before .before .args in
     (sym (sym (l .inv .2) ∙ fit-not (a .t2) (a .count) (omega arith) (l .i) _ (omega arith) (a .n) (sym (c .before .card-fits .ensures .0) ∙ not-true _ (c .if1 .taken))), λ t. absurd (false≢true t))
@@ -45,7 +45,7 @@ loop-less : tie.Need-loop-less Inv-loop μ-loop
 loop-less c = omega arith
 
 loop-again : tie.Need-loop-again Inv-loop μ-loop
-loop-again c = 
+loop-again c =
     let l = c .before .before .before .before .loop in
     let a = c .before .before .before .before .before .args in
     let e = sym (c .before .card-fits .ensures .0) ∙ not-false _ (c .if1 .left) in (
@@ -56,7 +56,7 @@ loop-again c =
     )
 
 returns-2 : tie.Need-returns-2 Inv-loop μ-loop
-returns-2 c = 
+returns-2 c =
     let l = c .before .loop in
     let a = c .before .before .args in
     let e : l .i ≡ a .count = omega arith in

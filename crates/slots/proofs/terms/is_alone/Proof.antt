@@ -12,7 +12,7 @@ use Rattle.slots.proofs.terms.is_alone.Statement.{statement}
 use Rattle.slots.proofs.terms.is_alone.Tie as tie
 
 abbrev Inv-loop : tie.InvT-loop
-Inv-loop pupi start count cards i₀ i = 
+Inv-loop pupi start count cards i₀ i =
     (start ≤ i) × (i ≤ count) × (length cards ≡ mostCards)
     × (any (λ k. same pupi (k .card .pupi)) (drop i (take count cards)) ≡ any (λ k. same pupi (k .card .pupi)) (drop start (take count cards)))
 
@@ -32,7 +32,7 @@ is-pupi-requires : tie.Need-is-pupi-requires Inv-loop μ-loop
 is-pupi-requires c κs = search needs
 
 returns : tie.Need-returns Inv-loop μ-loop
-returns c = 
+returns c =
     let l = c .before .before .before .before .loop in
     let a = c .before .before .before .before .before .args in
     ap not (sym (any-here (a .t2) (a .count) (omega arith) (l .i) _ (omega arith) (λ k. same (a .pupi) (k .card .pupi)) (sym (c .before .is-pupi .ensures) ∙ c .if1 .taken)) ∙ l .inv .3)
@@ -44,7 +44,7 @@ loop-less : tie.Need-loop-less Inv-loop μ-loop
 loop-less c = omega arith
 
 loop-again : tie.Need-loop-again Inv-loop μ-loop
-loop-again c = 
+loop-again c =
     let l = c .before .before .before .before .loop in
     let a = c .before .before .before .before .before .args in (
       omega arith,
@@ -54,7 +54,7 @@ loop-again c =
     )
 
 returns-2 : tie.Need-returns-2 Inv-loop μ-loop
-returns-2 c = 
+returns-2 c =
     let l = c .before .loop in
     let a = c .before .before .args in
     ap not (sym (any-done (a .t2) (a .count) (omega arith) (λ k. same (a .pupi) (k .card .pupi)) (l .i) (omega arith)) ∙ l .inv .3)

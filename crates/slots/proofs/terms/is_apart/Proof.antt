@@ -33,7 +33,7 @@ is-alone-requires : tie.Need-is-alone-requires Inv-loop μ-loop
 is-alone-requires c κs = (omega arith, omega arith)
 
 returns : tie.Need-returns Inv-loop μ-loop
-returns c = 
+returns c =
     let l = c .before .before .before .before .before .before .loop in
     let a = c .before .before .before .before .before .before .before .args in
     sym (sym (l .inv .2) ∙ apart-not (a .t1) (a .count) (omega arith) (l .i) _ (omega arith) (sym (c .before .is-alone .ensures) ∙ not-true _ (c .if1 .taken)))
@@ -45,13 +45,13 @@ loop-less : tie.Need-loop-less Inv-loop μ-loop
 loop-less c = omega arith
 
 loop-again : tie.Need-loop-again Inv-loop μ-loop
-loop-again c = 
+loop-again c =
     let l = c .before .before .before .before .before .before .loop in
     let a = c .before .before .before .before .before .before .before .args in
     (omega arith, omega arith, sym (apart-next (a .t1) (a .count) (omega arith) (l .i) _ (omega arith) (sym (c .before .is-alone .ensures) ∙ not-false _ (c .if1 .left))) ∙ l .inv .2)
 
 returns-2 : tie.Need-returns-2 Inv-loop μ-loop
-returns-2 c = 
+returns-2 c =
     let l = c .before .loop in
     let a = c .before .before .args in
     sym (sym (l .inv .2) ∙ apart-done (a .t1) (a .count) (omega arith) (l .i) (omega arith))

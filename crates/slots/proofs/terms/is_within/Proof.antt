@@ -14,7 +14,7 @@ is-slots-requires : tie.Need-is-slots-requires
 is-slots-requires c κs = search needs
 
 returns : tie.Need-returns
-returns c = 
+returns c =
     let a = c .before .before .args in
     let l : length (a .cards) ≡ mostCards = search needs in
     (sym (within-slots (a .cards) (a .count) (omega arith) (a .n) (sym (c .before .is-slots .ensures) ∙ not-true _ (c .if1 .taken))), λ t. absurd (false≢true t))
@@ -23,7 +23,7 @@ all-fit-requires : tie.Need-all-fit-requires
 all-fit-requires c κs = search needs
 
 returns-2 : tie.Need-returns-2
-returns-2 c = 
+returns-2 c =
     let a = c .before .before .before .before .args in
     let l : length (a .cards) ≡ mostCards = search needs in
     let s = sym (c .before .before .before .is-slots .ensures) ∙ not-false _ (c .before .before .if1 .left) in
@@ -33,7 +33,7 @@ is-apart-requires : tie.Need-is-apart-requires
 is-apart-requires c κs = search needs
 
 returns-3 : tie.Need-returns-3
-returns-3 c = 
+returns-3 c =
     let a = c .before .before .before .before .before .args in
     let l : length (a .cards) ≡ mostCards = search needs in
     let s = sym (c .before .before .before .before .is-slots .ensures) ∙ not-false _ (c .before .before .before .if1 .left) in

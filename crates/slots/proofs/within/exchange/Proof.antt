@@ -18,14 +18,14 @@ take-all-requires : tie.Need-take-all-requires
 take-all-requires c κs = search needs
 
 array-share-prefix-heard : tie.Need-array-share-prefix-heard
-array-share-prefix-heard c = 
+array-share-prefix-heard c =
     let a = c .before .before .before .before .args in
     let t = c .before .take-all in
     let v : Front (heardFrom (now (a .frame)) (take (a .count) (a .cards))) (t .result .bits) (t .last .1 .1 .1 .0) = front-of _ _ (t .result .bits) (t .last .1 .1 .1 .0) (ap (λ y. y .bits) (t .ensures .0)) (t .ensures .1) in
     v .fits
 
 slice-aggregate-hear-rules : tie.Need-slice-aggregate-hear-rules
-slice-aggregate-hear-rules c = 
+slice-aggregate-hear-rules c =
     let a = c .before .before .before .before .before .args in
     let t = c .before .before .take-all in
     let v : Front (heardFrom (now (a .frame)) (take (a .count) (a .cards))) (t .result .bits) (t .last .1 .1 .1 .0) = front-of _ _ (t .result .bits) (t .last .1 .1 .1 .0) (ap (λ y. y .bits) (t .ensures .0)) (t .ensures .1) in
@@ -36,7 +36,7 @@ hear-rules-requires c κs = search needs
 
 returns : tie.Need-returns
 unfolding exchanged
-returns c = 
+returns c =
     let a = c .before .before .before .before .before .before .before .args in
     let t = c .before .before .before .before .take-all in
     let v : Front (heardFrom (now (a .frame)) (take (a .count) (a .cards))) (t .result .bits) (t .last .1 .1 .1 .0) = front-of _ _ (t .result .bits) (t .last .1 .1 .1 .0) (ap (λ y. y .bits) (t .ensures .0)) (t .ensures .1) in

@@ -32,7 +32,7 @@ same-length : tie.Need-same-length
 same-length c = search needs
 
 returns : tie.Need-returns
-returns c = 
+returns c =
     let p = c .before .before .before .before .before .before .before in
     let a = p .before .before .before .before .before .args in
     let l : length (a .t2) ≡ 12 = search needs in

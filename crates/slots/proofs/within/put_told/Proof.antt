@@ -31,7 +31,7 @@ enum-told-4 : tie.Need-enum-told-4
 enum-told-4 c = search needs
 
 returns : tie.Need-returns
-returns c = 
+returns c =
     let a = c .before .before .before .before .args in
     let k = puts-quiet (a .t) (now (a .list)) (a .at) _ (c .enum-told .given .1) refl in
     (k .count, (k .row, k .size))
@@ -40,7 +40,7 @@ same-length : tie.Need-same-length
 same-length c = search needs
 
 returns-2 : tie.Need-returns-2
-returns-2 c = 
+returns-2 c =
     let a = c .before .before .before .before .before .before .before .before .before .args in
     let k = puts-told (a .t) (now (a .list)) (a .at) _ (c .before .before .before .before .before .a .given .1) _ _ refl (search needs) (c .before .before .put-entry .ensures) in
     (k .count, (k .row, k .size))
@@ -49,25 +49,25 @@ same-length-2 : tie.Need-same-length-2
 same-length-2 c = search needs
 
 returns-3 : tie.Need-returns-3
-returns-3 c = 
+returns-3 c =
     let a = c .before .before .before .before .before .before .before .before .before .args in
     let k = puts-told (a .t) (now (a .list)) (a .at) _ (c .before .before .before .before .before .a2 .given .1) _ _ refl (search needs) (c .before .before .put-entry2 .ensures) in
     (k .count, (k .row, k .size))
 
 returns-4 : tie.Need-returns-4
-returns-4 c = 
+returns-4 c =
     let a = c .before .before .before .before .args in
     let k = puts-quiet (a .t) (now (a .list)) (a .at) _ (c .enum-told2 .given .1) refl in
     (k .count, (k .row, k .size))
 
 returns-5 : tie.Need-returns-5
-returns-5 c = 
+returns-5 c =
     let a = c .before .before .before .before .args in
     let k = puts-quiet (a .t) (now (a .list)) (a .at) _ (c .enum-told3 .given .1) refl in
     (k .count, (k .row, k .size))
 
 returns-6 : tie.Need-returns-6
-returns-6 c = 
+returns-6 c =
     let a = c .before .before .before .before .args in
     let k = puts-quiet (a .t) (now (a .list)) (a .at) _ (c .enum-told4 .given .1) refl in
     (k .count, (k .row, k .size))

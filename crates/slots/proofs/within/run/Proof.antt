@@ -22,7 +22,7 @@ turn-requires : tie.Need-turn-requires Inv-loop μ-loop
 turn-requires c κs = tt
 
 loop-holds : tie.Need-loop-holds Inv-loop μ-loop
-loop-holds c = 
+loop-holds c =
     let a = c .before .before .args in
     under-none (a .wake) (a .n) (a .afi) (a .count) (a .cards) (now (a .list)) _ (c .turn .ensures) refl refl refl (search needs)
 
@@ -30,7 +30,7 @@ goes-on-requires : tie.Need-goes-on-requires Inv-loop μ-loop
 goes-on-requires c κs = tt
 
 step-requires : tie.Need-step-requires Inv-loop μ-loop
-step-requires c κs = 
+step-requires c κs =
     let l = c .before .before .before .loop in
     let a = c .before .before .before .before .before .before .args in
     let k = c .before .before .before .before .before .before .pre in
@@ -38,14 +38,14 @@ step-requires c κs =
     under-room (a .wake) (a .n) (a .afi) (a .count) _ (a .cards) (now (a .list)) (l .p) (l .list) (l .inv) g (k .0) (k .1) (k .2)
 
 loop-less : tie.Need-loop-less Inv-loop μ-loop
-loop-less c = 
+loop-less c =
     let l = c .before .before .before .before .before .before .loop in
     let a = c .before .before .before .before .before .before .before .before .before .args in
     let g : goesOn (l .p) (a .n) ≡ true = sym (c .before .before .before .before .before .goes-on .ensures) ∙ c .before .before .before .before .if1 .taken in
     fewer-left (a .wake) (a .n) (a .afi) (a .count) (l .p) _ g (c .before .before .step .ensures .0)
 
 loop-again : tie.Need-loop-again Inv-loop μ-loop
-loop-again c = 
+loop-again c =
     let l = c .before .before .before .before .before .before .loop in
     let a = c .before .before .before .before .before .before .before .before .before .args in
     let k = c .before .before .before .before .before .before .before .before .before .pre in
@@ -57,7 +57,7 @@ same-length : tie.Need-same-length Inv-loop μ-loop
 same-length c = c .before .before .loop .inv .list-size
 
 returns : tie.Need-returns Inv-loop μ-loop
-returns c = 
+returns c =
     let l = c .before .before .loop in
     let a = c .before .before .before .before .before .args in
     let g : goesOn (l .p) (a .n) ≡ false = sym (c .before .goes-on .ensures) ∙ c .if1 .left in (

@@ -17,7 +17,7 @@ exchange-requires : tie.Need-exchange-requires
 exchange-requires c κs = search needs
 
 returns : tie.Need-returns
-returns c = 
+returns c =
     let a = c .before .before .before .before .before .args in
     c .exchange .ensures ∙ ap (exchanged (a .r) (a .cards) (a .count)) (c .before .before .request .ensures ∙ out-request (a .wake) (a .afi) (a .r) (c .before .before .before .if1 .taken))
 
@@ -32,7 +32,7 @@ exchange-requires-2 c κs = search needs
 
 returns-2 : tie.Need-returns-2
 unfolding next
-returns-2 c = 
+returns-2 c =
     let a = c .before .before .before .before .before .args in
     c .exchange2 .ensures ∙ ap (exchanged (a .r) (a .cards) (a .count)) (c .before .before .marker .ensures ∙ out-marker (a .wake) (a .afi) (a .r) (c .before .before .before .if1 .left))
 

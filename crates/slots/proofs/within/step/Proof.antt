@@ -22,7 +22,7 @@ add-t15 : tie.Need-add-t15
 add-t15 c = search needs
 
 add-t16 : tie.Need-add-t16
-add-t16 c = 
+add-t16 c =
     let a = c .before .before .before .before .before .before .before .before .before .before .before .before .before .before in
     omega (arith, a .pre .1, a .pre .2, c .before .before .before .before .before .put-told .ensures .0, told-most (c .before .before .before .before .before .before .before .before .before .send .result .turn))
 
@@ -31,7 +31,7 @@ same-length c = search needs
 
 returns : tie.Need-returns
 unfolding stepped
-returns c = 
+returns c =
     let x = c .before .before .before .before .before .before .before .before .before .send in
     let f = c .before .before .before .before .before .put-told in
     (rw (f .ensures .0, x .ensures), (f .ensures .1 .0, f .ensures .1 .1))
