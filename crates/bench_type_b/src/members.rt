@@ -90,12 +90,13 @@ fn card_words(text: &[u8]) -> CardWords {
     let markers = words::choice(b"yes no", 2, bench::word(text, 4));
     let data = words::exact_or(bench::word(text, 5), 4, zeros);
     let info = words::exact_or(bench::word(text, 6), 3, usual);
+    let three_bytes = info.bytes;
     let c = CardB {
         pupi: words::four(pupi),
         afi: bench_lines::within_byte(afi),
         markers: markers == 0,
         application: words::four(data),
-        protocol: three(info.bytes),
+        protocol: three(three_bytes),
         state: state_of(state),
     };
     CardWords {
@@ -149,6 +150,16 @@ fn draw(bench: Bench, text: &[u8]) -> Reply {
     if !words::is_end(text, n + 1) {
         return lines::none(bench);
     }
+    let d = draw_all(f, text);
+    if !d.is_understood {
+        return lines::none(bench);
+    }
+    let g = d.field;
+    lines::plain(with_field(bench, g), answers::OK)
+}
+
+// Each card's number.
+fn draw_all(f: Field, text: &[u8]) -> DrawnField {
     let mut d = DrawnField {
         is_understood: true,
         field: f,
@@ -156,11 +167,7 @@ fn draw(bench: Bench, text: &[u8]) -> Reply {
     for i in 0..40usize {
         d = drawn(d, i, bench::word(text, i + 1));
     }
-    if !d.is_understood {
-        return lines::none(bench);
-    }
-    let g = d.field;
-    lines::plain(with_field(bench, g), answers::OK)
+    d
 }
 
 fn drawn(x: DrawnField, i: usize, word: &[u8]) -> DrawnField {

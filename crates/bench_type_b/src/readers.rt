@@ -178,8 +178,9 @@ fn air(bench: Bench, text: &[u8]) -> Reply {
     let mut row = [0u8; 112];
     let a = places::take_all(f, bench::front(&frame, bench.bits), &mut row);
     let g = a.field;
-    heard(
-        crate::members::with_field(bench, g),
-        bench::front(&row, a.bits),
-    )
+    aired(crate::members::with_field(bench, g), &row, a.bits)
+}
+
+fn aired(bench: Bench, row: &[u8; 112], n: usize) -> Reply {
+    heard(bench, bench::front(row, n))
 }

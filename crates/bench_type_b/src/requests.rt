@@ -108,14 +108,14 @@ fn told(bench: Bench, a: AnswerB, slots: usize) -> Answer {
     bench_lines::refused(e)
 }
 
-fn put_slots(slots: usize, list: &[u8; 1024]) {
+fn put_slots(slots: usize, list: &[u8]) {
     for i in 0..16usize {
         put_slot(i, slots, list);
     }
 }
 
 // A slot as the list has it.
-fn put_slot(i: usize, slots: usize, list: &[u8; 1024]) {
+fn put_slot(i: usize, slots: usize, list: &[u8]) {
     if i >= 16 {
         return;
     }
@@ -123,6 +123,13 @@ fn put_slot(i: usize, slots: usize, list: &[u8; 1024]) {
         return;
     }
     let at = 13 * i;
-    let k = list[at] as usize;
-    bench_talk::put_line(answers::slot(i + 1, k, bench::front(&list[at + 1..], 12)));
+    if list.len() < at + 13 {
+        return;
+    }
+    let k = wide(list[at]);
+    bench_talk::put_line(answers::slot(i + 1, k, &list[at + 1..at + 13]));
+}
+
+fn wide(x: u8) -> usize {
+    x as usize
 }

@@ -1,7 +1,7 @@
 // Words with their bounds, and those that may be left out.
 
 // Bytes of a word, at the front; where the word is not understood they are of no meaning.
-pub struct Exact {
+pub struct ExactBytes {
     pub is_understood: bool,
     pub bytes: [u8; 12],
 }
@@ -12,19 +12,19 @@ pub fn is_end(text: &[u8], k: usize) -> bool {
 }
 
 // Just n bytes.
-pub fn exact(word: &[u8], n: usize) -> Exact {
+pub fn exact(word: &[u8], n: usize) -> ExactBytes {
     let mut bytes = [0u8; 12];
     let k = bench_lines::count_bytes(word, &mut bytes);
-    Exact {
+    ExactBytes {
         is_understood: k == n,
         bytes,
     }
 }
 
 // .. or these, where the word is left out.
-pub fn exact_or(word: &[u8], n: usize, bytes: [u8; 12]) -> Exact {
+pub fn exact_or(word: &[u8], n: usize, bytes: [u8; 12]) -> ExactBytes {
     if word.len() == 0 {
-        return Exact {
+        return ExactBytes {
             is_understood: true,
             bytes,
         };
@@ -51,6 +51,6 @@ pub fn choice(list: &[u8], n: usize, word: &[u8]) -> usize {
 }
 
 // The first four bytes.
-pub fn four(e: Exact) -> [u8; 4] {
+pub fn four(e: ExactBytes) -> [u8; 4] {
     [e.bytes[0], e.bytes[1], e.bytes[2], e.bytes[3]]
 }

@@ -1,0 +1,3 @@
+pub mod AfiTable
+pub mod FrameBTable
+pub mod Witness
