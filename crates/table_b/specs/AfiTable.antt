@@ -44,11 +44,11 @@ other-family x z y a n h =
 
 own-one : (own : ℕ) → admits own own ≡ true
 unfolding admits
-own-one own = rw (eqb-same own) (go (eqb own 0x00))
+own-one own = rw (eqb-same own) (go (eqb own 0x00) (eqb (own % 16) 0 && eqb (own / 16) (own / 16)))
   where
-    go : (a : Bool) → (a || true) ≡ true
-    go true = refl
-    go false = refl
+    go : (a b : Bool) → (a || true || b) ≡ true
+    go true b = refl
+    go false b = refl
 
 other-one : (asked own : ℕ) → asked % 16 ≢ 0 → asked ≢ own → admits asked own ≡ false
 unfolding admits
