@@ -6,7 +6,7 @@ ghost use Rattle.limits.specs.Limits.{mostCards};
 ghost use Rattle.rows.specs.Rows.{overlay};
 ghost use Rattle.frame_b.specs.LimitsB.{answerRoomB};
 ghost use Rattle.field.specs.Merge.{join};
-ghost use Rattle.field_b.specs.FieldB.{takesB, answersB, heardFrom};
+ghost use Rattle.field_b.specs.FieldB.{answersB, heardFrom};
 ghost use Rattle.field_b.specs.CallsB.{together, one};
 use crate::Drawn;
 use limits::MOST_CARDS;

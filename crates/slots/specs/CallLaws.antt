@@ -17,7 +17,7 @@ use Rattle.reader_b.specs.ReaderB.{isReady}
 use Rattle.slots_rules.specs.Claim as claims
 use Rattle.slots_rules.specs.ClaimLaws.{claim}
 use Rattle.slots_rules.specs.RunB.{Out, inquiry, listBytes}
-use Rattle.slots_rules.specs.TermsB.{idleOrHalted, cardFits, allFit, apart, within}
+use Rattle.slots_rules.specs.TermsB.{idleOrHalted, cardFits, allFit, within}
 use Rattle.slots.specs.Inquiry.{call, refused, done, inquiryOf}
 use Rattle.slots.specs.Promise.{Terms, answerSays, inquirySays, Inquires}
 use Rattle.slots.specs.Steps.{ends}

@@ -1,16 +1,13 @@
 -- Laws of one slot of a request: what is heard stands at the row's front, a slot's entry of the list, and whether it goes on. Assumes nothing.
 use mathlib.Core.Path.{_≡_, refl, sym, ap, _∙_}
-use Prim.Native.Nat.{ℕ, _+_, _*_, _≤_, _<_}
-use native.Mathlib.Nat.{zero-add}
+use Prim.Native.Nat.{ℕ, _+_, _*_, _≤_}
 use native.Mathlib.Omega.{arith}
 use mathlib.Core.Bool.{Bool}
 use mathlib.Core.List.{List, [], _∷_, _++_}
-use lib.ListN.{length, take, replicate, length-append}
-use lib.Dec.{eqb}
+use lib.ListN.{length, take, length-append}
 use borrow.Author.Tests.{eq-eqb, ne-eqb}
 use Rattle.rows.specs.Rows.{overlay}
 use Rattle.rows.specs.RowLaws.{overlay-front, overlay-nil, overlay-next}
-use Rattle.frame_b.specs.LimitsB.{answerRoomB}
 use Rattle.selection_b.specs.HeardB.{heldNumber, entry}
 use Rattle.selection_b.specs.TypeB.{request}
 use Rattle.field.specs.TakeLaws.{front-fits}

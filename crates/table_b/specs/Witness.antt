@@ -1,11 +1,11 @@
 -- The claim's terms can be met, and so can those of the call: two cards, idle, in slots 1 and 2 of 2. What comes of it by value stands in
 -- slots_rules/specs/Example.antt. Assumes nothing.
-use mathlib.Core.Path.{_≡_, refl}
+use mathlib.Core.Path.{refl}
 use Prim.Native.Nat.{ℕ}
 use native.Mathlib.Omega.{arith}
 use mathlib.Core.Bool.{true}
 use mathlib.Core.List.{List, [], _∷_}
-use lib.ListN.{length, replicate, length-replicate}
+use lib.ListN.{replicate, length-replicate}
 use Rattle.rows.specs.Rows.{any, same}
 use Rattle.frame_b.specs.LimitsB.{listRoomB}
 use Rattle.selection_b.specs.TypeB.{isSlots}

@@ -3,7 +3,6 @@ use mathlib.Core.Path.{_≡_, sym, _∙_}
 use mathlib.Core.Bool.{true}
 use borrow.Author.Tests.{not-true, not-false}
 use denote.Ref.{now}
-use native.Mathlib.Omega.{arith}
 use lib.ListN.{take}
 use Rattle.selection_b.specs.SlotsLaws.{slots-most}
 use Rattle.reader_b.specs.ReaderB.{isReady}

@@ -1,10 +1,8 @@
 -- `slots::within::put_entry` meets its contract. Assumes nothing.
-use mathlib.Core.Path.{_≡_, ap, _∙_}
+use mathlib.Core.Path.{_≡_}
 use native.Mathlib.Omega.{arith}
 use denote.Ref.{now}
 use lib.ListN.{length}
-use mathlib.Core.List.{[], _∷_}
-use Rattle.rows.specs.Rows.{overlay}
 use Rattle.slots.specs.StepLaws.{entry-put}
 use borrow.Author.Needs.{needs}
 use Rattle.slots.proofs.within.put_entry.Statement.{statement}

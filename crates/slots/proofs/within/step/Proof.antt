@@ -1,9 +1,6 @@
 -- `slots::within::step` meets its contract. Assumes nothing.
-use mathlib.Core.Path.{_≡_, ap}
 use native.Mathlib.Omega.{arith}
-use denote.Ref.{now}
-use lib.ListN.{length}
-use Rattle.slots.specs.Steps.{toldBy, stepped}
+use Rattle.slots.specs.Steps.{stepped}
 use Rattle.slots.specs.StepLaws.{told-most}
 use borrow.Author.Needs.{needs}
 use Rattle.slots.proofs.within.step.Statement.{statement}
