@@ -5,3 +5,4 @@ pub mod TermLaws
 pub mod StepLaws
 pub mod RunLaws
 pub mod CallLaws
+pub mod Witness

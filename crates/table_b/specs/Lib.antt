@@ -1,3 +1,0 @@
-pub mod AfiTable
-pub mod FrameBTable
-pub mod Witness
