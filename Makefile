@@ -1,8 +1,8 @@
 # `make run` shows the main job, `make test` is the gate.
-# `make sweep FIELD=..`, `make card`, `make reader`, `make front` prove a program, then run it on a file of samples/.
+# `make sweep FIELD=..`, `make card`, `make reader`, `make front`, `make type_b` prove a program, then run it on a file of samples/.
 # `make speed` measures the core's CRC against Rust programs of our own.
 # `make vectors` writes the programs' scripts and expected output anew, from the independent model.
-.PHONY: run sweep card reader front speed test toolchain vectors vectors-check model-check pages impostors
+.PHONY: run sweep card reader front type_b speed test toolchain vectors vectors-check model-check pages impostors
 
 CARGO = --quiet --release --offline --locked --manifest-path model/Cargo.toml
 MODEL = cargo run $(CARGO) --
@@ -45,6 +45,9 @@ reader: toolchain
 
 front: toolchain
 	$(call proved-run,bench_front,samples/front.txt)
+
+type_b: toolchain
+	$(call proved-run,bench_type_b,samples/type_b.txt)
 
 # No part of the gate: a time is the machine's, and what else it does at that moment.
 speed: toolchain

@@ -219,6 +219,43 @@ fn expected_of_front() -> Vec<Key> {
     keys
 }
 
+/// The places of T-05 that `bench_type_b` must reach: every rule of the card, every test of the reader, every refusal of the request over a field.
+fn expected_of_type_b() -> Vec<Key> {
+    let mut keys = Vec::new();
+    let mut add = |table: &str, row: &str, columns: &[&str]| {
+        keys.extend(columns.iter().map(|column| (format!("Type B {table}"), row.to_string(), column.to_string())));
+    };
+    for state in ["off", "idle", "requested", "declared", "active", "halt"] {
+        add("card", state, &["REQB", "WUPB", "marker", "ATTRIB", "HLTB", "else", "6"]);
+        add("power", state, &["on", "off"]);
+    }
+    // A card without markers is never requested.
+    for state in ["idle", "requested", "declared", "halt"] {
+        let all = ["not admitted", "slot 1", "other slot, markers", "other slot, no markers"];
+        add("request", state, &all[..if state == "requested" { 3 } else { 4 }]);
+    }
+    add("marker", "own", &["requested"]);
+    add("marker", "another", &["requested"]);
+    add("PUPI", "ATTRIB", &["own", "another"]);
+    add("PUPI", "HLTB", &["own", "another"]);
+    for call in ["REQB", "WUPB", "ATTRIB", "HLTB"] {
+        for phase in ["slot", "ATTRIB sent", "HLTB sent", "stopped"] {
+            add(call, phase, &["11"]);
+        }
+        add(call, "ready", if call == "HLTB" { &["taken"] } else { &["taken", "6"] });
+    }
+    add("row", "slot", &["none", "one", "more", "2", "4", "9"]);
+    add("row", "ATTRIB sent", &["good", "7", "2", "8", "4", "9"]);
+    add("row", "HLTB sent", &["good", "7", "2", "8", "4", "9"]);
+    add("row", "ready", &["11"]);
+    add("row", "stopped", &["11"]);
+    add("field", "11", &["slot", "ATTRIB sent", "HLTB sent", "stopped"]);
+    add("field", "1", &["list"]);
+    add("field", "6", &["N", "too many", "number", "PUPI twice", "off", "requested", "declared", "active"]);
+    add("field", "taken", &["N 1", "N 2", "N 4", "N 8", "N 16", "within the claim"]);
+    keys
+}
+
 /// The places that `vectors_calls` must reach: every refusal of every call, and what a bench cannot lend.
 fn expected_of_calls() -> Vec<Key> {
     let mut keys = Vec::new();
@@ -281,8 +318,11 @@ pub fn report() -> Result<(), String> {
     let fields = reached();
     crate::write::front_script();
     let fronts = reached();
+    crate::write::type_b_script();
+    let type_b = reached();
     let mut expected = expected();
     expected.extend(expected_of_front());
+    expected.extend(expected_of_type_b());
     let of_calls = expected_of_calls();
     let mut missing = Vec::new();
     let mut table = String::new();
@@ -292,6 +332,7 @@ pub fn report() -> Result<(), String> {
             false if key.0.starts_with("exchange") => &exchanges,
             false if key.0.starts_with("field") => &fields,
             false if key.0.starts_with("front") => &fronts,
+            false if key.0.starts_with("Type B") => &type_b,
             false => &benches,
         };
         if *key.0 != table {
@@ -305,7 +346,7 @@ pub fn report() -> Result<(), String> {
         }
     }
     for (key, count) in
-        benches.iter().chain(&exchanges).chain(&fronts).chain(calls.iter().filter(|(key, _)| key.0.starts_with("call")))
+        benches.iter().chain(&exchanges).chain(&fronts).chain(&type_b).chain(calls.iter().filter(|(key, _)| key.0.starts_with("call")))
     {
         if !expected.contains(key) && !of_calls.contains(key) {
             missing.push(format!("reached {count} times but not in the list: {} / {} / {}", key.0, key.1, key.2));

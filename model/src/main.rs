@@ -4,6 +4,7 @@ mod bench_card;
 mod bench_front;
 mod bench_reader;
 mod bench_sweep;
+mod bench_type_b;
 mod blocks;
 mod card;
 mod card_link;
@@ -22,6 +23,7 @@ mod reader_link;
 mod refusal;
 mod scripts;
 mod sweep;
+mod type_b;
 mod uid;
 mod vectors_calls;
 mod vectors_exchange;
@@ -29,12 +31,12 @@ mod vectors_frame;
 mod write;
 
 const USAGE: &str = "\
-model vectors_frame | vectors_front | vectors_sweep | vectors_exchange | vectors_calls | bench_sweep | bench_card | bench_reader | bench_front
+model vectors_frame | vectors_front | vectors_sweep | vectors_exchange | vectors_calls | bench_sweep | bench_card | bench_reader | bench_front | bench_type_b
                                          play a script from standard input
 model write DIR                          write the stored scripts and their answers
 model check DIR                          compare the stored ones with what would be written
 model coverage                           what the stored scripts reach
-model scripts card|reader|field|exchange|lossy|front COUNT SEED   random scripts for larger comparisons";
+model scripts card|reader|field|exchange|lossy|front|type_b COUNT SEED   random scripts for larger comparisons";
 
 fn report(outcome: Result<(), String>) {
     if let Err(what) = outcome {
@@ -53,7 +55,8 @@ fn random_scripts(kind: &str, count: &str, seed: &str) -> Result<(), String> {
         "exchange" => scripts::exchange::random_scripts(count, seed).input,
         "lossy" => scripts::lossy::random_scripts(count, seed).input,
         "front" => scripts::front::random_scripts(count, seed).input,
-        _ => return Err("scripts for card, reader, field, exchange, lossy or front".to_string()),
+        "type_b" => scripts::type_b::random_scripts(count, seed).input,
+        _ => return Err("scripts for card, reader, field, exchange, lossy, front or type_b".to_string()),
     };
     print!("{text}");
     Ok(())
@@ -72,6 +75,7 @@ fn main() {
         ["bench_front"] => language::play(bench_front::BenchFront::new()),
         ["vectors_front"] => language::play(bench_front::VectorsFront::new()),
         ["bench_reader"] => language::play(bench_reader::BenchReader::new()),
+        ["bench_type_b"] => language::play(bench_type_b::BenchTypeB::new()),
         ["write", folder] => report(write::write(folder)),
         ["check", folder] => report(write::check(folder)),
         ["coverage"] => report(coverage::report()),

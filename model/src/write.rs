@@ -32,6 +32,7 @@ pub fn all() -> Vec<Stored> {
         stored("bench_sweep", scripts::field::locker()),
         stored("bench_front", scripts::front::script(SEED + 8)),
         stored("vectors_front", scripts::front::selections(SEED + 9)),
+        stored("bench_type_b", scripts::type_b::script(SEED + 10)),
     ]
 }
 
@@ -63,6 +64,14 @@ pub fn bench_scripts() {
     card.lines().for_each(|line| drop(replayed.say(line)));
     let mut replayed = Script::new(crate::bench_reader::BenchReader::new());
     reader.lines().for_each(|line| drop(replayed.say(line)));
+}
+
+/// Plays the script of Type B again, for what it reaches.
+pub fn type_b_script() {
+    let input = scripts::type_b::script(SEED + 8).input;
+    crate::coverage::forget();
+    let mut replayed = Script::new(crate::bench_type_b::BenchTypeB::new());
+    input.lines().for_each(|line| drop(replayed.say(line)));
 }
 
 /// Plays the script of both ends again, for what it reaches.

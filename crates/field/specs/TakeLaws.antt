@@ -91,7 +91,7 @@ heard-turn f (suc i) n cs d z h k =
     rw (e, drop-cons (take n cs) i d (rw length-take (omega arith)), getD-take n cs i d (omega arith))
 
 -- a longer row takes the place of a shorter one
-over : (d s t : List ℕ) → length s ≤ length t → overlay (overlay d 0 s) 0 t ≡ overlay d 0 t
+pub over : (d s t : List ℕ) → length s ≤ length t → overlay (overlay d 0 s) 0 t ≡ overlay d 0 t
 over d s t h =
     let e : length t ≡ length s + (length t - length s) = omega arith in
     rw (front (overlay d 0 s) t, front d s, front d t) (ap (λ r. t ++ r) (rw (e, drop-append-add, drop-drop)))

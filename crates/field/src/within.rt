@@ -45,7 +45,7 @@ fn beside(x: u8, y: u8, others: bool) -> u8
 }
 
 // An answer sent together with the first bits of a row: what is heard then stands at the front of the row. The result is its number of bits.
-fn join(row: &mut [u8], bits: usize, answer: &[u8]) -> usize
+pub fn join(row: &mut [u8], bits: usize, answer: &[u8]) -> usize
     requires { ⌜ (bits ≤ length (now row)) × (length (now answer) ≤ length (now row)) ⌝ }
     ensures { λ r. ⌜ r ≡ length (join (now (answer .entry)) (take bits (now (row .entry)))) ⌝ }
     ensures { λ r. ⌜ now (row .exit) ≡ overlay (now (row .entry)) 0 (join (now (answer .entry)) (take bits (now (row .entry)))) ⌝ }

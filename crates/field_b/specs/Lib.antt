@@ -1,0 +1,3 @@
+pub mod FieldB
+pub mod CallsB
+pub mod TakeBLaws
