@@ -59,10 +59,17 @@ fn say_swept(s: Swept, count: usize, has_trace: bool, log: &[u8], list: &[u8]) {
 fn say_log(log: &[u8]) {
     bench_talk::put_piece(bench_talk::raw(said(LOG), b" "));
     for i in 0..PIECES {
-        let piece = bench::front(behind(log, PIECE * i), PIECE);
-        bench_talk::put_piece(bench_talk::hex(bench_talk::none(), piece));
+        say_piece(bench::front(behind(log, PIECE * i), PIECE));
     }
     bench_talk::put_line(bench_talk::none());
+}
+
+// No bytes are no text here: `-` stands for them only where they are all that is said.
+fn say_piece(bytes: &[u8]) {
+    if bytes.len() == 0 {
+        return;
+    }
+    bench_talk::put_piece(bench_talk::hex(bench_talk::none(), bytes));
 }
 
 // A line for each record, where the trace is wanted.

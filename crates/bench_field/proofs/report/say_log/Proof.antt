@@ -35,14 +35,8 @@ behind-requires c κs = tt
 front-requires : tie.Need-front-requires Inv-loop μ-loop
 front-requires c κs = tt
 
-none-requires : tie.Need-none-requires Inv-loop μ-loop
-none-requires c κs = tt
-
-hex-requires : tie.Need-hex-requires Inv-loop μ-loop
-hex-requires c κs = tt
-
-put-piece-requires-2 : tie.Need-put-piece-requires-2 Inv-loop μ-loop
-put-piece-requires-2 c κs = tt
+say-piece-requires : tie.Need-say-piece-requires Inv-loop μ-loop
+say-piece-requires c κs = tt
 
 add-i : tie.Need-add-i Inv-loop μ-loop
 add-i c = omega arith
@@ -53,8 +47,8 @@ loop-less c = omega arith
 loop-again : tie.Need-loop-again Inv-loop μ-loop
 loop-again c = omega arith
 
-none-requires-2 : tie.Need-none-requires-2 Inv-loop μ-loop
-none-requires-2 c κs = tt
+none-requires : tie.Need-none-requires Inv-loop μ-loop
+none-requires c κs = tt
 
 put-line-requires : tie.Need-put-line-requires Inv-loop μ-loop
 put-line-requires c κs = tt
@@ -76,12 +70,10 @@ say-log-spec =
     mul-behind
     behind-requires
     front-requires
-    none-requires
-    hex-requires
-    put-piece-requires-2
+    say-piece-requires
     add-i
     loop-less
     loop-again
-    none-requires-2
+    none-requires
     put-line-requires
     returns)
