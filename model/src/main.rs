@@ -10,6 +10,8 @@ mod card;
 mod card_link;
 mod coverage;
 mod crc;
+#[cfg(test)]
+mod delay;
 mod exchange;
 mod frames;
 mod front;

@@ -1,0 +1,9 @@
+pub mod Delay
+pub mod Kind
+pub mod Calls
+pub mod OffLaws
+pub mod KindLaws
+pub mod CallLaws
+pub mod DelayLaws
+pub mod SentLaws
+pub mod DelayTable
