@@ -4,3 +4,4 @@ pub mod RowLaws
 pub mod StoreLaws
 pub mod OpenLaws
 pub mod TurnLaws
+pub mod ArrayLaws

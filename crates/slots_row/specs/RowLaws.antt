@@ -24,6 +24,7 @@ use Rattle.reader_b.specs.declared.AnswerB.{AnswerB}
 use Rattle.reader_b.specs.declared.AnswerB.the-variants.{Sends, Marks, Ends, Attached, Halted, Declines}
 use Rattle.reader_b.specs.declared.ReaderB.{ReaderB}
 use Rattle.reader_b.specs.declared.TurnB.{TurnB}
+use Rattle.refusal.specs.declared.Refusal.{Refusal}
 use Rattle.refusal.specs.declared.Refusal.the-variants.{Room, Argument, NotDue}
 use Rattle.slots_row.specs.declared.request.Request.{Request}
 use Rattle.slots_row.specs.Row.{inquiredRow, rowOf, Promises}
@@ -51,27 +52,39 @@ inquiry-cards : (wake : Bool) (n afi : ℕ) (ds : List Drawn) → length (inquir
 unfolding inquiry
 inquiry-cards wake n afi ds = run-cards wake afi n (opens n) ds
 
+-- what the call gave, with other cards
+abbrev pub over : (Inquired → List Drawn) → Call → Call
+over f c = call (inquiredRow (rowOf (c .inquired)) (f (c .inquired))) (c .list)
+
 module _ (k : Request) where
   abbrev r : ReaderB
   r = k .reader
 
-  abbrev runOf : List Drawn → Out
+  abbrev pub runOf : List Drawn → Out
   runOf ds = inquiry (k .wake) (k .slots) (k .afi) ds
 
   -- two of the call's three tests
-  abbrev early : Bool
+  abbrev pub early : Bool
   early = not (isReady (r .phase))
 
-  abbrev short : List ℕ → Bool
+  abbrev pub short : List ℕ → Bool
   short list = ltb (length list) listRoomB
 
   -- the call by its tests, over an array whose first cards are the field ds; and its numbers
-  abbrev byTests : Bool → Bool → Bool → List Drawn → ℕ → List ℕ → List Drawn → Call
+  abbrev pub byTests : Bool → Bool → Bool → List Drawn → ℕ → List ℕ → List Drawn → Call
   byTests a b d cards n list ds =
       cond a (call (refused r cards NotDue) list) (cond b (call (refused r cards Room) list) (cond d (call (refused r cards Argument) list) (done cards n list (runOf ds))))
 
-  abbrev saysByTests : Bool → Bool → Bool → List Drawn → Said
+  abbrev pub saysByTests : Bool → Bool → Bool → List Drawn → Said
   saysByTests a b d ds = declineIf a 11 (declineIf b 1 (declineIf d 6 (answerSays (runOf ds .last .answer))))
+
+  -- it may be told of other cards where the refusals and the run may
+  pub same-tests : (f : Inquired → List Drawn) (h ys : List Drawn) (n : ℕ) (list : List ℕ) (ds : List Drawn) → ((e : Refusal) → f (refused r h e) ≡ ys)
+      → over f (done h n list (runOf ds)) ≡ done ys n list (runOf ds) → (a b d : Bool) → over f (byTests a b d h n list ds) ≡ byTests a b d ys n list ds
+  same-tests f h ys n list ds is run true b d = ap (λ x. call (refused r x NotDue) list) (is NotDue)
+  same-tests f h ys n list ds is run false true d = ap (λ x. call (refused r x Room) list) (is Room)
+  same-tests f h ys n list ds is run false false true = ap (λ x. call (refused r x Argument) list) (is Argument)
+  same-tests f h ys n list ds is run false false false = run
 
   -- the request leaves as many cards as there were
   pub made-cards : (h : List Drawn) (n : ℕ) (list : List ℕ) → length (inquiryOf r (k .wake) (k .slots) (k .afi) h n list .inquired .cards) ≡ length h
@@ -87,10 +100,6 @@ module _ (k : Request) where
   -- ---- the row of n cards ys, and an array h
 
   module _ (h ys : List Drawn) (n : ℕ) (list : List ℕ) (size : length ys ≡ n) (s : Inquired) (list₁ : List ℕ) (m : Promises k h n list s list₁) where
-    -- what the call gave, with other cards
-    abbrev over : (Inquired → List Drawn) → Call → Call
-    over f c = call (inquiredRow (rowOf (c .inquired)) (f (c .inquired))) (c .list)
-
     -- more cards than the limit: the row stays as it was
     pub too-many : mostCards < n → Promises k ys n list (inquiredRow (rowOf s) ys) list₁
     unfolding inquiryOf
@@ -133,13 +142,7 @@ module _ (k : Request) where
 
       is-call : over front (inquiryOf r (k .wake) (k .slots) (k .afi) h n list) ≡ inquiryOf r (k .wake) (k .slots) (k .afi) ys n list
       unfolding inquiryOf
-      is-call = rw one (go early (short list) (ltb mostCards n || not (within (k .slots) (take n h))))
-        where
-          go : (a b d : Bool) → over front (byTests a b d h n list (take n h)) ≡ byTests a b d ys n list (take n h)
-          go true b d = ap (λ x. call (refused r x NotDue) list) first
-          go false true d = ap (λ x. call (refused r x Room) list) first
-          go false false true = ap (λ x. call (refused r x Argument) list) first
-          go false false false = done-row
+      is-call = rw one (same-tests front h ys n list (take n h) (λ e. first) done-row early (short list) (ltb mostCards n || not (within (k .slots) (take n h))))
 
       terms-too : Terms r (k .slots) (k .afi) ys n list → Terms r (k .slots) (k .afi) h n list
       terms-too t = record { ready = t .ready; room = t .room; few = t .few; field = subst (claims.Terms (k .slots) (k .afi)) one (t .field) }

@@ -10,6 +10,7 @@ use reader_b::ReaderB;
 
 mod pass;
 mod request;
+pub mod within;
 
 // After the call: the reader and its last answer, Ends with what the last slot held, or why the request was declined; and how many slots stand in the
 // list.
