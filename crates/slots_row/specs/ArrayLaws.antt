@@ -11,7 +11,7 @@ use Rattle.limits.specs.Limits.{mostCards}
 use Rattle.slots_rules.specs.Claim as claims
 use Rattle.slots_rules.specs.TermsB.{within}
 use Rattle.slots.specs.Inquiry.{done, inquiryOf}
-use Rattle.slots.specs.Promise.{Terms, answerSays}
+use Rattle.slots.specs.Promise.{Terms}
 use Rattle.slots.specs.declared.Inquired.{Inquired}
 use Rattle.field_b.specs.declared.Drawn.{Drawn}
 use Rattle.slots_row.specs.declared.RowInquired.{RowInquired}
