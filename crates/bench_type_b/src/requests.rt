@@ -79,7 +79,7 @@ fn inquire(bench: Bench, wake: bool, n: u8, afi: u8) -> Reply {
     let f = bench.field;
     let r = bench.reader;
     let mut list = bench.list;
-    let s = slots::inquire(
+    let s = slots_row::within::inquire_by_row(
         r,
         wake,
         n,
