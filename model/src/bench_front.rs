@@ -2,7 +2,9 @@
 
 use crate::bench_reader::result;
 use crate::front::{receive, Gate, Profile};
-use crate::language::{read_hex, read_number, show_row, Program};
+use crate::coverage::note;
+use crate::delay::{frame_said, judge_row};
+use crate::language::{read_hex, read_number, read_row, read_tick, show_row, Program};
 use crate::reader::Reader;
 
 /// The most places that a room has.
@@ -43,6 +45,16 @@ fn profile_line(profile: &mut Profile, words: &[&str]) -> Option<Vec<String>> {
     Some(vec!["ok".to_string()])
 }
 
+/// What the judge said, for the counts.
+fn how(judged: Result<i64, u8>) -> &'static str {
+    match judged {
+        Err(_) => "refused",
+        Ok(off) if off < 0 => "early",
+        Ok(0) => "on time",
+        Ok(_) => "late",
+    }
+}
+
 pub struct BenchFront {
     profile: Profile,
     places: Vec<u8>,
@@ -80,6 +92,16 @@ impl Program for BenchFront {
                 Err(number) => format!("refused {number}"),
             },
             ["places"] => format!("places {}", self.shown()),
+            ["delay", row, sent, heard] => {
+                let row = read_row(row)?;
+                let (sent, heard) = (read_tick(sent)?, read_tick(heard)?);
+                let judged = judge_row(&row, sent, heard);
+                note("front delay", &frame_said(&row), how(judged));
+                match judged {
+                    Ok(off) => format!("off {off}"),
+                    Err(number) => format!("refused {number}"),
+                }
+            }
             _ => return profile_line(&mut self.profile, words),
         };
         Some(vec![answer])
@@ -144,6 +166,7 @@ mod tests {
         assert_eq!(script.say("room 0"), "room 0");
         assert_eq!(script.say("halves 7FC0000000000000"), "refused 1");
         assert_eq!(script.say("places"), "places -");
-        assert_eq!(script.say("delay 0110010 0 1172"), "line 17: not understood");
+        assert_eq!(script.say("delay 0110010 0"), "line 17: not understood");
+        assert_eq!(script.say("delay 110010010000001000 1000 2100"), "off -72");
     }
 }

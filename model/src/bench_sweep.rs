@@ -3,7 +3,7 @@
 use crate::card::{Card, State};
 use crate::card_link::Link;
 use crate::coverage::note;
-use crate::language::{read_hex, read_number, show_hex, show_row, Program};
+use crate::language::{read_hex, read_number, read_tick, show_hex, show_row, Program};
 use crate::log::trace;
 use crate::reader::{Answer, Reader};
 use crate::refusal;
@@ -20,19 +20,26 @@ struct Collected {
     refused: bool,
     log_room: usize,
     list_room: usize,
+    /// The tick of the log's first record.
+    tick: u32,
     /// The UID to wake, in place of the sweep.
     wake: Option<Vec<u8>>,
 }
 
 impl Default for Collected {
     fn default() -> Collected {
-        Collected { cards: Vec::new(), refused: false, log_room: LOG_ROOM, list_room: LIST_ROOM, wake: None }
+        Collected { cards: Vec::new(), refused: false, log_room: LOG_ROOM, list_room: LIST_ROOM, tick: 0, wake: None }
     }
 }
 
 impl Collected {
     /// A line that is no command of the program: a directive or a card. `None`: not understood.
     fn line(&mut self, words: &[&str]) -> Option<()> {
+        if words[0] == "tick" {
+            let [_, tick] = *words else { return None };
+            self.tick = read_tick(tick)?;
+            return Some(());
+        }
         if words[0] != "room" {
             return self.card_line(words);
         }
@@ -79,7 +86,7 @@ impl Collected {
         }
         note("field lent", against(self.log_room, LOG_ROOM), against(self.list_room, LIST_ROOM));
         note("field cards", against(cards.len(), MOST_CARDS), if self.log_room < LOG_ROOM { "short log" } else { "log" });
-        let swept = match sweep(&mut Reader::new(), &mut cards, self.log_room, self.list_room) {
+        let swept = match sweep(&mut Reader::new(), self.tick, &mut cards, self.log_room, self.list_room) {
             Ok(swept) => swept,
             Err(number) => return vec![format!("refused {number}")],
         };
@@ -230,7 +237,7 @@ mod tests {
         assert_eq!(lines[9], "< silence");
         let tail: Vec<&str> = lines[20..25].to_vec();
         assert_eq!(tail, ["frames 10", "found 01020304", "found 80122821", "card 80122821 halt 20 8", "card 01020304 halt 00 8"]);
-        assert!(lines[25].starts_with("log 000764401220"));
+        assert!(lines[25].starts_with("log 000700000000644012000000012000"));
     }
 
     #[test]
@@ -243,7 +250,7 @@ mod tests {
             let by_row = script.say("row");
             assert_eq!(script.say("row"), by_row);
             assert_eq!(script.say("sweep"), by_row);
-            assert_eq!(script.say("row"), "frames 1\nlog 000764C000");
+            assert_eq!(script.say("row"), "frames 1\nlog 00070000000064C00000000001");
             by_row
         };
         assert_eq!(ask(&["88020304"]), "refused 6");
@@ -251,12 +258,12 @@ mod tests {
         assert_eq!(ask(&["01020304", "01020304 halt"]), "refused 6");
         assert_eq!(ask(&["01020304 off"]), "refused 6");
         assert_eq!(ask(&["01020304 halt 00 9"]), "refused 6");
-        assert_eq!(ask(&["01020304 halt"]), "frames 1\ncard 01020304 halt 20 8\nlog 000764C000");
-        assert_eq!(ask(&["01020304 sleep"]), "frames 1\nlog 000764C000");
-        assert_eq!(ask(&["room 24576 351"]), "refused 1");
-        assert_eq!(ask(&["room 0 0", "room 65535 352"]), "frames 1\nlog 000764C000");
+        assert_eq!(ask(&["01020304 halt"]), "frames 1\ncard 01020304 halt 20 8\nlog 00070000000064C00000000001");
+        assert_eq!(ask(&["01020304 sleep"]), "frames 1\nlog 00070000000064C00000000001");
+        assert_eq!(ask(&["room 40960 351"]), "refused 1");
+        assert_eq!(ask(&["room 0 0", "room 65535 352"]), "frames 1\nlog 00070000000064C00000000001");
         assert_eq!(ask(&["room 0 0", "88020304"]), "refused 6");
-        assert_eq!(ask(&["room 0", "room 0 65536", "room 0 0 0"]), "frames 1\nlog 000764C000");
+        assert_eq!(ask(&["room 0", "room 0 65536", "room 0 0 0"]), "frames 1\nlog 00070000000064C00000000001");
         assert_eq!(ask(&["01020304 ready* 1"]), "refused 6");
         assert_eq!(ask(&["01020304 active*"]), "refused 6");
     }

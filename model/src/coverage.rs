@@ -57,6 +57,13 @@ fn expected() -> Vec<Key> {
         add("reader call", &[phase], &["select", "sweep", "wake", "RATS", "message", "DESELECT", "row"]);
     }
 
+    // T-09: each kind of frame, after each last data bit that it can have.
+    add(
+        "front delay",
+        &["REQA, 0", "WUPA, 1", "ANTICOLLISION, 0", "ANTICOLLISION, 1", "SELECT, 0", "SELECT, 1", "other, 0", "other, 1"],
+        &["early", "on time", "late", "refused"],
+    );
+
     // T-06: what is lent to a sweep, and how many cards, beside the limits.
     add("field lent", &["under", "as many", "over"], &["under", "as many", "over"]);
     add("field cards", &["under", "as many", "over"], &["short log", "log"]);

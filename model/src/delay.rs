@@ -5,6 +5,9 @@ use crate::frames::{self, byte_of, has_collision, Row};
 /// A delay of 2^31 carrier periods or more, taken modulo 2^32.
 pub const TOO_LONG: u8 = 14;
 
+/// Every other frame.
+const OTHER: &str = "other";
+
 /// Whole bytes with right parity, as many as the row begins with; `None` where one is wrong. And the bits left over.
 fn whole_bytes(row: &[u8]) -> Option<(Vec<u8>, &[u8])> {
     let whole = row.len() / 9 * 9;
@@ -19,22 +22,39 @@ fn whole_bytes(row: &[u8]) -> Option<(Vec<u8>, &[u8])> {
     Some((bytes, &row[whole..]))
 }
 
-/// REQA, WUPA, an ANTICOLLISION or a SELECT of level 1, 2 or 3 without damage. B is not looked at.
-fn has_one_delay(row: &[u8]) -> bool {
+/// REQA, WUPA, an ANTICOLLISION or a SELECT of level 1, 2 or 3 without damage, by name. B is not looked at.
+fn name(row: &[u8]) -> &'static str {
     if has_collision(row) {
-        return false;
+        return OTHER;
     }
-    if row == frames::short(frames::REQA) || row == frames::short(frames::WUPA) {
-        return true;
+    if row == frames::short(frames::REQA) {
+        return "REQA";
     }
-    let Some((bytes, left)) = whole_bytes(row) else { return false };
+    if row == frames::short(frames::WUPA) {
+        return "WUPA";
+    }
+    let Some((bytes, left)) = whole_bytes(row) else { return OTHER };
     if bytes.len() < 2 || ![0x93, 0x95, 0x97].contains(&bytes[0]) {
-        return false;
+        return OTHER;
     }
     let counted = (bytes.len() << 4 | left.len()) as u8;
     let anticollision = bytes.len() < 7 && left.len() < 8 && bytes[1] == counted;
     let select = left.is_empty() && bytes.len() == 9 && bytes[1] == 0x70 && frames::read_standard_with_crc(row, 9).is_ok();
-    anticollision || select
+    match (anticollision, select) {
+        (true, _) => "ANTICOLLISION",
+        (_, true) => "SELECT",
+        _ => OTHER,
+    }
+}
+
+/// Each of the four has one due delay.
+fn has_one_delay(row: &[u8]) -> bool {
+    name(row) != OTHER
+}
+
+/// The frame and its last data bit, for the counts.
+pub fn frame_said(row: &[u8]) -> String {
+    format!("{}, {}", name(row), after_one(row) as u8)
 }
 
 /// The last bit that is no ninth one; where there is none, or it collided, as after a 0.

@@ -181,6 +181,14 @@ pub fn read_number(word: &str, most: usize) -> Option<usize> {
     word.parse().ok().filter(|&n: &usize| n <= most)
 }
 
+/// A tick: one to ten decimal digits, below 2^32.
+pub fn read_tick(word: &str) -> Option<u32> {
+    if word.is_empty() || word.len() > 10 || !word.bytes().all(|c| c.is_ascii_digit()) {
+        return None;
+    }
+    word.parse().ok()
+}
+
 #[cfg(test)]
 mod tests {
     use super::*;

@@ -11,8 +11,9 @@ pub enum Record {
 }
 
 /// 2 bits kind, 1 zero bit, 13 bits giving the number of air bits, most significant first; then the air bits, first in the
-/// top bit, zero-filled to a byte. Kind 2 holds 0 at collided bits and adds an equally long row with 1 at them.
-pub fn record_bytes(record: &Record) -> Vec<u8> {
+/// top bit, zero-filled to a byte. Kind 2 holds 0 at collided bits and adds an equally long row with 1 at them. T-09: after the two bytes of the
+/// header stands the record's tick.
+pub fn record_bytes(tick: u32, record: &Record) -> Vec<u8> {
     let (kind, row) = match record {
         Record::Reader(row) => (0u16, row),
         Record::Heard(row) if row.is_empty() => (3, row),
@@ -22,6 +23,7 @@ pub fn record_bytes(record: &Record) -> Vec<u8> {
     assert!(row.len() < 1 << 13);
     let head = kind << 14 | row.len() as u16;
     let mut bytes = head.to_be_bytes().to_vec();
+    bytes.extend(tick.to_be_bytes());
     bytes.extend(pack(row));
     if kind == 2 {
         let collided: Row = row.iter().map(|&bit| (bit > 1) as u8).collect();
@@ -140,11 +142,11 @@ mod tests {
 
     #[test]
     fn records() {
-        assert_eq!(record_bytes(&Record::Reader(short(0x26))), hex("000764"));
-        assert_eq!(record_bytes(&Record::Heard(vec![])), hex("C000"));
-        assert_eq!(record_bytes(&Record::Heard(standard(&[4, 0]))), hex("4012200040"));
+        assert_eq!(record_bytes(0, &Record::Reader(short(0x26))), hex("00070000000064"));
+        assert_eq!(record_bytes(0x1234_5678, &Record::Heard(vec![])), hex("C00012345678"));
+        assert_eq!(record_bytes(1, &Record::Heard(standard(&[4, 0]))), hex("401200000001200040"));
         let both = merge(&[standard(&[4, 0]), standard(&[0x44, 0])]);
-        assert_eq!(record_bytes(&Record::Heard(both)), hex("8012200040028000"));
+        assert_eq!(record_bytes(u32::MAX, &Record::Heard(both)), hex("8012FFFFFFFF200040028000"));
     }
 
     #[test]

@@ -10,7 +10,6 @@ mod card;
 mod card_link;
 mod coverage;
 mod crc;
-#[cfg(test)]
 mod delay;
 mod exchange;
 mod frames;

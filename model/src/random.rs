@@ -26,6 +26,10 @@ impl Random {
         self.below(100) < percent
     }
 
+    pub fn word(&mut self) -> u32 {
+        (self.next() >> 16) as u32
+    }
+
     pub fn byte(&mut self) -> u8 {
         self.below(256) as u8
     }

@@ -7,8 +7,8 @@ use crate::reader::{Answer, Phase, Reader};
 use crate::refusal::{self, Refusal};
 use crate::uid;
 
-/// What the sweep asks for, by T-06.
-pub const LOG_ROOM: usize = 24_576;
+/// What the sweep asks for, by T-09 and T-06.
+pub const LOG_ROOM: usize = 40_960;
 pub const LIST_ROOM: usize = 352;
 
 #[derive(Clone, Debug, PartialEq)]
@@ -45,8 +45,8 @@ fn field_is_taken(cards: &[Card]) -> bool {
         && cards.iter().all(|c| matches!(c.state, State::Idle | State::Halt))
 }
 
-/// The sweep on this reader with this much room. Tests 11, 1, 6.
-pub fn sweep(reader: &mut Reader, cards: &mut [Card], log_room: usize, list_room: usize) -> Result<Swept, Refusal> {
+/// The sweep on this reader with this much room. Tests 11, 1, 6. T-09: the log's first record has the tick given, each after it the next.
+pub fn sweep(reader: &mut Reader, tick: u32, cards: &mut [Card], log_room: usize, list_room: usize) -> Result<Swept, Refusal> {
     if reader.phase != Phase::New {
         return Err(refusal::NOT_DUE);
     }
@@ -72,7 +72,8 @@ pub fn sweep(reader: &mut Reader, cards: &mut [Card], log_room: usize, list_room
         };
         let heard = field_takes(cards, &frame);
         for record in [Record::Reader(frame), Record::Heard(heard.clone())] {
-            swept.log.extend(record_bytes(&record));
+            let tick = tick.wrapping_add(swept.records.len() as u32);
+            swept.log.extend(record_bytes(tick, &record));
             swept.records.push(record);
         }
         next = reader.hear(&heard, &[], &mut []);
@@ -151,24 +152,31 @@ mod tests {
     }
 
     fn run(cards: &mut [Card]) -> Swept {
-        sweep(&mut Reader::new(), cards, LOG_ROOM, LIST_ROOM).unwrap()
+        sweep(&mut Reader::new(), 0, cards, LOG_ROOM, LIST_ROOM).unwrap()
     }
 
     #[test]
     fn no_cards() {
         let swept = run(&mut []);
-        assert_eq!(swept.log, hex("000764C000"));
+        assert_eq!(swept.log, hex("00070000000064C00000000001"));
         assert_eq!(swept.frames(), 1);
+        let last = sweep(&mut Reader::new(), u32::MAX, &mut [], LOG_ROOM, LIST_ROOM).unwrap();
+        assert_eq!(last.log, hex("0007FFFFFFFF64C00000000000"));
     }
 
     #[test]
     fn two_cards_log() {
         let swept = run(&mut field(&[("01020304", false), ("80122821", true)]));
-        let log = "000764 4012200040 0012C98200 802D0020002000008104 75149F90 0013C9C260 402C004060480400 \
+        // The records without their ticks, which count up from 0.
+        let log = "000764 4012200040 0012C98200 802D002000200000810475149F90 0013C9C260 402C004060480400 \
                    0051C98720080C090080E3A400 401B00BFA280 00240A807A9660 C000 000764 4012200040 0012C98200 \
-                   402D012445309D90 0051C9870049114C2764D53E00 401B041FC380 00240A807A9660 C000 000764 C000"
-            .replace(' ', "");
-        assert_eq!(swept.log, hex(&log));
+                   402D012445309D90 0051C9870049114C2764D53E00 401B041FC380 00240A807A9660 C000 000764 C000";
+        let mut due = Vec::new();
+        for (tick, record) in log.split_whitespace().enumerate() {
+            let bytes = hex(record);
+            due.extend([&bytes[..2], &(tick as u32).to_be_bytes()[..], &bytes[2..]].concat());
+        }
+        assert_eq!(swept.log, due);
         assert_eq!(swept.frames(), 10);
         assert_eq!(swept.found, [hex("01020304"), hex("80122821")]);
     }
@@ -186,10 +194,10 @@ mod tests {
         let mut cards = field(&[("01020304", true)]);
         let mut used = Reader::new();
         used.select();
-        assert_eq!(sweep(&mut used, &mut cards, 0, 0), Err(refusal::NOT_DUE));
-        assert_eq!(sweep(&mut Reader::new(), &mut cards, LOG_ROOM - 1, LIST_ROOM), Err(refusal::ROOM));
-        assert_eq!(sweep(&mut Reader::new(), &mut cards, LOG_ROOM, LIST_ROOM - 1), Err(refusal::ROOM));
+        assert_eq!(sweep(&mut used, 0, &mut cards, 0, 0), Err(refusal::NOT_DUE));
+        assert_eq!(sweep(&mut Reader::new(), 0, &mut cards, LOG_ROOM - 1, LIST_ROOM), Err(refusal::ROOM));
+        assert_eq!(sweep(&mut Reader::new(), 0, &mut cards, LOG_ROOM, LIST_ROOM - 1), Err(refusal::ROOM));
         cards[0].power_off();
-        assert_eq!(sweep(&mut Reader::new(), &mut cards, LOG_ROOM, LIST_ROOM), Err(refusal::ARGUMENT));
+        assert_eq!(sweep(&mut Reader::new(), 0, &mut cards, LOG_ROOM, LIST_ROOM), Err(refusal::ARGUMENT));
     }
 }

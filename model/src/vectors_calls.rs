@@ -136,7 +136,7 @@ fn field(count: usize, off: &str) -> Option<(Reader, Vec<Card>)> {
 
 fn swept(log: usize, list: usize, count: usize, off: &str) -> Option<Told> {
     let (mut reader, mut cards) = field(count, off)?;
-    Some(sweep::sweep(&mut reader, &mut cards, log, list).map(|s| format!("frames {}", s.frames())))
+    Some(sweep::sweep(&mut reader, 0, &mut cards, log, list).map(|s| format!("frames {}", s.frames())))
 }
 
 /// The first bytes of a UID, at most eleven: the one given, then 2, 3, 4 ..
@@ -273,7 +273,7 @@ mod tests {
         let mut s = Script::new(VectorsCalls::new());
         assert_eq!(s.say("write_short 6"), "refused 1");
         assert_eq!(s.say("write_short 7"), "bits 7");
-        assert_eq!(s.say("sweep 24576 352 33 none"), "refused 6");
+        assert_eq!(s.say("sweep 40960 352 33 none"), "refused 6");
         assert_eq!(s.say("sweep 0 0 33 used"), "refused 11");
         assert_eq!(s.say("rats 0 9"), "refused 11");
         assert_eq!(s.say("selected"), "ok");

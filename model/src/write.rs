@@ -160,9 +160,7 @@ mod tests {
     #[test]
     fn sizes() {
         for file in all() {
-            // Where the parity broke takes 256 rows, one for each byte of a frame.
-            let most = if file.name == "vectors_frame" { 400_000 } else { 300_000 };
-            assert!(file.input.len() < most && file.output.len() < 300_000, "{}", file.name);
+            assert!(file.input.len() < 400_000 && file.output.len() < 400_000, "{}", file.name);
         }
     }
 

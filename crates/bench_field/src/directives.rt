@@ -24,6 +24,22 @@ fn is_room(log: usize, list: usize, behind: &[u8]) -> bool {
     behind.len() == 0
 }
 
+// `tick N`: the tick of the log's first record.
+pub fn tick(c: Collected, text: &[u8]) -> Collecting {
+    let n = bench_lines::tick_word(bench::word(text, 1));
+    let mut after = c;
+    after.tick = bench_lines::within_tick(n);
+    taken(c, after, is_tick(n, bench::word(text, 2)))
+}
+
+// Such a number, and nothing behind it?
+fn is_tick(n: usize, behind: &[u8]) -> bool {
+    if n >= bench_lines::NO_TICK {
+        return false;
+    }
+    behind.len() == 0
+}
+
 // What comes after a line that is understood or not.
 fn taken(before: Collected, after: Collected, is_understood: bool) -> Collecting {
     if is_understood {

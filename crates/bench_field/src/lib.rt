@@ -10,13 +10,14 @@ use card::Card;
 use limits::MOST_CARDS;
 
 // The cards so far, in the order given: their number, and as many of them as a sweep takes; whether a card was not to be made; how many bytes of
-// log and list are lent to the sweep; and the UID to wake, so many bytes, none where the field is to be swept.
+// log and list are lent to the sweep; the tick of its first record; and the UID to wake, so many bytes, none where the field is to be swept.
 pub struct Collected {
     pub cards: [Card; MOST_CARDS],
     pub count: usize,
     pub is_refused: bool,
     pub log: usize,
     pub list: usize,
+    pub tick: u32,
     pub uid: [u8; 10],
     pub length: usize,
 }
@@ -40,6 +41,7 @@ pub fn none() -> Collected {
         is_refused: false,
         log: limits::LOG_ROOM,
         list: limits::LIST_ROOM,
+        tick: 0,
         uid: [0; 10],
         length: 0,
     }
@@ -64,9 +66,10 @@ pub fn collect(c: Collected, talk: Talk) -> Collected {
 
 // By the line's first word.
 fn line_taken(c: Collected, text: &[u8]) -> Collecting {
-    let k = bench_talk::which(b"room", 1, bench::word(text, 0));
+    let k = bench_talk::which(b"room tick", 2, bench::word(text, 0));
     match k {
         0 => directives::room(c, text),
+        1 => directives::tick(c, text),
         _ => cards::card_line(c, text),
     }
 }

@@ -5,6 +5,7 @@ use bench_talk::Answer;
 use card::Card;
 use card::CardState;
 use limits::MOST_CARDS;
+use sweep::Start;
 use sweep::Swept;
 use uid::Level;
 
@@ -30,9 +31,13 @@ fn said(k: usize) -> Answer {
 pub fn swept(c: Collected, way: Way, log: &mut [u8], list: &mut [u8]) -> Swept {
     let cards = c.cards;
     let r = reader::new_reader();
+    let start = Start {
+        reader: r,
+        tick: c.tick,
+    };
     match way {
-        Way::Values => sweep::sweep(r, cards, c.count, log, list),
-        Way::Row => sweep_row::within::sweep_by_row(r, cards, c.count, log, list),
+        Way::Values => sweep::sweep(start, cards, c.count, log, list),
+        Way::Row => sweep_row::within::sweep_by_row(start, cards, c.count, log, list),
     }
 }
 

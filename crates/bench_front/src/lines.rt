@@ -2,6 +2,7 @@
 use crate::Bench;
 use crate::Reply;
 use bench_talk::Answer;
+use delay::Judged;
 use front::Heard;
 
 // The words of the answers, by their numbers in the list of with_word.
@@ -13,16 +14,19 @@ const ROW: usize = 2;
 
 const PLACES: usize = 3;
 
+const OFF: usize = 4;
+
 fn with_word(k: usize) -> Answer {
-    bench_talk::word(bench_talk::none(), b"ok room row places", k)
+    bench_talk::word(bench_talk::none(), b"ok room row places off", k)
 }
 
 pub fn script(bench: Bench, text: &[u8]) -> Reply {
-    let k = bench_talk::which(b"room halves places", 3, bench::word(text, 0));
+    let k = bench_talk::which(b"room halves places delay", 4, bench::word(text, 0));
     match k {
         0 => room(bench, bench::word(text, 1), bench::word(text, 2)),
         1 => halves(bench, bench::word(text, 1), bench::word(text, 2)),
         2 => places(bench, bench::word(text, 1)),
+        3 => delay(bench, text),
         _ => profile(bench, text),
     }
 }
@@ -146,4 +150,66 @@ fn sign(x: u8) -> u8 {
         2 => 120,
         _ => 46,
     }
+}
+
+// T-09: `delay ROW T1 T2`
+fn delay(bench: Bench, text: &[u8]) -> Reply {
+    let sent = bench_lines::tick_word(bench::word(text, 2));
+    let heard = bench_lines::tick_word(bench::word(text, 3));
+    let mut row = [0u8; 8192];
+    let n = bench_lines::count_bits(bench::word(text, 1), &mut row);
+    if !is_delay(n, sent, heard, bench::word(text, 4)) {
+        return none(bench);
+    }
+    let j = delay::judge_row(
+        bench::front(&row, n),
+        bench_lines::within_tick(sent),
+        bench_lines::within_tick(heard),
+    );
+    Reply {
+        bench,
+        answer: judged(j),
+    }
+}
+
+// A row of so many bits, two ticks, and nothing behind them?
+fn is_delay(n: usize, sent: usize, heard: usize, behind: &[u8]) -> bool {
+    if n > 8192 {
+        return false;
+    }
+    if sent >= bench_lines::NO_TICK {
+        return false;
+    }
+    if heard >= bench_lines::NO_TICK {
+        return false;
+    }
+    behind.len() == 0
+}
+
+// `off N` or `refused 14`
+fn judged(j: Judged) -> Answer {
+    match j {
+        Judged::Off(n) => off(n),
+        Judged::TooLong => bench_talk::refused(delay::number(j)),
+    }
+}
+
+// `off N`, N with its sign.
+fn off(n: i64) -> Answer {
+    let a = with_word(OFF);
+    if n < 0 {
+        return bench_talk::digits(bench_talk::raw(a, b" -"), below(n));
+    }
+    bench_talk::number(a, n as usize)
+}
+
+// How far a number is below zero. No answer of the judge is as far below as the bound.
+fn below(n: i64) -> usize {
+    if n < -4294967296 {
+        return 0;
+    }
+    if n > 0 {
+        return 0;
+    }
+    (0 - n) as usize
 }

@@ -16,6 +16,9 @@ pub struct CardWords {
     pub index: u8,
 }
 
+// One more than the greatest tick.
+pub const NO_TICK: usize = 4294967296;
+
 // `refused N`; where the parity broke `refused 3 B`, with the byte's index.
 pub fn refused(e: Refusal) -> Answer {
     let n = refusal::number(e);
@@ -38,6 +41,20 @@ pub fn number_to(word: &[u8], most: usize) -> usize {
         return above(most);
     };
     if n <= most { n } else { above(most) }
+}
+
+// A tick, 0 to 4294967295; one more where the word is none.
+pub fn tick_word(word: &[u8]) -> usize {
+    let r = bench_values::read_long_number(word);
+    let Number::Value(n) = r else {
+        return NO_TICK;
+    };
+    if n < NO_TICK { n } else { NO_TICK }
+}
+
+// The low 32 bits of a number.
+pub fn within_tick(n: usize) -> u32 {
+    (n % NO_TICK) as u32
 }
 
 // How many bytes a word has, which are read into the lent bytes; more than these where it is no bytes or too long.

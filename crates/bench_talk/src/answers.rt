@@ -21,9 +21,13 @@ pub fn word(a: Answer, list: &[u8], k: usize) -> Answer {
 
 // .. with a number.
 pub fn number(a: Answer, n: usize) -> Answer {
-    let b = gap(a);
-    let mut text = b.text;
-    let end = bench_text::put_decimal(&mut text, b.length, n);
+    digits(gap(a), n)
+}
+
+// .. with a number, and no space before it.
+pub fn digits(a: Answer, n: usize) -> Answer {
+    let mut text = a.text;
+    let end = bench_text::put_decimal(&mut text, a.length, n);
     Answer { text, length: end }
 }
 

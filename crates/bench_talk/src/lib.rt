@@ -2,6 +2,7 @@
 mod answers;
 
 pub use answers::Answer;
+pub use answers::digits;
 pub use answers::hex;
 pub use answers::none;
 pub use answers::number;

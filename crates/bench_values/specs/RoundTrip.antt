@@ -163,13 +163,13 @@ few-digits k (suc f) n h = go (ltb n 10) refl k h (λ (j : ℕ) (l : n / 10 < 10
         let e : length (digits f (n / 10) ++ lastDigit n) ≡ length (digits f (n / 10)) + 1 = simp length-append in
         (omega arith, omega arith)
 
-pub number-back : (n : ℕ) → n < 100000 → numberWord (decimalText n) ≡ Value n
+pub number-back : (k n : ℕ) → n < 10 ^ suc k → numberWord (suc k) (decimalText n) ≡ Value n
 unfolding numberWord decimalText
-number-back n h =
-    let l : (1 ≤ length (digits n n)) × (length (digits n n) ≤ 5) = few-digits 4 n n h in
+number-back k n h =
+    let l : (1 ≤ length (digits n n)) × (length (digits n n) ≤ suc k) = few-digits k n n h in
     simp (
       le-leb 1 (length (digits n n)) (l .0),
-      le-leb (length (digits n n)) 5 (l .1),
+      le-leb (length (digits n n)) (suc k) (l .1),
       spelt-digits n n,
       joined-digits n n (omega arith),
     )

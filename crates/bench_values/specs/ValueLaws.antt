@@ -1,6 +1,6 @@
 -- Laws of words as values. Assumes nothing.
 use mathlib.Core.Path.{_≡_, refl, ap}
-use mathlib.Core.Bool.{true, false, cond}
+use mathlib.Core.Bool.{Bool, true, false, cond}
 use mathlib.Core.List.{List, [], _∷_}
 use Prim.Native.Nat.{ℕ, zero, suc, _+_, _*_, _/_, _%_, _^_, _≤_, _<_}
 use native.Mathlib.Numerals.{add-one}
@@ -8,7 +8,8 @@ use native.Mathlib.Nat.{zero-add, pow-suc}
 use native.Mathlib.Omega.{arith}
 use lib.ListN.{length, take, drop, getD, set, drop-of-length-le}
 use lib.Seq.{drop-cons}
-use borrow.Author.Tests.{lt-ltb, le-ltb}
+use lib.Dec.{leb}
+use borrow.Author.Tests.{lt-ltb, le-ltb, leb-true, leb-false}
 use Rattle.rows.specs.Rows.{overlay}
 use Rattle.rows.specs.RowLaws.{overlay-copy}
 use Rattle.bench_values.specs.declared.Alphabet.{Alphabet}
@@ -76,10 +77,10 @@ joined-done v w i h = rw (drop-of-length-le w h)
 pub digit-more : (v d i : ℕ) → v < 10 ^ i → d < 10 → 10 * v + d < 10 ^ (i + 1)
 digit-more v d i h l = rw (add-one, pow-suc) (omega arith)
 
-pub digit-room : (v i : ℕ) → i < 5 → v < 10 ^ i → v < 10000
-digit-room v zero l h = omega arith
-digit-room v (suc zero) l h = omega arith
-digit-room v (suc (suc zero)) l h = omega arith
-digit-room v (suc (suc (suc zero))) l h = omega arith
-digit-room v (suc (suc (suc (suc zero)))) l h = omega arith
-digit-room v (suc (suc (suc (suc (suc i))))) l h = absurd (omega arith)
+pub digit-room : (k i v : ℕ) → i ≤ k → v < 10 ^ i → v < 10 ^ k
+digit-room zero i v l h = let e : i ≡ 0 = omega arith in rw e at h
+digit-room (suc k) i v l h = go (leb i k) refl (λ m. digit-room k i v m h)
+  where
+    go : (b : Bool) → leb i k ≡ b → (i ≤ k → v < 10 ^ k) → v < 10 ^ suc k
+    go true e less = rw pow-suc (omega (arith, less (leb-true i k e)))
+    go false e less = let q : i ≡ suc k = omega (arith, leb-false i k e) in rw q at h

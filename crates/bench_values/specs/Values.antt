@@ -98,5 +98,6 @@ unfoldable pub joined : ℕ → List ℕ → ℕ
 joined v [] = v
 joined v (c ∷ w) = joined (10 * v + decimalValue c % 10) w
 
-unfoldable pub numberWord : List ℕ → Number
-numberWord w = cond (leb 1 (length w) && leb (length w) 5 && spelt Decimal w) (Value (joined 0 w)) NotANumber
+-- a number of one to k digits
+unfoldable pub numberWord : ℕ → List ℕ → Number
+numberWord k w = cond (leb 1 (length w) && leb (length w) k && spelt Decimal w) (Value (joined 0 w)) NotANumber

@@ -65,12 +65,28 @@ pub fn read_row(word: &[u8], out: &mut [u8]) -> ReadWord
 
 // A number of one to five decimal digits.
 pub fn read_number(word: &[u8]) -> Number
-    ensures { λ r. ⌜ r ≡ numberWord (now (word .entry)) ⌝ }
+    ensures { λ r. ⌜ r ≡ numberWord 5 (now (word .entry)) ⌝ }
 {
     if word.len() < 1 {
         return Number::NotANumber;
     }
     if 5 < word.len() {
+        return Number::NotANumber;
+    }
+    if !within::is_spelt(Alphabet::Decimal, word) {
+        return Number::NotANumber;
+    }
+    Number::Value(within::join(word))
+}
+
+// .. of one to ten, for a tick.
+pub fn read_long_number(word: &[u8]) -> Number
+    ensures { λ r. ⌜ r ≡ numberWord 10 (now (word .entry)) ⌝ }
+{
+    if word.len() < 1 {
+        return Number::NotANumber;
+    }
+    if 10 < word.len() {
         return Number::NotANumber;
     }
     if !within::is_spelt(Alphabet::Decimal, word) {

@@ -132,9 +132,9 @@ pub fn write_row(word: &[u8], out: &mut [u8])
     }
 }
 
-// The number that at most five digits make.
+// The number that at most ten digits make.
 pub fn join(word: &[u8]) -> usize
-    requires { ⌜ length (now word) ≤ 5 ⌝ }
+    requires { ⌜ length (now word) ≤ 10 ⌝ }
     ensures { λ r. ⌜ r ≡ joined 0 (now (word .entry)) ⌝ }
 {
     let mut v: usize = 0;

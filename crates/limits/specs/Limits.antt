@@ -5,9 +5,9 @@ use Prim.Native.Nat.{ℕ, _+_, _-_, _*_, _/_}
 abbrev pub mostCards : ℕ
 mostCards = 32
 
--- T-06: "the log asked for 24,576 bytes, the list 352"; an entry of the list has 11 bytes
+-- T-09: "The log room rises to 40,960 bytes"; T-06: "the list 352", an entry of it has 11 bytes
 abbrev pub logRoom : ℕ
-logRoom = 24576
+logRoom = 40960
 
 abbrev pub listRoom : ℕ
 listRoom = 11 * mostCards

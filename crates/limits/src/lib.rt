@@ -6,8 +6,8 @@ ghost use Rattle.limits.specs.Limits.{mostCards, logRoom, listRoom, most
 // Document 01, "When the core declines", with T-06's limit: a field of more cards is 6.
 pub const MOST_CARDS: usize = 32;
 
-// Document 01, "The log", with T-06's room: what a sweep asks for, in bytes. A UID takes 11 bytes of the list.
-pub const LOG_ROOM: usize = 24576;
+// Document 01, "The log", with T-09's room: what a sweep asks for, in bytes. A UID takes 11 bytes of the list.
+pub const LOG_ROOM: usize = 40960;
 
 pub const LIST_ROOM: usize = 11 * MOST_CARDS;
 

@@ -9,6 +9,10 @@ use Rattle.log.specs.Log.{plain, marks}
 abbrev pub mostBits : ℕ
 mostBits = 8191
 
+-- T-09: the bytes of a tick
+abbrev pub tickSize : ℕ
+tickSize = 4
+
 -- the bytes of a row of n bits, "zero-filled to a byte"
 abbrev pub rowSize : ℕ → ℕ
 rowSize n = (n + 7) / 8

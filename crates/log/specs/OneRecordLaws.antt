@@ -3,12 +3,13 @@ use mathlib.Core.Path.{_≡_, refl, sym, ap, ap₂, _∙_}
 use Prim.Native.Nat.{ℕ, _+_, _≤_, _<_}
 use native.Mathlib.Omega.{arith}
 use mathlib.Core.Bool.{Bool, true, false, cond, false≢true}
-use mathlib.Core.List.{List, [], _∷_, _++_}
+use mathlib.Core.List.{List, [], _∷_, _++_, append-assoc}
 use lib.Dec.{ltb}
-use lib.ListN.{length, drop, getD}
+use lib.ListN.{length, take, drop, getD}
+use lib.Seq.{take-append-seam}
 use borrow.Author.Tests.{ltb-true}
 use Rattle.rows.specs.Rows.{All, Bits, clean}
-use Rattle.log.specs.Log.{plain, marks, sentRecord, heardRecord}
+use Rattle.log.specs.Log.{pack, header, plain, marks, sentRecord, heardRecord}
 use Rattle.log.specs.Calls.{mostBits, rowSize, shownBit}
 use Rattle.log.specs.Reading.{rowAt, recordAt}
 use Rattle.log.specs.RecordLaws.{plain-clean}
@@ -37,14 +38,20 @@ bitNo Malformed = 0
 
 -- ---- reader frames
 
-pub sent-once : (f g p q : List ℕ) → Bits f → Bits g → 0 < length f → 0 < length g → length f ≤ mostBits → length g ≤ mostBits
-    → sentRecord f ++ p ≡ sentRecord g ++ q → f ≡ g
-sent-once f g p q bf bg hf hg nf ng e =
-    let l : List ℕ = sentRecord f ++ p in
-    let a = sent-back l 0 f p bf hf nf refl in
-    let b = sent-back l 0 g q bg hg ng e in
-    let n : length f ≡ length g = ap bitNo (sym (a .0) ∙ b .0) in
-    sym (a .1) ∙ ap (rowAt l (0 + 2)) n ∙ b .1
+sent-stamp : (x f p : List ℕ) → take (length x) (drop 2 (sentRecord x f ++ p)) ≡ x
+unfolding sentRecord header
+sent-stamp x f p = ap (take (length x)) (append-assoc x (pack f) p) ∙ take-append-seam x (pack f ++ p)
+
+pub sent-once : (x y f g p q : List ℕ) → length x ≡ length y → Bits f → Bits g → 0 < length f → 0 < length g → length f ≤ mostBits → length g ≤ mostBits
+    → sentRecord x f ++ p ≡ sentRecord y g ++ q → (x ≡ y) × (f ≡ g)
+sent-once x y f g p q w bf bg hf hg nf ng e =
+    let l : List ℕ = sentRecord x f ++ p in
+    let a = sent-back l 0 x f p bf hf nf refl in
+    let b = sent-back l 0 y g q bg hg ng e in
+    let n : length f ≡ length g = ap bitNo (sym (a .0) ∙ ap (λ i. recordAt i l 0) w ∙ b .0) in (
+      sym (sent-stamp x f p) ∙ ap₂ (λ i s. take i (drop 2 s)) w e ∙ sent-stamp y g q,
+      sym (a .1) ∙ ap₂ (λ i j. rowAt l (0 + 2 + i) j) w n ∙ b .1,
+    )
 
 -- ---- what was heard: rows of 0, 1 and, for a collided bit, 2
 
@@ -71,19 +78,19 @@ one-row (x ∷ h) (y ∷ k) bh bk p m =
     (one-bit x y (bh .0) (bk .0) (ap (λ l. getD l 0 0) p) (ap (λ l. getD l 0 0) m))
     (one-row h k (bh .1) (bk .1) (ap (drop 1) p) (ap (drop 1) m))
 
--- what is read at the front of bytes that start with the record of a row
-record Read (l h : List ℕ) : Type 0 where
-  bits : bitNo (recordAt l 0) ≡ length h
-  row : rowAt l 2 (length h) ≡ plain h
-  heard : kindNo (recordAt l 0) ≡ 0 → ⊥
-  clear : clean h ≡ true → kindNo (recordAt l 0) ≡ 2 → ⊥
-  struck : clean h ≡ false → kindNo (recordAt l 0) ≡ 2
-  marked : clean h ≡ false → rowAt l (2 + rowSize (length h)) (length h) ≡ marks h
+-- what is read at the front of bytes that start with the record of a row, whose stamp has w bytes
+record Read (w : ℕ) (l h : List ℕ) : Type 0 where
+  bits : bitNo (recordAt w l 0) ≡ length h
+  row : rowAt l (0 + 2 + w) (length h) ≡ plain h
+  heard : kindNo (recordAt w l 0) ≡ 0 → ⊥
+  clear : clean h ≡ true → kindNo (recordAt w l 0) ≡ 2 → ⊥
+  struck : clean h ≡ false → kindNo (recordAt w l 0) ≡ 2
+  marked : clean h ≡ false → rowAt l (0 + 2 + w + rowSize (length h)) (length h) ≡ marks h
 
-read : (l h p : List ℕ) → length h ≤ mostBits → l ≡ heardRecord h ++ p → Read l h
+read : (x l h p : List ℕ) → length h ≤ mostBits → l ≡ heardRecord x h ++ p → Read (length x) l h
 unfolding clean plain
-read l [] p n e =
-    let a : recordAt l 0 ≡ Silence (0 + 2) = silence-back l 0 p e in
+read x l [] p n e =
+    let a : recordAt (length x) l 0 ≡ Silence (0 + 2 + length x) = silence-back l 0 x p e in
     let k = ap kindNo a in
     record {
       bits = ap bitNo a;
@@ -93,22 +100,22 @@ read l [] p n e =
       struck = λ c. absurd (false≢true (sym c));
       marked = λ c. absurd (false≢true (sym c));
     }
-read l (x ∷ h) p n e = go (clean (x ∷ h)) refl
+read x l (b ∷ h) p n e = go (clean (b ∷ h)) refl
   where
-    go : (t : Bool) → clean (x ∷ h) ≡ t → Read l (x ∷ h)
+    go : (t : Bool) → clean (b ∷ h) ≡ t → Read (length x) l (b ∷ h)
     go true c =
-        let a = clean-back l 0 (x ∷ h) p c (omega arith) n e in
+        let a = clean-back l 0 x (b ∷ h) p c (omega arith) n e in
         let k = ap kindNo (a .0) in
         record {
           bits = ap bitNo (a .0);
-          row = a .1 ∙ sym (plain-clean (x ∷ h) c);
+          row = a .1 ∙ sym (plain-clean (b ∷ h) c);
           heard = λ z. omega arith;
           clear = λ d z. omega arith;
           struck = λ d. absurd (false≢true (sym d ∙ c));
           marked = λ d. absurd (false≢true (sym d ∙ c));
         }
     go false c =
-        let a = collided-back l 0 (x ∷ h) p c n e in
+        let a = collided-back l 0 x (b ∷ h) p c n e in
         let k = ap kindNo (a .0) in
         record {
           bits = ap bitNo (a .0);
@@ -119,33 +126,47 @@ read l (x ∷ h) p n e = go (clean (x ∷ h)) refl
           marked = λ d. a .2;
         }
 
-pub heard-once : (h k p q : List ℕ) → Heard h → Heard k → length h ≤ mostBits → length k ≤ mostBits
-    → heardRecord h ++ p ≡ heardRecord k ++ q → h ≡ k
-heard-once h k p q bh bk nh nk e = go (clean h) (clean k) refl refl
+heard-stamp : (x h p : List ℕ) → take (length x) (drop 2 (heardRecord x h ++ p)) ≡ x
+unfolding heardRecord header
+heard-stamp x [] p = take-append-seam x p
+heard-stamp x (b ∷ h) p = go (clean (b ∷ h))
+  where
+    r : List ℕ
+    r = b ∷ h
+
+    go : (t : Bool) → take (length x) (drop 2 (cond t (header 1 (length r) ++ (x ++ pack r)) (header 2 (length r) ++ (x ++ (pack (plain r) ++ pack (marks r)))) ++ p)) ≡ x
+    go true = ap (take (length x)) (append-assoc x (pack r) p) ∙ take-append-seam x _
+    go false = ap (take (length x)) (append-assoc x (pack (plain r) ++ pack (marks r)) p) ∙ take-append-seam x _
+
+pub heard-once : (x y h k p q : List ℕ) → length x ≡ length y → Heard h → Heard k → length h ≤ mostBits → length k ≤ mostBits
+    → heardRecord x h ++ p ≡ heardRecord y k ++ q → (x ≡ y) × (h ≡ k)
+heard-once x y h k p q w bh bk nh nk e =
+    (sym (heard-stamp x h p) ∙ ap₂ (λ i s. take i (drop 2 s)) w e ∙ heard-stamp y k q, go (clean h) (clean k) refl refl)
   where
     l : List ℕ
-    l = heardRecord h ++ p
+    l = heardRecord x h ++ p
 
-    a : Read l h
-    a = read l h p nh refl
+    a : Read (length x) l h
+    a = read x l h p nh refl
 
-    b : Read l k
-    b = read l k q nk e
+    b : Read (length x) l k
+    b = rw w (read y l k q nk e)
 
     n : length h ≡ length k
     n = sym (a .bits) ∙ b .bits
 
     same : plain h ≡ plain k
-    same = sym (a .row) ∙ ap (rowAt l 2) n ∙ b .row
+    same = sym (a .row) ∙ ap (rowAt l (0 + 2 + length x)) n ∙ b .row
 
     go : (s t : Bool) → clean h ≡ s → clean k ≡ t → h ≡ k
     go true true c d = sym (plain-clean h c) ∙ same ∙ plain-clean k d
     go true false c d = absurd (a .clear c (b .struck d))
     go false true c d = absurd (b .clear d (a .struck c))
-    go false false c d = one-row h k bh bk same (sym (a .marked c) ∙ ap (λ i. rowAt l (2 + rowSize i) i) n ∙ b .marked d)
+    go false false c d = one-row h k bh bk same (sym (a .marked c) ∙ ap (λ i. rowAt l (0 + 2 + length x + rowSize i) i) n ∙ b .marked d)
 
 -- a reader frame is never read as an answer
-pub sent-not-heard : (f h p q : List ℕ) → Bits f → 0 < length f → length f ≤ mostBits → length h ≤ mostBits
-    → sentRecord f ++ p ≡ heardRecord h ++ q → ⊥
-sent-not-heard f h p q b i nf nh e =
-    read (sentRecord f ++ p) h q nh e .heard (ap kindNo (sent-back (sentRecord f ++ p) 0 f p b i nf refl .0))
+pub sent-not-heard : (x y f h p q : List ℕ) → length x ≡ length y → Bits f → 0 < length f → length f ≤ mostBits → length h ≤ mostBits
+    → sentRecord x f ++ p ≡ heardRecord y h ++ q → ⊥
+sent-not-heard x y f h p q w b i nf nh e =
+    let l : List ℕ = sentRecord x f ++ p in
+    read y l h q nh e .heard (ap kindNo (ap (λ n. recordAt n l 0) (sym w) ∙ sent-back l 0 x f p b i nf refl .0))

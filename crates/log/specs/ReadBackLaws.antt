@@ -9,9 +9,9 @@ use lib.ListN.{length, take, drop, getD, replicate, length-append, length-drop, 
 use lib.Seq.{take-append-seam, drop-append-seam, drop-at, take-at, length-take-le, drop-drop, getD-drop}
 use borrow.Author.Tests.{ne-eqb, le-ltb, lt-leb}
 use Rattle.rows.specs.Rows.{overlay, Bits, clean, fill}
-use Rattle.log.specs.Log.{pack, header, plain, marks, sentRecord, heardRecord}
+use Rattle.log.specs.Log.{pack, header, tickBytes, plain, marks, sentRecord, heardRecord}
 use Rattle.log.specs.Calls.{mostBits, rowSize}
-use Rattle.log.specs.Reading.{unpacked, bitsFrom, rowAt, fillAt, zeros, clash, apart, goodRow, goodMarks, rowsSize, collidedOf, recordOf, kindOf, zeroBit, bitCount, afterHeader, recordAt}
+use Rattle.log.specs.Reading.{unpacked, bitsFrom, rowAt, fillAt, zeros, clash, apart, goodRow, goodMarks, rowsSize, collidedOf, recordOf, kindOf, zeroBit, bitCount, afterHeader, recordAt, tickAt}
 use Rattle.log.specs.PackLaws.{length-packed, length-shown, shown-bits}
 use Rattle.log.specs.RecordLaws.{length-pack, heard-clean, heard-collided, plain-clean}
 use Rattle.log.specs.BitBackLaws.{unpack-back, unpacked-append}
@@ -68,7 +68,7 @@ zero-back k y h = let e : (64 * k + y) / 32 ≡ 2 * k = omega arith in rw e (ome
 count-back : (k y z : ℕ) → y < 32 → 256 * ((64 * k + y) % 32) + z ≡ 256 * y + z
 count-back k y z h = let e : (64 * k + y) % 32 ≡ y = omega arith in rw e
 
-module _ (l : List ℕ) (at k n : ℕ) (s : List ℕ) (hk : k < 4) (hn : n ≤ mostBits) (e : drop at l ≡ header k n ++ s) where
+module _ (l : List ℕ) (at k n : ℕ) (x s : List ℕ) (hk : k < 4) (hn : n ≤ mostBits) (e : drop at l ≡ header k n ++ (x ++ s)) where
   first-back : getD l at 0 ≡ 64 * k + n / 256
   unfolding header
   first-back =
@@ -79,15 +79,18 @@ module _ (l : List ℕ) (at k n : ℕ) (s : List ℕ) (hk : k < 4) (hn : n ≤ m
   unfolding header
   second-back = sym (getD-drop at l 1 0) ∙ ap (λ t. getD t 1 0) e
 
-  pub rest-back : drop (at + 2) l ≡ s
+  stamp-back : drop (at + 2) l ≡ x ++ s
   unfolding header
-  rest-back = sym (drop-drop 2 at l) ∙ ap (drop 2) e
+  stamp-back = sym (drop-drop 2 at l) ∙ ap (drop 2) e
 
-  length-back : length l - at ≡ 2 + length s
+  pub rest-back : drop (at + 2 + length x) l ≡ s
+  rest-back = sym (drop-drop (length x) (at + 2) l) ∙ ap (drop (length x)) stamp-back ∙ drop-at x s (length x) refl
+
+  length-back : length l - at ≡ 2 + length x + length s
   unfolding header
-  length-back = sym (length-drop at l) ∙ ap length e ∙ omega arith
+  length-back = sym (length-drop at l) ∙ ap length e ∙ omega (arith, length-append x s)
 
-  pub header-back : rowsSize k n ≤ length s → recordAt l at ≡ recordOf l (at + 2) k n
+  pub header-back : rowsSize k n ≤ length s → recordAt (length x) l at ≡ recordOf l (at + 2 + length x) k n
   unfolding recordAt afterHeader
   header-back h =
       let d = length-back in
@@ -97,51 +100,59 @@ module _ (l : List ℕ) (at k n : ℕ) (s : List ℕ) (hk : k < 4) (hn : n ≤ m
       let e₃ : zeroBit (64 * k + n / 256) ≡ 0 = zero-back k (n / 256) y in
       rw (
         lt-leb (length l) at (omega arith),
-        le-ltb (length l) (at + 2) (omega arith),
+        le-ltb (length l) (at + 2 + length x) (omega arith),
         first-back,
         second-back,
         e₁,
         e₂,
         e₃,
-        le-ltb (length l) (at + 2 + rowsSize k n) (omega arith),
+        le-ltb (length l) (at + 2 + length x + rowsSize k n) (omega arith),
       )
 
 -- ---- records
 
--- a header and one row
-one-row : (l : List ℕ) (at k : ℕ) (r q : List ℕ) → k < 4 → eqb k 2 ≡ false → Bits r → 0 < length r → length r ≤ mostBits
-    → drop at l ≡ (header k (length r) ++ pack r) ++ q
-    → (recordAt l at ≡ recordOf l (at + 2) k (length r)) × (goodRow l (at + 2) (length r) ≡ true) × (rowAt l (at + 2) (length r) ≡ r)
-one-row l at k r q hk two b h n e =
-    let f : drop at l ≡ header k (length r) ++ (pack r ++ q) = e ∙ append-assoc (header k (length r)) (pack r) q in
-    let p : drop (at + 2) l ≡ pack r ++ q = rest-back l at k (length r) (pack r ++ q) hk n f in
+-- a header, a stamp and what follows
+headed : (k n : ℕ) (x p q : List ℕ) → (header k n ++ (x ++ p)) ++ q ≡ header k n ++ (x ++ (p ++ q))
+headed k n x p q = append-assoc (header k n) (x ++ p) q ∙ ap (λ s. header k n ++ s) (append-assoc x p q)
+
+-- with one row
+one-row : (l : List ℕ) (at k : ℕ) (x r q : List ℕ) → k < 4 → eqb k 2 ≡ false → Bits r → 0 < length r → length r ≤ mostBits
+    → drop at l ≡ (header k (length r) ++ (x ++ pack r)) ++ q
+    → (recordAt (length x) l at ≡ recordOf l (at + 2 + length x) k (length r))
+    × (goodRow l (at + 2 + length x) (length r) ≡ true)
+    × (rowAt l (at + 2 + length x) (length r) ≡ r)
+one-row l at k x r q hk two b h n e =
+    let f : drop at l ≡ header k (length r) ++ (x ++ (pack r ++ q)) = e ∙ headed k (length r) x (pack r) q in
+    let p : drop (at + 2 + length x) l ≡ pack r ++ q = rest-back l at k (length r) x (pack r ++ q) hk n f in
     let room : rowsSize k (length r) ≤ length (pack r ++ q) = rw (two, length-append, length-packed) (omega arith) in
-    (header-back l at k (length r) (pack r ++ q) hk n f room, row-good l (at + 2) r q b p h, row-back l (at + 2) r q b p)
+    (header-back l at k (length r) x (pack r ++ q) hk n f room, row-good l (at + 2 + length x) r q b p h, row-back l (at + 2 + length x) r q b p)
 
 -- a reader frame
-pub sent-back : (l : List ℕ) (at : ℕ) (f q : List ℕ) → Bits f → 0 < length f → length f ≤ mostBits → drop at l ≡ sentRecord f ++ q
-    → (recordAt l at ≡ Sent (at + 2) (length f) (at + 2 + rowSize (length f))) × (rowAt l (at + 2) (length f) ≡ f)
+pub sent-back : (l : List ℕ) (at : ℕ) (x f q : List ℕ) → Bits f → 0 < length f → length f ≤ mostBits → drop at l ≡ sentRecord x f ++ q
+    → (recordAt (length x) l at ≡ Sent (at + 2 + length x) (length f) (at + 2 + length x + rowSize (length f)))
+    × (rowAt l (at + 2 + length x) (length f) ≡ f)
 unfolding sentRecord recordOf
-sent-back l at f q b h n e =
-    let t = one-row l at 0 f q (omega arith) refl b h n e in
+sent-back l at x f q b h n e =
+    let t = one-row l at 0 x f q (omega arith) refl b h n e in
     (t .0 ∙ rw (t .1) refl, t .2)
 
 -- silence
-pub silence-back : (l : List ℕ) (at : ℕ) (q : List ℕ) → drop at l ≡ heardRecord [] ++ q → recordAt l at ≡ Silence (at + 2)
+pub silence-back : (l : List ℕ) (at : ℕ) (x q : List ℕ) → drop at l ≡ heardRecord x [] ++ q → recordAt (length x) l at ≡ Silence (at + 2 + length x)
 unfolding heardRecord recordOf
-silence-back l at q e = header-back l at 3 0 q (omega arith) (omega arith) e (omega arith)
+silence-back l at x q e = header-back l at 3 0 x q (omega arith) (omega arith) (e ∙ append-assoc (header 3 0) x q) (omega arith)
 
 -- a clean row is bits
 clean-bits : (r : List ℕ) → clean r ≡ true → Bits r
 clean-bits r c = rw (plain-clean r c) at (shown-bits false r)
 
 -- a clean answer
-pub clean-back : (l : List ℕ) (at : ℕ) (r q : List ℕ) → clean r ≡ true → 0 < length r → length r ≤ mostBits → drop at l ≡ heardRecord r ++ q
-    → (recordAt l at ≡ Clean (at + 2) (length r) (at + 2 + rowSize (length r))) × (rowAt l (at + 2) (length r) ≡ r)
+pub clean-back : (l : List ℕ) (at : ℕ) (x r q : List ℕ) → clean r ≡ true → 0 < length r → length r ≤ mostBits → drop at l ≡ heardRecord x r ++ q
+    → (recordAt (length x) l at ≡ Clean (at + 2 + length x) (length r) (at + 2 + length x + rowSize (length r)))
+    × (rowAt l (at + 2 + length x) (length r) ≡ r)
 unfolding recordOf
-clean-back l at r q c h n e =
-    let f : heardRecord r ≡ header 1 (length r) ++ pack r = rw (plain-clean r c) at (heard-clean r h c) in
-    let t = one-row l at 1 r q (omega arith) refl (clean-bits r c) h n (rw f at e) in
+clean-back l at x r q c h n e =
+    let f : heardRecord x r ≡ header 1 (length r) ++ (x ++ pack r) = rw (plain-clean r c) at (heard-clean x r h c) in
+    let t = one-row l at 1 x r q (omega arith) refl (clean-bits r c) h n (rw f at e) in
     (t .0 ∙ rw (t .1) refl, t .2)
 
 -- ---- an answer with a collision
@@ -174,27 +185,58 @@ unfolding clean plain
 some-bits [] c = absurd (false≢true (sym c))
 some-bits (x ∷ r) c = omega arith
 
-pub collided-back : (l : List ℕ) (at : ℕ) (r q : List ℕ) → clean r ≡ false → length r ≤ mostBits → drop at l ≡ heardRecord r ++ q
-    → (recordAt l at ≡ Collided (at + 2) (at + 2 + rowSize (length r)) (length r) (at + 2 + 2 * rowSize (length r)))
-    × (rowAt l (at + 2) (length r) ≡ plain r)
-    × (rowAt l (at + 2 + rowSize (length r)) (length r) ≡ marks r)
+pub collided-back : (l : List ℕ) (at : ℕ) (x r q : List ℕ) → clean r ≡ false → length r ≤ mostBits → drop at l ≡ heardRecord x r ++ q
+    → (recordAt (length x) l at ≡ Collided (at + 2 + length x) (at + 2 + length x + rowSize (length r)) (length r) (at + 2 + length x + 2 * rowSize (length r)))
+    × (rowAt l (at + 2 + length x) (length r) ≡ plain r)
+    × (rowAt l (at + 2 + length x + rowSize (length r)) (length r) ≡ marks r)
 unfolding recordOf collidedOf goodMarks
-collided-back l at r q c n e =
+collided-back l at x r q c n e =
     let k : ℕ = rowSize (length r) in
+    let i : ℕ = at + 2 + length x in
     let s : List ℕ = pack (marks r) ++ q in
-    let f : drop at l ≡ header 2 (length r) ++ (pack (plain r) ++ s) =
+    let f : drop at l ≡ header 2 (length r) ++ (x ++ (pack (plain r) ++ s)) =
     e
-    ∙ ap (λ t. t ++ q) (heard-collided r c)
-    ∙ append-assoc (header 2 (length r)) (pack (plain r) ++ pack (marks r)) q
-    ∙ ap (λ t. header 2 (length r) ++ t) (append-assoc (pack (plain r)) (pack (marks r)) q) in
-    let p : drop (at + 2) l ≡ pack (plain r) ++ s = rest-back l at 2 (length r) (pack (plain r) ++ s) (omega arith) n f in
-    let m : drop (at + 2 + k) l ≡ s =
-    sym (drop-drop k (at + 2) l) ∙ ap (drop k) p ∙ drop-at (pack (plain r)) s k (length-pack false r) in
+    ∙ ap (λ t. t ++ q) (heard-collided x r c)
+    ∙ headed 2 (length r) x (pack (plain r) ++ pack (marks r)) q
+    ∙ ap (λ t. header 2 (length r) ++ (x ++ t)) (append-assoc (pack (plain r)) (pack (marks r)) q) in
+    let p : drop i l ≡ pack (plain r) ++ s = rest-back l at 2 (length r) x (pack (plain r) ++ s) (omega arith) n f in
+    let m : drop (i + k) l ≡ s =
+    sym (drop-drop k i l) ∙ ap (drop k) p ∙ drop-at (pack (plain r)) s k (length-pack false r) in
     let room : 2 * k ≤ length (pack (plain r) ++ s) =
     rw (length-append, length-pack false r, length-append, length-pack true r) (omega arith) in
-    let a = header-back l at 2 (length r) (pack (plain r) ++ s) (omega arith) n f room in
-    let g = rw (length-shown false r) at (row-good l (at + 2) (plain r) s (shown-bits false r) p (some-bits r c)) in
-    let u = rw (length-shown false r) at (row-back l (at + 2) (plain r) s (shown-bits false r) p) in
-    let v = rw (length-shown true r) at (row-back l (at + 2 + k) (marks r) q (shown-bits true r) m) in
-    let w = rw (length-shown true r) at (fill-good l (at + 2 + k) (marks r) q (shown-bits true r) m) in
+    let a = header-back l at 2 (length r) x (pack (plain r) ++ s) (omega arith) n f room in
+    let g = rw (length-shown false r) at (row-good l i (plain r) s (shown-bits false r) p (some-bits r c)) in
+    let u = rw (length-shown false r) at (row-back l i (plain r) s (shown-bits false r) p) in
+    let v = rw (length-shown true r) at (row-back l (i + k) (marks r) q (shown-bits true r) m) in
+    let w = rw (length-shown true r) at (fill-good l (i + k) (marks r) q (shown-bits true r) m) in
     (a ∙ rw (g, u, v, marks-some r c, marks-apart r, w) refl, u, v)
+
+-- ---- ticks
+
+-- two bytes, the greater first, of a number
+two-bytes : (t : ℕ) → 256 * (t / 256 % 256) + t % 256 ≡ t % 65536
+two-bytes t = omega arith
+
+words : (t : ℕ) → 65536 * (t / 65536 % 65536) + t % 65536 ≡ t % 4294967296
+words t = omega arith
+
+four-bytes : (t : ℕ) → 16777216 * (t / 16777216 % 256) + 65536 * (t / 65536 % 256) + 256 * (t / 256 % 256) + t % 256 ≡ t % 4294967296
+four-bytes t =
+    let e : t / 16777216 ≡ t / 65536 / 256 = omega arith in
+    let u = two-bytes (t / 65536) in
+    let v = two-bytes t in
+    let w = words t in
+    rw e (sum (t / 65536 / 256 % 256) (t / 65536 % 256) (t / 256 % 256) (t % 256) (t / 65536 % 65536) (t % 65536) u v ∙ w)
+  where
+    sum : (a b c d x y : ℕ) → 256 * a + b ≡ x → 256 * c + d ≡ y → 16777216 * a + 65536 * b + 256 * c + d ≡ 65536 * x + y
+    sum a b c d x y p q = omega arith
+
+-- T-09: the tick of a record is read back, modulo 2^32
+pub tick-back : (l : List ℕ) (at k n t : ℕ) (s : List ℕ) → drop at l ≡ header k n ++ (tickBytes t ++ s) → tickAt l at ≡ t % 4294967296
+unfolding header tickBytes tickAt
+tick-back l at k n t s e =
+    let b₂ : getD l (at + 2) 0 ≡ t / 16777216 % 256 = sym (getD-drop at l 2 0) ∙ ap (λ r. getD r 2 0) e in
+    let b₃ : getD l (at + 3) 0 ≡ t / 65536 % 256 = sym (getD-drop at l 3 0) ∙ ap (λ r. getD r 3 0) e in
+    let b₄ : getD l (at + 4) 0 ≡ t / 256 % 256 = sym (getD-drop at l 4 0) ∙ ap (λ r. getD r 4 0) e in
+    let b₅ : getD l (at + 5) 0 ≡ t % 256 = sym (getD-drop at l 5 0) ∙ ap (λ r. getD r 5 0) e in
+    rw (b₂, b₃, b₄, b₅) (four-bytes t)

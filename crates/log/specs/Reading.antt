@@ -92,12 +92,16 @@ afterHeader l at a b =
     cond (ltb (length l) (at + rowsSize (kindOf a) (bitCount a b))) Cut
     (cond (eqb (zeroBit a) 1) Malformed (recordOf l at (kindOf a) (bitCount a b)))
 
--- what stands at a place
-unfoldable pub recordAt : List ℕ → ℕ → Record
-recordAt l at =
+-- what stands at a place of a log whose records have stamps of w bytes: tickSize, or 0 in a log without ticks
+unfoldable pub recordAt : ℕ → List ℕ → ℕ → Record
+recordAt w l at =
     cond (leb (length l) at) End
-    (cond (ltb (length l) (at + 2)) Cut
-    (afterHeader l (at + 2) (getD l at 0) (getD l (at + 1) 0)))
+    (cond (ltb (length l) (at + 2 + w)) Cut
+    (afterHeader l (at + 2 + w) (getD l at 0) (getD l (at + 1) 0)))
+
+-- the tick of the record at a place, from its four bytes; a byte past the log's end counts as 0
+unfoldable pub tickAt : List ℕ → ℕ → ℕ
+tickAt l at = 16777216 * getD l (at + 2) 0 + 65536 * getD l (at + 3) 0 + 256 * getD l (at + 4) 0 + getD l (at + 5) 0
 
 -- ---- the reader records of a log
 
@@ -112,10 +116,10 @@ behind rest Cut = 0
 behind rest Malformed = 0
 
 -- how many there are from a place on, in at most so many records
-unfoldable pub sentFrom : ℕ → List ℕ → ℕ → ℕ
-sentFrom zero l at = 0
-sentFrom (suc most) l at = behind (sentFrom most l) (recordAt l at)
+unfoldable pub sentFrom : ℕ → ℕ → List ℕ → ℕ → ℕ
+sentFrom w zero l at = 0
+sentFrom w (suc most) l at = behind (sentFrom w most l) (recordAt w l at)
 
 -- "the number of reader records in the log": no record is without a byte
-unfoldable pub sentIn : List ℕ → ℕ
-sentIn l = sentFrom (length l) l 0
+unfoldable pub sentIn : ℕ → List ℕ → ℕ
+sentIn w l = sentFrom w (length l) l 0

@@ -3,7 +3,8 @@ ghost use mathlib.Core.Path.{_≡_};
 ghost use lib.ListN.{getD};
 ghost use Rattle.uid.specs.Uid.{uidBytes};
 ghost use Rattle.log.specs.Log.{entryBytes};
-ghost use Rattle.log.specs.Reading.{bitsFrom, recordAt};
+ghost use Rattle.log.specs.Calls.{tickSize};
+ghost use Rattle.log.specs.Reading.{bitsFrom, recordAt, tickAt};
 use uid::Uid;
 
 // Functions that write at a place of the lent log or list. Only the crates of this repository call them.
@@ -71,13 +72,28 @@ pub fn bit_at(log: &[u8], start: usize, i: usize) -> u8
 
 // The record at a place of the log.
 pub fn record_at(log: &[u8], at: usize) -> Record
-    ensures { λ r. ⌜ r ≡ recordAt (now (log .entry)) at ⌝ }
+    ensures { λ r. ⌜ r ≡ recordAt tickSize (now (log .entry)) at ⌝ }
 {
     if log.len() <= at {
         return Record::End;
     }
-    if log.len() < at + 2 {
+    if log.len() < at + 2 + 4 {
         return Record::Cut;
     }
-    reading::after_header(log, at + 2, log[at], log[at + 1])
+    reading::after_header(log, at + 2 + 4, log[at], log[at + 1])
+}
+
+// T-09: the tick of the record at a place of the log: when the reader's last pause ended, the card's answer began, or the wait ran out. A byte
+// past the log's end counts as 0.
+pub fn tick_at(log: &[u8], at: usize) -> u32
+    ensures { λ r. ⌜ r ≡ tickAt (now (log .entry)) at ⌝ }
+{
+    if log.len() <= at {
+        return 0;
+    }
+    let a = reading::byte_at(log, at + 2) as u32;
+    let b = reading::byte_at(log, at + 3) as u32;
+    let c = reading::byte_at(log, at + 4) as u32;
+    let d = reading::byte_at(log, at + 5) as u32;
+    16777216 * a + 65536 * b + 256 * c + d
 }

@@ -2,10 +2,20 @@
 // show that they meet it; only the crates of this repository call them.
 ghost use mathlib.Core.Path.{_≡_};
 ghost use Prim.Native.Nat.{_+_, _-_, _*_, _≤_};
-ghost use lib.ListN.{length, take, drop};
+ghost use lib.ListN.{length, take, drop, getD};
 ghost use Rattle.log.specs.Calls.{mostBits, rowSize};
 ghost use Rattle.log.specs.Reading.{topBits, bitsFrom, rowAt, zeros, clash, apart, goodRow, goodMarks, rowsSize, collidedOf, recordOf, afterHeader};
 use super::Record;
+
+// A byte of the log; 0 past its end.
+pub fn byte_at(log: &[u8], i: usize) -> u8
+    ensures { λ r. ⌜ r ≡ getD (now (log .entry)) i 0 ⌝ }
+{
+    if i < log.len() {
+        return log[i];
+    }
+    0
+}
 
 // The bits of a byte, the top one first.
 pub fn top_bits(b: u8) -> [u8; 8]

@@ -6,7 +6,7 @@ ghost use Prim.Native.Nat.{_+_, _<_, _≤_};
 ghost use lib.ListN.{length, take, drop, getD};
 ghost use Rattle.rows.specs.Rows.{overlay, clean};
 ghost use Rattle.uid.specs.Uid.{uidBytes};
-ghost use Rattle.log.specs.Log.{fromTop, pack, header, plain, sentRecord, heardRecord, entryBytes};
+ghost use Rattle.log.specs.Log.{fromTop, pack, header, tickBytes, plain, sentRecord, heardRecord, entryBytes};
 ghost use Rattle.log.specs.Calls.{mostBits, rowSize, shownBit, shown};
 use uid::Uid;
 
@@ -59,48 +59,55 @@ pub fn put_packed(out: &mut [u8], at: usize, row: &[u8], mark: bool)
     }
 }
 
-// A record's first two bytes.
-pub fn header_of(kind: u8, n: usize) -> [u8; 2]
+// A record's first six bytes: its header and its tick, of which the low 32 bits count.
+pub fn head_of(kind: u8, n: usize, tick: usize) -> [u8; 6]
     requires { ⌜ (kind < 4) × (n ≤ mostBits) ⌝ }
-    ensures { λ r. ⌜ r ≡ header kind n ⌝ }
+    ensures { λ r. ⌜ r ≡ header kind n ++ tickBytes tick ⌝ }
 {
-    [64 * kind + (n / 256) as u8, (n % 256) as u8]
+    [
+        64 * kind + (n / 256) as u8,
+        (n % 256) as u8,
+        (tick / 16777216 % 256) as u8,
+        (tick / 65536 % 256) as u8,
+        (tick / 256 % 256) as u8,
+        (tick % 256) as u8,
+    ]
 }
 
-// A header and one row. The answer is their number of bytes.
-pub fn put_row(out: &mut [u8], at: usize, kind: u8, row: &[u8]) -> usize
-    requires { ⌜ (kind < 4) × (length (now row) ≤ mostBits) × (at + (2 + rowSize (length (now row))) ≤ length (now out)) ⌝ }
-    ensures { λ r. ⌜ r ≡ 2 + rowSize (length (now (row .entry))) ⌝ }
-    ensures { λ r. ⌜ now (out .exit) ≡ overlay (now (out .entry)) at (header kind (length (now (row .entry))) ++ pack (plain (now (row .entry)))) ⌝ }
+// A header, its tick and one row. The answer is their number of bytes.
+pub fn put_row(out: &mut [u8], at: usize, tick: usize, kind: u8, row: &[u8]) -> usize
+    requires { ⌜ (kind < 4) × (length (now row) ≤ mostBits) × (at + (6 + rowSize (length (now row))) ≤ length (now out)) ⌝ }
+    ensures { λ r. ⌜ r ≡ 6 + rowSize (length (now (row .entry))) ⌝ }
+    ensures { λ r. ⌜ now (out .exit) ≡ overlay (now (out .entry)) at (header kind (length (now (row .entry))) ++ (tickBytes tick ++ pack (plain (now (row .entry))))) ⌝ }
 {
-    let head = header_of(kind, row.len());
+    let head = head_of(kind, row.len(), tick);
     rows::within::put(out, at, &head);
-    put_packed(out, at + 2, row, false);
-    2 + (row.len() + 7) / 8
+    put_packed(out, at + 6, row, false);
+    6 + (row.len() + 7) / 8
 }
 
 // The record of a reader frame. The answer is its number of bytes.
-pub fn put_sent(out: &mut [u8], at: usize, frame: &[u8]) -> usize
-    requires { ⌜ (clean (now frame) ≡ true) × (length (now frame) ≤ mostBits) × (at + length (sentRecord (now frame)) ≤ length (now out)) ⌝ }
-    ensures { λ r. ⌜ r ≡ length (sentRecord (now (frame .entry))) ⌝ }
-    ensures { λ r. ⌜ now (out .exit) ≡ overlay (now (out .entry)) at (sentRecord (now (frame .entry))) ⌝ }
+pub fn put_sent(out: &mut [u8], at: usize, tick: usize, frame: &[u8]) -> usize
+    requires { ⌜ (clean (now frame) ≡ true) × (length (now frame) ≤ mostBits) × (at + length (sentRecord (tickBytes tick) (now frame)) ≤ length (now out)) ⌝ }
+    ensures { λ r. ⌜ r ≡ length (sentRecord (tickBytes tick) (now (frame .entry))) ⌝ }
+    ensures { λ r. ⌜ now (out .exit) ≡ overlay (now (out .entry)) at (sentRecord (tickBytes tick) (now (frame .entry))) ⌝ }
 {
-    put_row(out, at, 0, frame)
+    put_row(out, at, tick, 0, frame)
 }
 
 // The record of what was heard after a reader frame. The answer is its number of bytes.
-pub fn put_heard(out: &mut [u8], at: usize, row: &[u8]) -> usize
-    requires { ⌜ (length (now row) ≤ mostBits) × (at + length (heardRecord (now row)) ≤ length (now out)) ⌝ }
-    ensures { λ r. ⌜ r ≡ length (heardRecord (now (row .entry))) ⌝ }
-    ensures { λ r. ⌜ now (out .exit) ≡ overlay (now (out .entry)) at (heardRecord (now (row .entry))) ⌝ }
+pub fn put_heard(out: &mut [u8], at: usize, tick: usize, row: &[u8]) -> usize
+    requires { ⌜ (length (now row) ≤ mostBits) × (at + length (heardRecord (tickBytes tick) (now row)) ≤ length (now out)) ⌝ }
+    ensures { λ r. ⌜ r ≡ length (heardRecord (tickBytes tick) (now (row .entry))) ⌝ }
+    ensures { λ r. ⌜ now (out .exit) ≡ overlay (now (out .entry)) at (heardRecord (tickBytes tick) (now (row .entry))) ⌝ }
 {
     if row.len() == 0 {
-        return put_row(out, at, 3, row);
+        return put_row(out, at, tick, 3, row);
     }
     if rows::is_clean(row) {
-        return put_row(out, at, 1, row);
+        return put_row(out, at, tick, 1, row);
     }
-    let first = put_row(out, at, 2, row);
+    let first = put_row(out, at, tick, 2, row);
     put_packed(out, at + first, row, true);
     first + (row.len() + 7) / 8
 }

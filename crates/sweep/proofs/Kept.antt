@@ -7,15 +7,16 @@ use lib.ListN.{length, take}
 use native.Mathlib.Omega.{arith}
 use Rattle.limits.specs.Limits.{logRoom, listRoom}
 use Rattle.rows.specs.Rows.{All}
-use Rattle.log.specs.Log.{logBytes, listBytes}
+use Rattle.log.specs.Log.{logSize, listBytes}
+use Rattle.log.specs.RecordLaws.{log-size}
 use Rattle.sweep_rules.specs.Demand.{Typed, Demand3}
 use Rattle.sweep_rules.specs.Run.{sweep}
 use Rattle.sweep_rules.specs.Terms.{within}
 use Rattle.sweep_rules.proofs.Demand3.{demand3}
 use Rattle.card.specs.declared.Card.{Card}
-use Rattle.reader.specs.declared.Reader.{Reader}
 use Rattle.sweep.specs.CallLaws.{Promised, call-says}
 use Rattle.sweep.specs.Sweep.{call, done, sweepOf}
+use Rattle.sweep.specs.declared.Start.{Start}
 use Rattle.sweep.specs.declared.Swept as code
 
 module _ (cards : List Card) (n : ℕ) (typed : All Typed (take n cards)) (field : within (take n cards) ≡ true) where
@@ -23,13 +24,13 @@ module _ (cards : List Card) (n : ℕ) (typed : All Typed (take n cards)) (field
   whole = demand3 (take n cards) typed field
 
   -- log and list have room
-  pub log-fits : (log : List ℕ) → logRoom ≤ length log → length (logBytes (sweep (take n cards) .exchanges)) ≤ length log
-  log-fits log h = omega (arith, whole .log-fits)
+  pub log-fits : (log : List ℕ) → logRoom ≤ length log → logSize (sweep (take n cards) .exchanges) ≤ length log
+  log-fits log h = omega (arith, whole .log-fits 0, log-size 0 (sweep (take n cards) .exchanges))
 
   pub list-fits : (list : List ℕ) → listRoom ≤ length list → length (listBytes (sweep (take n cards) .found)) ≤ length list
   list-fits list h = omega (arith, whole .list-fits)
 
   -- a call that gives the run
-  pub kept : (r : Reader) (log list : List ℕ) (s : code.Swept) (log₁ list₁ : List ℕ) → call s log₁ list₁ ≡ done cards n log list (sweep (take n cards))
-      → done cards n log list (sweep (take n cards)) ≡ sweepOf r cards n log list → Promised r cards n log list s log₁ list₁
-  kept r log list s log₁ list₁ e k = (e ∙ k, record { says = call-says r cards n log list s log₁ list₁ (e ∙ k); run = λ t. e; demand3 = λ t. whole })
+  pub kept : (s₀ : Start) (log list : List ℕ) (s : code.Swept) (log₁ list₁ : List ℕ) → call s log₁ list₁ ≡ done (s₀ .tick) cards n log list (sweep (take n cards))
+      → done (s₀ .tick) cards n log list (sweep (take n cards)) ≡ sweepOf s₀ cards n log list → Promised s₀ cards n log list s log₁ list₁
+  kept s₀ log list s log₁ list₁ e k = (e ∙ k, record { says = call-says s₀ cards n log list s log₁ list₁ (e ∙ k); run = λ t. e; demand3 = λ t. whole })

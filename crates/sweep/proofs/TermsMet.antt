@@ -23,7 +23,7 @@ use Rattle.uid.specs.declared.UidSize.the-variants.{Single}
 use Rattle.card.specs.declared.Card.{Card}
 use Rattle.card.specs.declared.CardState.the-variants.{Idle}
 use Rattle.reader.specs.declared.Phase.the-variants.{New}
-use Rattle.reader.specs.declared.Reader.{Reader}
+use Rattle.sweep.specs.declared.Start.{Start}
 
 -- ---- exactly there
 
@@ -32,7 +32,7 @@ or-false false false e = (refl, refl)
 or-false false true e = absurd (true≢false e)
 or-false true b e = absurd (true≢false e)
 
-module _ (r : Reader) (cards : List Card) (n : ℕ) (log list : List ℕ) where
+module _ (s₀ : Start) (cards : List Card) (n : ℕ) (log list : List ℕ) where
   tests-passed : (a b c : Bool) (s : Said) → declineIf a 11 (declineIf b 1 (declineIf c 6 s)) .number ≡ 0 → (a ≡ false) × (b ≡ false) × (c ≡ false)
   tests-passed true b c s e = absurd (omega arith)
   tests-passed false true c s e = absurd (omega arith)
@@ -40,13 +40,13 @@ module _ (r : Reader) (cards : List Card) (n : ℕ) (log list : List ℕ) where
   tests-passed false false false s e = (refl, refl, refl)
 
   -- where nothing is declined the terms hold
-  pub terms-if : sweepSays r cards n log list .number ≡ 0 → Terms r cards n log list
+  pub terms-if : sweepSays s₀ cards n log list .number ≡ 0 → Terms s₀ cards n log list
   terms-if e =
-      let p = tests-passed (not (isNew (r .phase))) (ltb (length log) logRoom || ltb (length list) listRoom) (ltb mostCards n || not (within (take n cards))) (turnSays (sweep (take n cards) .last)) e in
+      let p = tests-passed (not (isNew (s₀ .reader .phase))) (ltb (length log) logRoom || ltb (length list) listRoom) (ltb mostCards n || not (within (take n cards))) (turnSays (sweep (take n cards) .last)) e in
       let room = or-false (ltb (length log) logRoom) (ltb (length list) listRoom) (p .1) in
       let field = or-false (ltb mostCards n) (not (within (take n cards))) (p .2) in
       record {
-        new = not-false (isNew (r .phase)) (p .0);
+        new = not-false (isNew (s₀ .reader .phase)) (p .0);
         log-room = ltb-false (length log) logRoom (room .0);
         list-room = ltb-false (length list) listRoom (room .1);
         few = ltb-false mostCards n (field .0);
@@ -54,7 +54,7 @@ module _ (r : Reader) (cards : List Card) (n : ℕ) (log list : List ℕ) where
       }
 
   -- .. and where they hold nothing is
-  pub terms-then : All Typed (take n cards) → Terms r cards n log list → sweepSays r cards n log list .number ≡ 0
+  pub terms-then : All Typed (take n cards) → Terms s₀ cards n log list → sweepSays s₀ cards n log list .number ≡ 0
   terms-then typed t =
       rw (t .new, le-ltb (length log) logRoom (t .log-room), le-ltb (length list) listRoom (t .list-room), le-ltb mostCards n (t .few), t .field)
       (ap (λ x. turnSays x .number) (demand3 (take n cards) typed (t .field) .finished))
@@ -73,10 +73,10 @@ unfolding wall
 typed-wall zero h = tt
 typed-wall (suc k) h = (record { ten = refl; bytes = search arith }, typed-wall k (omega arith))
 
--- the full number of them meets the terms, and so demand 3 speaks of such a field
-pub full-terms : Terms (blank New false) (wall mostCards) mostCards (replicate logRoom 0) (replicate listRoom 0)
+-- the full number of them meets the terms, with any starting tick, and so demand 3 speaks of such a field
+pub full-terms : (t : ℕ) → Terms (record { reader = blank New false; tick = t }) (wall mostCards) mostCards (replicate logRoom 0) (replicate listRoom 0)
 unfolding wall within allFit cardFits apart any same valid uidBytes
-full-terms = record {
+full-terms t = record {
   new = refl;
   log-room = rw length-replicate (omega arith);
   list-room = rw length-replicate (omega arith);
@@ -86,4 +86,4 @@ full-terms = record {
 
 pub full-swept : Demand3 (wall mostCards) (sweep (wall mostCards))
 unfolding wall
-full-swept = demand3 (wall mostCards) (typed-wall mostCards (omega arith)) (full-terms .field)
+full-swept = demand3 (wall mostCards) (typed-wall mostCards (omega arith)) (full-terms 0 .field)

@@ -13,14 +13,14 @@ use Rattle.sweep_rules.specs.Demand.{Demand3}
 use Rattle.sweep_rules.specs.Run.{sweep}
 use Rattle.sweep_rules.specs.Terms.{within}
 use Rattle.card.specs.declared.Card.{Card}
-use Rattle.reader.specs.declared.Reader.{Reader}
 use Rattle.sweep.specs.Sweep.{call, done}
+use Rattle.sweep.specs.declared.Start.{Start}
 use Rattle.sweep.specs.declared.Swept.{Swept}
 
 -- the terms: a new reader, the room that a sweep asks for, and a field of at most the limit of cards, each with a valid UID, an index up to 8 and in
 -- Idle or Halt, no UID there twice
-pub record Terms (r : Reader) (cards : List Card) (n : ℕ) (log list : List ℕ) : Type 0 where
-  pub new : isNew (r .phase) ≡ true
+pub record Terms (start : Start) (cards : List Card) (n : ℕ) (log list : List ℕ) : Type 0 where
+  pub new : isNew (start .reader .phase) ≡ true
   pub log-room : logRoom ≤ length log
   pub list-room : listRoom ≤ length list
   pub few : n ≤ mostCards
@@ -32,18 +32,18 @@ abbrev pub sweptSays : Swept → Said
 sweptSays s = answerSays (s .answer) (s .reader)
 
 -- "A call tests 11, 1, 6": else as the run of the rules ends
-abbrev pub sweepSays : Reader → List Card → ℕ → List ℕ → List ℕ → Said
-sweepSays r cards n log list =
-    declineIf (not (isNew (r .phase))) 11
+abbrev pub sweepSays : Start → List Card → ℕ → List ℕ → List ℕ → Said
+sweepSays start cards n log list =
+    declineIf (not (isNew (start .reader .phase))) 11
     (declineIf (ltb (length log) logRoom || ltb (length list) listRoom) 1
     (declineIf (ltb mostCards n || not (within (take n cards))) 6
     (turnSays (sweep (take n cards) .last))))
 
 -- ---- what the call promises: s is what it gives, log₁ and list₁ the lent log and list afterwards
-pub record Sweeps (r : Reader) (cs : List Card) (n : ℕ) (log₀ list₀ : List ℕ) (s : Swept) (log₁ list₁ : List ℕ) : Type 0 where
-  pub says : sweptSays s ≡ sweepSays r cs n log₀ list₀
+pub record Sweeps (start : Start) (cs : List Card) (n : ℕ) (log₀ list₀ : List ℕ) (s : Swept) (log₁ list₁ : List ℕ) : Type 0 where
+  pub says : sweptSays s ≡ sweepSays start cs n log₀ list₀
   -- within the terms it is the run of the rules over the field: its reader and last answer, its cards in their places (those that are not in
-  -- the field unchanged), its counts, its log and list from the fronts of those lent
-  pub run : Terms r cs n log₀ list₀ → call s log₁ list₁ ≡ done cs n log₀ list₀ (sweep (take n cs))
+  -- the field unchanged), its counts, its log, from the starting tick on, and its list from the fronts of those lent
+  pub run : Terms start cs n log₀ list₀ → call s log₁ list₁ ≡ done (start .tick) cs n log₀ list₀ (sweep (take n cs))
   -- .. and of that run demand 3 holds
-  pub demand3 : Terms r cs n log₀ list₀ → Demand3 (take n cs) (sweep (take n cs))
+  pub demand3 : Terms start cs n log₀ list₀ → Demand3 (take n cs) (sweep (take n cs))

@@ -16,6 +16,7 @@ use Rattle.reader.specs.declared.Reader.{Reader}
 use Rattle.reader.specs.declared.Answer.the-variants.{Declines}
 use Rattle.refusal.specs.declared.Refusal.{Refusal}
 use Rattle.refusal.specs.declared.Refusal.the-variants.{Room, Argument, NotDue}
+use Rattle.sweep.specs.declared.Start.{Start}
 use Rattle.sweep.specs.declared.Swept.{Swept}
 
 -- what the call gives, and the lent log and list afterwards
@@ -31,26 +32,26 @@ call s log list = record { swept = s; log = log; list = list }
 abbrev pub refused : Reader → List Card → Refusal → Swept
 refused r cards e = record { reader = r; answer = Declines e; cards = cards; frames = 0; logged = 0; found = 0 }
 
--- the run o of the first n cards: the others are unchanged, log and list are written from their fronts on, the rest of them is untouched
-unfoldable pub done : List Card → ℕ → List ℕ → List ℕ → Out → Call
-done cards n log list o =
+-- the run o of the first n cards, the log's first tick t: the others are unchanged, log and list are written from their fronts on, the rest of them is untouched
+unfoldable pub done : ℕ → List Card → ℕ → List ℕ → List ℕ → Out → Call
+done t cards n log list o =
     record {
       swept = record {
         reader = o .last .reader;
         answer = o .last .answer;
         cards = o .cards ++ drop n cards;
         frames = length (o .exchanges);
-        logged = length (logBytes (o .exchanges));
+        logged = length (logBytes t (o .exchanges));
         found = length (o .found);
       };
-      log = overlay log 0 (logBytes (o .exchanges));
+      log = overlay log 0 (logBytes t (o .exchanges));
       list = overlay list 0 (listBytes (o .found));
     }
 
 -- 11, 1 and 6 are tested in this order
-unfoldable pub sweepOf : Reader → List Card → ℕ → List ℕ → List ℕ → Call
-sweepOf r cards n log list =
-    cond (not (isNew (r .phase))) (call (refused r cards NotDue) log list)
-    (cond (ltb (length log) logRoom || ltb (length list) listRoom) (call (refused r cards Room) log list)
-    (cond (ltb mostCards n || not (within (take n cards))) (call (refused r cards Argument) log list)
-    (done cards n log list (sweep (take n cards)))))
+unfoldable pub sweepOf : Start → List Card → ℕ → List ℕ → List ℕ → Call
+sweepOf s cards n log list =
+    cond (not (isNew (s .reader .phase))) (call (refused (s .reader) cards NotDue) log list)
+    (cond (ltb (length log) logRoom || ltb (length list) listRoom) (call (refused (s .reader) cards Room) log list)
+    (cond (ltb mostCards n || not (within (take n cards))) (call (refused (s .reader) cards Argument) log list)
+    (done (s .tick) cards n log list (sweep (take n cards)))))

@@ -8,6 +8,12 @@ use reader::Answer;
 use reader::Reader;
 use refusal::Refusal;
 
+// What a sweep begins with: a new reader, and the tick of the log's first record (T-09). Each record after it has the next tick; ticks wrap.
+pub struct Start {
+    pub reader: Reader,
+    pub tick: u32,
+}
+
 // After a sweep: the reader and its last answer, Finishes or why the sweep was declined; the cards; how many frames the reader sent, how many
 // bytes of the log are written, and how many UIDs stand in the list.
 pub struct Swept {
@@ -37,15 +43,16 @@ fn refused(r: Reader, cards: [Card; MOST_CARDS], e: Refusal) -> Swept
 // each UID into the lent list, from their fronts on. Declined, with all unchanged: 11, the reader is not new; 1, log or list is too short; 6,
 // the field is not one that a sweep takes.
 pub fn sweep(
-    r: Reader,
+    start: Start,
     cards: [Card; MOST_CARDS],
     n: usize,
     log: &mut [u8],
     list: &mut [u8],
 ) -> Swept
-    ensures { λ s. ⌜ call s (now (log .exit)) (now (list .exit)) ≡ sweepOf r cards n (now (log .entry)) (now (list .entry)) ⌝ }
-    ensures { λ s. ⌜ Sweeps r cards n (now (log .entry)) (now (list .entry)) s (now (log .exit)) (now (list .exit)) ⌝ }
+    ensures { λ s. ⌜ call s (now (log .exit)) (now (list .exit)) ≡ sweepOf start cards n (now (log .entry)) (now (list .entry)) ⌝ }
+    ensures { λ s. ⌜ Sweeps start cards n (now (log .entry)) (now (list .entry)) s (now (log .exit)) (now (list .exit)) ⌝ }
 {
+    let r = start.reader;
     let phase = r.phase;
     if !reader::within::is_new(phase) {
         return refused(r, cards, Refusal::NotDue);
@@ -62,7 +69,7 @@ pub fn sweep(
     if !sweep_steps::within::is_within(cards, n) {
         return refused(r, cards, Refusal::Argument);
     }
-    let p = sweep_steps::within::run(cards, n, log, list);
+    let p = sweep_steps::within::run(cards, n, start.tick, log, list);
     let turn = p.turn;
     let last = turn.reader;
     let answer = turn.answer;

@@ -5,7 +5,8 @@ use mathlib.Core.Bool.{true}
 use mathlib.Core.List.{List, append-nil}
 use lib.ListN.{length, take}
 use Rattle.rows.specs.Rows.{All, overlay}
-use Rattle.log.specs.Log.{logBytes, listBytes}
+use Rattle.log.specs.Log.{logBytes, logSize, listBytes}
+use Rattle.log.specs.RecordLaws.{log-size}
 use Rattle.sweep_rules.specs.Demand.{Typed}
 use Rattle.sweep_rules.specs.Run.{sweep}
 use Rattle.sweep_rules.specs.Terms.{within}
@@ -13,13 +14,13 @@ use Rattle.sweep.specs.CallLaws.{Promised, runs}
 use Rattle.sweep.specs.Sweep.{call, done}
 use Rattle.sweep.proofs.Kept.{log-fits, list-fits, kept}
 use Rattle.card.specs.declared.Card.{Card}
-use Rattle.reader.specs.declared.Reader.{Reader}
+use Rattle.sweep.specs.declared.Start.{Start}
 use Rattle.sweep_row.specs.declared.RowSwept.{RowSwept}
 use Rattle.sweep_row.specs.PadLaws.{take-row, drop-row}
 use Rattle.sweep_row.specs.Row.{sweptRow, endRow}
 use Rattle.sweep_row.specs.Under.{Begun}
 
-module _ (r : Reader) (cards : List Card) (log list : List ℕ) (b : Begun r cards log list) (typed : All Typed cards) (field : within cards ≡ true) where
+module _ (start : Start) (cards : List Card) (log list : List ℕ) (b : Begun start cards log list) (typed : All Typed cards) (field : within cards ≡ true) where
   abbrev n : ℕ
   n = length cards
 
@@ -32,16 +33,16 @@ module _ (r : Reader) (cards : List Card) (log list : List ℕ) (b : Begun r car
   field-row : within (take n cards) ≡ true
   field-row = ap within row ∙ field
 
-  pub row-log-fits : length (logBytes (sweep cards .exchanges)) ≤ length log
-  row-log-fits = subst (λ k. length (logBytes (sweep k .exchanges)) ≤ length log) row (log-fits cards n typed-row field-row log (b .log-room))
+  pub row-log-fits : logSize (sweep cards .exchanges) ≤ length log
+  row-log-fits = subst (λ k. logSize (sweep k .exchanges) ≤ length log) row (log-fits cards n typed-row field-row log (b .log-room))
 
   pub row-list-fits : length (listBytes (sweep cards .found)) ≤ length list
   row-list-fits = subst (λ k. length (listBytes (sweep k .found)) ≤ length list) row (list-fits cards n typed-row field-row list (b .list-room))
 
   pub carried : (s : RowSwept) (after : List Card) (log₁ list₁ : List ℕ) → s ≡ endRow (sweep cards) → after ≡ sweep cards .cards
-      → log₁ ≡ overlay log 0 (logBytes (sweep cards .exchanges)) → list₁ ≡ overlay list 0 (listBytes (sweep cards .found))
-      → Promised r cards n log list (sweptRow s after) log₁ list₁
+      → log₁ ≡ overlay log 0 (logBytes (start .tick) (sweep cards .exchanges)) → list₁ ≡ overlay list 0 (listBytes (sweep cards .found))
+      → Promised start cards n log list (sweptRow s after) log₁ list₁
   unfolding done
   carried s after log₁ list₁ es ec el ef =
-      let e : call (sweptRow s after) log₁ list₁ ≡ done cards n log list (sweep (take n cards)) = rw (es, ec, el, ef, row, drop-row n cards refl, append-nil) in
-      kept cards n typed-row field-row r log list (sweptRow s after) log₁ list₁ e (runs r cards n log list (b .new) (b .log-room) (b .list-room) (b .few) field-row)
+      let e : call (sweptRow s after) log₁ list₁ ≡ done (start .tick) cards n log list (sweep (take n cards)) = rw (es, ec, el, ef, row, drop-row n cards refl, append-nil, log-size (start .tick) (sweep cards .exchanges)) in
+      kept cards n typed-row field-row start log list (sweptRow s after) log₁ list₁ e (runs start cards n log list (b .new) (b .log-room) (b .list-room) (b .few) field-row)

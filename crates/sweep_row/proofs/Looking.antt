@@ -16,7 +16,7 @@ use Rattle.sweep.specs.CallLaws.{Promised, no-field}
 use Rattle.sweep_steps.specs.RunLaws as run-laws
 use Rattle.sweep_steps.specs.Steps as steps
 use Rattle.card.specs.declared.Card.{Card}
-use Rattle.reader.specs.declared.Reader.{Reader}
+use Rattle.sweep.specs.declared.Start.{Start}
 use Rattle.sweep_row.specs.declared.pass.Progress.{Progress}
 use Rattle.sweep_row.specs.declared.seen.Seen.{Seen}
 use Rattle.sweep_row.specs.PadLaws.{take-padded, length-padded, take-row, take-start}
@@ -25,8 +25,8 @@ use Rattle.sweep_row.specs.SeenLaws.{SeenFrom, seen-none, seen-next, set
 use Rattle.sweep_row.specs.Under.{padded, Begun, Looking, Taking, UnderIf, Under}
 
 -- it begins
-pub looking-first : (r : Reader) (cards : List Card) (log list : List ℕ) → Begun r cards log list → 0 < length cards → Looking r cards log list (looks r (length cards)) cards log list
-looking-first r cards log list b h =
+pub looking-first : (start : Start) (cards : List Card) (log list : List ℕ) → Begun start cards log list → 0 < length cards → Looking start cards log list (looks start (length cards)) cards log list
+looking-first start cards log list b h =
     let e : length cards ≡ suc (length cards - 1) = omega arith in
     record {
       begun = b;
@@ -36,6 +36,7 @@ looking-first r cards log list b h =
       count = refl;
       at = omega arith;
       bits = omega arith;
+      tick = refl;
       refused = refl;
       seen = subst (λ i. SeenFrom cards i noneSeen) e (seen-none cards (b .few));
     }
@@ -44,7 +45,7 @@ first-goes : goesOn firstRow ≡ true
 unfolding goesOn firstRow sends
 first-goes = refl
 
-module _ (r : Reader) (cards₀ : List Card) (log₀ list₀ : List ℕ) (p : Progress) (ws : List Card) (log list : List ℕ) (L : Looking r cards₀ log₀ list₀ p ws log list) where
+module _ (start : Start) (cards₀ : List Card) (log₀ list₀ : List ℕ) (p : Progress) (ws : List Card) (log list : List ℕ) (L : Looking start cards₀ log₀ list₀ p ws log list) where
   abbrev N : ℕ
   N = length cards₀
 
@@ -76,7 +77,7 @@ module _ (r : Reader) (cards₀ : List Card) (log₀ list₀ : List ℕ) (p : Pr
         (subst (λ k. (At N k .fits ≡ true → Typed (getD k (p .at) noCard)) → SeenFrom cards₀ (p .at) (At N k)) (sym (L .row)) (seen-next cards₀ (L .begun .few) (p .at) (L .at) (p .seen) (L .seen))) t
 
     -- the next card
-    pub looked-next : (p .at ≡ 0 → ⊥) → Looking r cards₀ log₀ list₀ (back p s) (set ws (p .at) c) log list
+    pub looked-next : (p .at ≡ 0 → ⊥) → Looking start cards₀ log₀ list₀ (back p s) (set ws (p .at) c) log list
     looked-next z =
         let e : p .at ≡ suc (p .at - 1) = omega (arith, z) in
         record {
@@ -87,6 +88,7 @@ module _ (r : Reader) (cards₀ : List Card) (log₀ list₀ : List ℕ) (p : Pr
           count = L .count;
           at = omega (arith, L .at);
           bits = L .bits;
+          tick = L .tick;
           refused = L .refused;
           seen = subst (λ i. SeenFrom cards₀ i s) e seen;
         }
@@ -100,16 +102,16 @@ module _ (r : Reader) (cards₀ : List Card) (log₀ list₀ : List ℕ) (p : Pr
       unfolding within
       is-within = rw (le-leb N mostCards (L .begun .few)) (sym (all .fits))
 
-      starts : s .fits ≡ true → Taking r cards₀ log₀ list₀ (again p firstRow) (set ws (p .at) c) log list
+      starts : s .fits ≡ true → Taking start cards₀ log₀ list₀ (again p firstRow) (set ws (p .at) c) log list
       unfolding firstRow steps.started
       starts g =
           let e : N ≡ suc (p .cards - 1) = omega (arith, L .count, L .at) in
           let k : take N (padded N cards₀) ≡ cards₀ = take-padded N cards₀ refl in
           let f : List ℕ = frame (firstRow .reader) in
-          let u : run-laws.Under (sweep cards₀) (padded N cards₀) N log₀ list₀ (steps.started (padded N cards₀)) log₀ list₀ =
-          subst (λ w. run-laws.Under (sweep w) (padded N cards₀) N log₀ list₀ (steps.started (padded N cards₀)) log₀ list₀) k (run-laws.under-none (padded N cards₀) N log₀ list₀ (length-padded N cards₀ refl (L .begun .few))) in
-          let v : run-laws.Under (sweep cards₀) (padded N cards₀) N log₀ list₀ (steps.started (padded N cards₀)) log list =
-          subst (λ x. run-laws.Under (sweep cards₀) (padded N cards₀) N log₀ list₀ (steps.started (padded N cards₀)) x list) (sym (L .log-row)) (subst (λ x. run-laws.Under (sweep cards₀) (padded N cards₀) N log₀ list₀ (steps.started (padded N cards₀)) log₀ x) (sym (L .list-row)) u) in
+          let u : run-laws.Under (start .tick) (sweep cards₀) (padded N cards₀) N log₀ list₀ (steps.started (padded N cards₀)) log₀ list₀ =
+          subst (λ w. run-laws.Under (start .tick) (sweep w) (padded N cards₀) N log₀ list₀ (steps.started (padded N cards₀)) log₀ list₀) k (run-laws.under-none (start .tick) (padded N cards₀) N log₀ list₀ (length-padded N cards₀ refl (L .begun .few))) in
+          let v : run-laws.Under (start .tick) (sweep cards₀) (padded N cards₀) N log₀ list₀ (steps.started (padded N cards₀)) log list =
+          subst (λ x. run-laws.Under (start .tick) (sweep cards₀) (padded N cards₀) N log₀ list₀ (steps.started (padded N cards₀)) x list) (sym (L .log-row)) (subst (λ x. run-laws.Under (start .tick) (sweep cards₀) (padded N cards₀) N log₀ list₀ (steps.started (padded N cards₀)) log₀ x) (sym (L .list-row)) u) in
           record {
             begun = L .begun;
             field = is-within ∙ g;
@@ -120,22 +122,23 @@ module _ (r : Reader) (cards₀ : List Card) (log₀ list₀ : List ℕ) (p : Pr
             count = L .count;
             at = omega (arith, L .count, L .at);
             goes = first-goes;
-            sweep-at = subst (λ m. run-laws.Under (sweep cards₀) (padded N cards₀) N log₀ list₀ (steps.started (padded m cards₀)) log list) (sym (L .count)) v;
+            tick = L .tick;
+            sweep-at = subst (λ m. run-laws.Under (start .tick) (sweep cards₀) (padded N cards₀) N log₀ list₀ (steps.started (padded m cards₀)) log list) (sym (L .count)) v;
             take-at =
                 subst (λ w. take-laws.Under (silence .heard) cards₀ N f (silence .heard) w 0 (suc (p .cards - 1))) (sym same)
                 (subst (take-laws.Under (silence .heard) cards₀ N f (silence .heard) cards₀ 0) e (take-start f (silence .heard) cards₀));
           }
 
-      declines : s .fits ≡ false → Promised r cards₀ N log₀ list₀ (sweptRow (p .swept) (set ws (p .at) c)) log list
+      declines : s .fits ≡ false → Promised start cards₀ N log₀ list₀ (sweptRow (p .swept) (set ws (p .at) c)) log list
       declines g =
-          subst (λ x. Promised r cards₀ N log₀ list₀ (sweptRow (p .swept) (set ws (p .at) c)) x list) (sym (L .log-row))
-          (subst (λ x. Promised r cards₀ N log₀ list₀ (sweptRow (p .swept) (set ws (p .at) c)) log₀ x) (sym (L .list-row))
-          (no-field r cards₀ N log₀ list₀ (L .begun .new) (L .begun .log-room) (L .begun .list-room) (L .begun .few) (sweptRow (p .swept) (set ws (p .at) c)) (ap₂ sweptRow (L .refused) same) (ap within (take-row N cards₀ refl) ∙ is-within ∙ g)))
+          subst (λ x. Promised start cards₀ N log₀ list₀ (sweptRow (p .swept) (set ws (p .at) c)) x list) (sym (L .log-row))
+          (subst (λ x. Promised start cards₀ N log₀ list₀ (sweptRow (p .swept) (set ws (p .at) c)) log₀ x) (sym (L .list-row))
+          (no-field start cards₀ N log₀ list₀ (L .begun .new) (L .begun .log-room) (L .begun .list-room) (L .begun .few) (sweptRow (p .swept) (set ws (p .at) c)) (ap₂ sweptRow (L .refused) same) (ap within (take-row N cards₀ refl) ∙ is-within ∙ g)))
 
-      pub looked-last : Under r cards₀ log₀ list₀ (decided p s) (set ws (p .at) c) log list
+      pub looked-last : Under start cards₀ log₀ list₀ (decided p s) (set ws (p .at) c) log list
       unfolding decided
       looked-last = go (s .fits) refl
         where
-          go : (g : Bool) → s .fits ≡ g → Under r cards₀ log₀ list₀ (cond g (again p firstRow) (stopped (p .swept))) (set ws (p .at) c) log list
-          go true e = subst (λ g. UnderIf g false r cards₀ log₀ list₀ (again p firstRow) (set ws (p .at) c) log list) (sym first-goes) (starts e)
+          go : (g : Bool) → s .fits ≡ g → Under start cards₀ log₀ list₀ (cond g (again p firstRow) (stopped (p .swept))) (set ws (p .at) c) log list
+          go true e = subst (λ g. UnderIf g false start cards₀ log₀ list₀ (again p firstRow) (set ws (p .at) c) log list) (sym first-goes) (starts e)
           go false e = declines e

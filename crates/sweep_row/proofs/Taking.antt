@@ -20,7 +20,7 @@ use Rattle.reader.specs.declared.Answer.the-variants.{Sends, Finds, Selects, Fi
 use Rattle.field.specs.Calls.{cardsAfter}
 use Rattle.field.specs.Field.{allTake, heardFrom}
 use Rattle.field.specs.TakeLaws as take-laws
-use Rattle.log.specs.Log.{Exchange, exchangeBytes, logBytes, listBytes, entryBytes, sentHeard}
+use Rattle.log.specs.Log.{Exchange, exchangeBytes, exchangeSize, logSize, listBytes, entryBytes, sentHeard}
 use Rattle.limits.specs.Limits.{mostCards}
 use Rattle.sweep_rules.specs.Run.{sweep}
 use Rattle.sweep.specs.CallLaws.{Promised}
@@ -28,11 +28,11 @@ use Rattle.sweep_steps.specs.RunLaws as run-laws
 use Rattle.sweep_steps.specs.Steps as steps
 use Rattle.sweep_steps.specs.declared.within.Progress as plain
 use Rattle.card.specs.declared.Card.{Card}
-use Rattle.reader.specs.declared.Reader.{Reader}
+use Rattle.sweep.specs.declared.Start.{Start}
 use Rattle.sweep_row.specs.declared.air.Air.{Air}
 use Rattle.sweep_row.specs.declared.pass.Progress.{Progress}
 use Rattle.sweep_row.specs.PadLaws.{take-padded, drop-padded, padded-after, length-after, take-start, take-next, heard-all, row-all}
-use Rattle.sweep_row.specs.Row.{sweptRow, noCard, silence, heardIn, airWith, exchangeWith, turnWith, finished, Roomy, goesOn, again, onward, Ready}
+use Rattle.sweep_row.specs.Row.{sweptRow, noCard, silence, heardIn, airWith, rowTick, exchangeWith, turnWith, finished, Roomy, goesOn, again, onward, Ready}
 use Rattle.sweep_row.specs.Under.{padded, plainAt, Taking, UnderIf, Under}
 use Rattle.sweep_row.proofs.Carried.{row-log-fits, row-list-fits, carried}
 
@@ -62,7 +62,7 @@ same-goes : (p : Progress) (cs : List Card) → steps.goesOn (plainAt p cs) ≡ 
 unfolding steps.goesOn goesOn
 same-goes p cs = refl
 
-module _ (r : Reader) (cards₀ : List Card) (log₀ list₀ : List ℕ) (p : Progress) (ws : List Card) (log list : List ℕ) (T : Taking r cards₀ log₀ list₀ p ws log list) where
+module _ (start : Start) (cards₀ : List Card) (log₀ list₀ : List ℕ) (p : Progress) (ws : List Card) (log list : List ℕ) (T : Taking start cards₀ log₀ list₀ p ws log list) where
   abbrev N : ℕ
   N = length cards₀
 
@@ -90,11 +90,11 @@ module _ (r : Reader) (cards₀ : List Card) (log₀ list₀ : List ℕ) (p : Pr
   goes-plain : steps.goesOn P ≡ true
   goes-plain = same-goes p cs ∙ T .goes
 
-  log-fits : length (logBytes (sweep cards₀ .exchanges)) ≤ length log₀
-  log-fits = row-log-fits r cards₀ log₀ list₀ (T .begun) (T .typed) (T .field)
+  log-fits : logSize (sweep cards₀ .exchanges) ≤ length log₀
+  log-fits = row-log-fits start cards₀ log₀ list₀ (T .begun) (T .typed) (T .field)
 
   list-fits : length (listBytes (sweep cards₀ .found)) ≤ length list₀
-  list-fits = row-list-fits r cards₀ log₀ list₀ (T .begun) (T .typed) (T .field)
+  list-fits = row-list-fits start cards₀ log₀ list₀ (T .begun) (T .typed) (T .field)
 
   bits-before : p .air .bits ≤ length (p .air .heard)
   bits-before = let u = T .take-at in omega (arith, u .count, take-laws.front-fits (T .heard₀) _ (length (p .air .heard)) (sym (ap length (u .row))))
@@ -116,16 +116,16 @@ module _ (r : Reader) (cards₀ : List Card) (log₀ list₀ : List ℕ) (p : Pr
 
     room : Roomy (p .swept) a log list
     room =
-        let R : steps.Roomy P N log list = run-laws.under-room (sweep cards₀) (padded N cards₀) N log₀ list₀ P log list (T .sweep-at) (T .begun .few) goes-plain log-fits list-fits in
+        let R : steps.Roomy P N log list = run-laws.under-room (start .tick) (sweep cards₀) (padded N cards₀) N log₀ list₀ P log list (T .sweep-at) (T .begun .few) goes-plain log-fits list-fits in
         record {
           bits = bits-after;
-          log-room = subst (λ x. p .swept .logged + length (exchangeBytes x) ≤ length log) exchange (R .log-room);
+          log-room = subst (λ x. p .swept .logged + exchangeSize x ≤ length log) exchange (R .log-room);
           list-room = subst (λ t. 11 * p .swept .found + 11 * length (steps.foundBy t) ≤ length list) turn (R .list-room);
           more = R .more;
         }
 
     abbrev log₁ : List ℕ
-    log₁ = overlay log (p .swept .logged) (exchangeBytes (exchangeWith (p .swept .reader) a))
+    log₁ = overlay log (p .swept .logged) (exchangeBytes (rowTick (p .tick) (p .swept)) (exchangeWith (p .swept .reader) a))
 
     abbrev list₁ : List ℕ
     list₁ = overlay list (11 * p .swept .found) (listBytes (steps.foundBy (turnWith (p .swept .reader) a)))
@@ -150,7 +150,7 @@ module _ (r : Reader) (cards₀ : List Card) (log₀ list₀ : List ℕ) (p : Pr
         record {
           turn = t;
           cards = k;
-          logged = p .swept .logged + length (exchangeBytes x);
+          logged = p .swept .logged + exchangeSize x;
           frames = p .swept .frames + 1;
           found = p .swept .found + length (steps.foundBy t);
         }
@@ -159,18 +159,18 @@ module _ (r : Reader) (cards₀ : List Card) (log₀ list₀ : List ℕ) (p : Pr
     unfolding steps.stepped steps.exchanged finished
     stepped = ap₂ (λ t x. made t x (cardsAfter (P .cards) N f)) turn exchange ∙ ap (made (turnWith (p .swept .reader) a) (exchangeWith (p .swept .reader) a)) plain-after
 
-    under : run-laws.Under (sweep cards₀) (padded N cards₀) N log₀ list₀ (plainAt q ws₁) log₁ list₁
+    under : run-laws.Under (start .tick) (sweep cards₀) (padded N cards₀) N log₀ list₀ (plainAt q ws₁) log₁ list₁
     under =
-        subst (λ s. run-laws.Under (sweep cards₀) (padded N cards₀) N log₀ list₀ s log₁ list₁) stepped
-        (run-laws.under-turn (sweep cards₀) (padded N cards₀) N log₀ list₀ P log list (T .sweep-at) (T .begun .few) goes-plain log-fits list-fits log₁ list₁
+        subst (λ s. run-laws.Under (start .tick) (sweep cards₀) (padded N cards₀) N log₀ list₀ s log₁ list₁) stepped
+        (run-laws.under-turn (start .tick) (sweep cards₀) (padded N cards₀) N log₀ list₀ P log list (T .sweep-at) (T .begun .few) goes-plain log-fits list-fits log₁ list₁
         (record {
-          log-row = ap (λ x. overlay log (p .swept .logged) (exchangeBytes x)) (sym exchange);
+          log-row = ap₂ (λ t x. overlay log (p .swept .logged) (exchangeBytes (rowTick t (p .swept)) x)) (T .tick) (sym exchange);
           list-row = ap (λ t. overlay list (11 * p .swept .found) (listBytes (steps.foundBy t))) (sym turn);
           entries = entries (steps.nextTurn P N);
         }))
 
     -- the next pass begins
-    goes-on : goesOn (finished (p .swept) a) ≡ true → Taking r cards₀ log₀ list₀ q ws₁ log₁ list₁
+    goes-on : goesOn (finished (p .swept) a) ≡ true → Taking start cards₀ log₀ list₀ q ws₁ log₁ list₁
     goes-on g =
         let e : length ws₁ ≡ suc (p .cards - 1) = omega (arith, size, T .count, T .at) in
         record {
@@ -183,6 +183,7 @@ module _ (r : Reader) (cards₀ : List Card) (log₀ list₀ : List ℕ) (p : Pr
           count = T .count;
           at = omega (arith, T .count, T .at);
           goes = g;
+          tick = T .tick;
           sweep-at = under;
           take-at = subst (take-laws.Under (silence .heard) ws₁ (length ws₁) (frame (q .swept .reader)) (silence .heard) ws₁ 0) e (take-start (frame (q .swept .reader)) (silence .heard) ws₁);
         }
@@ -190,7 +191,7 @@ module _ (r : Reader) (cards₀ : List Card) (log₀ list₀ : List ℕ) (p : Pr
     -- it is over
     module _ (g : goesOn (finished (p .swept) a) ≡ false) where
       ends : plainAt q ws₁ ≡ steps.ends (padded N cards₀) N (sweep cards₀)
-      ends = run-laws.under-ends (sweep cards₀) (padded N cards₀) N log₀ list₀ (plainAt q ws₁) log₁ list₁ under (T .begun .few) (same-goes q ws₁ ∙ g)
+      ends = run-laws.under-ends (start .tick) (sweep cards₀) (padded N cards₀) N log₀ list₀ (plainAt q ws₁) log₁ list₁ under (T .begun .few) (same-goes q ws₁ ∙ g)
 
       abbrev rest : List Card
       rest = replicate (mostCards - N) noCard
@@ -203,23 +204,23 @@ module _ (r : Reader) (cards₀ : List Card) (log₀ list₀ : List ℕ) (p : Pr
           let e : length (sweep cards₀ .cards) ≡ N = omega (arith, size, ap length both, length-append ws₁ rest, length-append (sweep cards₀ .cards) rest) in
           sym (take-at ws₁ rest N size) ∙ ap (take N) both ∙ take-at (sweep cards₀ .cards) rest N e
 
-      over : Promised r cards₀ N log₀ list₀ (sweptRow (q .swept) ws₁) log₁ list₁
+      over : Promised start cards₀ N log₀ list₀ (sweptRow (q .swept) ws₁) log₁ list₁
       over =
-          carried r cards₀ log₀ list₀ (T .begun) (T .typed) (T .field) (q .swept) ws₁ log₁ list₁
+          carried start cards₀ log₀ list₀ (T .begun) (T .typed) (T .field) (q .swept) ws₁ log₁ list₁
           (ap (λ s. record { reader = s .turn .reader; answer = s .turn .answer; frames = s .frames; logged = s .logged; found = s .found }) ends)
           cards-last
-          (run-laws.under-log (sweep cards₀) (padded N cards₀) N log₀ list₀ (plainAt q ws₁) log₁ list₁ under (T .begun .few) (same-goes q ws₁ ∙ g))
-          (run-laws.under-list (sweep cards₀) (padded N cards₀) N log₀ list₀ (plainAt q ws₁) log₁ list₁ under (T .begun .few) (same-goes q ws₁ ∙ g))
+          (run-laws.under-log (start .tick) (sweep cards₀) (padded N cards₀) N log₀ list₀ (plainAt q ws₁) log₁ list₁ under (T .begun .few) (same-goes q ws₁ ∙ g))
+          (run-laws.under-list (start .tick) (sweep cards₀) (padded N cards₀) N log₀ list₀ (plainAt q ws₁) log₁ list₁ under (T .begun .few) (same-goes q ws₁ ∙ g))
 
-    pub taken-last : Under r cards₀ log₀ list₀ q ws₁ log₁ list₁
+    pub taken-last : Under start cards₀ log₀ list₀ q ws₁ log₁ list₁
     taken-last = go (goesOn (finished (p .swept) a)) refl
       where
-        go : (g : Bool) → goesOn (finished (p .swept) a) ≡ g → UnderIf g false r cards₀ log₀ list₀ q ws₁ log₁ list₁
+        go : (g : Bool) → goesOn (finished (p .swept) a) ≡ g → UnderIf g false start cards₀ log₀ list₀ q ws₁ log₁ list₁
         go true e = goes-on e
         go false e = over e
 
   -- the next card
-  pub taken-next : (p .at ≡ 0 → ⊥) → Taking r cards₀ log₀ list₀ (onward p a) (set ws (p .at) (takes c f)) log list
+  pub taken-next : (p .at ≡ 0 → ⊥) → Taking start cards₀ log₀ list₀ (onward p a) (set ws (p .at) (takes c f)) log list
   taken-next z =
       let e : p .at ≡ suc (p .at - 1) = omega (arith, z) in
       record {
@@ -232,6 +233,7 @@ module _ (r : Reader) (cards₀ : List Card) (log₀ list₀ : List ℕ) (p : Pr
         count = T .count;
         at = omega (arith, T .at);
         goes = T .goes;
+        tick = T .tick;
         sweep-at = T .sweep-at;
         take-at = subst (take-laws.Under (T .heard₀) cs (length cs) f (a .heard) (set ws (p .at) (takes c f)) (a .bits)) e (take-next p (T .heard₀) cs ws at-cs (T .take-at));
       }

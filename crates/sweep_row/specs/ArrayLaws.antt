@@ -16,7 +16,7 @@ use Rattle.sweep.specs.CallLaws.{Promised}
 use Rattle.sweep.specs.Promise.{Terms, sweptSays, Sweeps}
 use Rattle.sweep.specs.Sweep.{Call, call, refused, done, sweepOf}
 use Rattle.card.specs.declared.Card.{Card}
-use Rattle.reader.specs.declared.Reader.{Reader}
+use Rattle.sweep.specs.declared.Start.{Start}
 use Rattle.refusal.specs.declared.Refusal.the-variants.{Room, Argument, NotDue}
 use Rattle.sweep_row.specs.declared.RowSwept.{RowSwept}
 use Rattle.sweep_row.specs.PadLaws.{take-row, drop-row}
@@ -38,7 +38,7 @@ with k c =
       list = c .list;
     }
 
-module _ (r : Reader) (cards : List Card) (n : ℕ) (log list : List ℕ) (long : length (take n cards) ≡ n) where
+module _ (start : Start) (cards : List Card) (n : ℕ) (log list : List ℕ) (long : length (take n cards) ≡ n) where
   abbrev front : List Card
   front = take n cards
 
@@ -54,48 +54,48 @@ module _ (r : Reader) (cards : List Card) (n : ℕ) (log list : List ℕ) (long 
   whole : front ++ rest ≡ cards
   whole = take-append-drop n cards
 
-  runs-on : (o : Out) → with rest (done front n log list o) ≡ done cards n log list o
+  runs-on : (o : Out) → with rest (done (start .tick) front n log list o) ≡ done (start .tick) cards n log list o
   unfolding done
   runs-on o = rw (no-more, append-nil)
 
   -- the call's three tests, over the cards k
   abbrev tests : Bool → Bool → Bool → List Card → Call → Call
-  tests a b c k d = cond a (call (refused r k NotDue) log list) (cond b (call (refused r k Room) log list) (cond c (call (refused r k Argument) log list) d))
+  tests a b c k d = cond a (call (refused (start .reader) k NotDue) log list) (cond b (call (refused (start .reader) k Room) log list) (cond c (call (refused (start .reader) k Argument) log list) d))
 
   same-tests : (a b c : Bool) (d d′ : Call) → with rest d ≡ d′ → with rest (tests a b c front d) ≡ tests a b c cards d′
-  same-tests true b c d d′ e = ap (λ k. call (refused r k NotDue) log list) whole
-  same-tests false true c d d′ e = ap (λ k. call (refused r k Room) log list) whole
-  same-tests false false true d d′ e = ap (λ k. call (refused r k Argument) log list) whole
+  same-tests true b c d d′ e = ap (λ k. call (refused (start .reader) k NotDue) log list) whole
+  same-tests false true c d d′ e = ap (λ k. call (refused (start .reader) k Room) log list) whole
+  same-tests false false true d d′ e = ap (λ k. call (refused (start .reader) k Argument) log list) whole
   same-tests false false false d d′ e = e
 
-  same-call : with rest (sweepOf r front n log list) ≡ sweepOf r cards n log list
+  same-call : with rest (sweepOf start front n log list) ≡ sweepOf start cards n log list
   unfolding sweepOf
   same-call =
-      rw again (same-tests (not (isNew (r .phase))) (ltb (length log) logRoom || ltb (length list) listRoom) (ltb mostCards n || not (within front))
-      (done front n log list (sweep front)) (done cards n log list (sweep front)) (runs-on (sweep front)))
+      rw again (same-tests (not (isNew (start .reader .phase))) (ltb (length log) logRoom || ltb (length list) listRoom) (ltb mostCards n || not (within front))
+      (done (start .tick) front n log list (sweep front)) (done (start .tick) cards n log list (sweep front)) (runs-on (sweep front)))
 
-  terms : Terms r cards n log list → Terms r front n log list
+  terms : Terms start cards n log list → Terms start front n log list
   terms t = record { new = t .new; log-room = t .log-room; list-room = t .list-room; few = t .few; field = ap within again ∙ t .field }
 
-  sweeps : (s : RowSwept) (after : List Card) (log₁ list₁ : List ℕ) → Sweeps r front n log list (sweptRow s after) log₁ list₁
-      → Sweeps r cards n log list (sweptRow s (after ++ rest)) log₁ list₁
+  sweeps : (s : RowSwept) (after : List Card) (log₁ list₁ : List ℕ) → Sweeps start front n log list (sweptRow s after) log₁ list₁
+      → Sweeps start cards n log list (sweptRow s (after ++ rest)) log₁ list₁
   sweeps s after log₁ list₁ w =
       record {
         says = subst (λ k. sweptSays (sweptRow s after) ≡ saysOf k) again (w .says);
-        run = λ t. ap (with rest) (subst (λ k. call (sweptRow s after) log₁ list₁ ≡ done front n log list (sweep k)) again (w .run (terms t))) ∙ runs-on (sweep front);
+        run = λ t. ap (with rest) (subst (λ k. call (sweptRow s after) log₁ list₁ ≡ done (start .tick) front n log list (sweep k)) again (w .run (terms t))) ∙ runs-on (sweep front);
         demand3 = λ t. subst (λ k. Demand3 k (sweep k)) again (w .demand3 (terms t));
       }
     where
       -- the call's numbers, by the field
       saysOf : List Card → Said
       saysOf k =
-          declineIf (not (isNew (r .phase))) 11
+          declineIf (not (isNew (start .reader .phase))) 11
           (declineIf (ltb (length log) logRoom || ltb (length list) listRoom) 1
           (declineIf (ltb mostCards n || not (within k)) 6 (turnSays (sweep k .last))))
 
-  pub array-promised : (s : RowSwept) (after : List Card) (log₁ list₁ : List ℕ) → Promised r front (length front) log list (sweptRow s after) log₁ list₁
-      → Promised r cards n log list (sweptRow s (after ++ rest)) log₁ list₁
-  array-promised s after log₁ list₁ p = go (subst (λ m. Promised r front m log list (sweptRow s after) log₁ list₁) long p)
+  pub array-promised : (s : RowSwept) (after : List Card) (log₁ list₁ : List ℕ) → Promised start front (length front) log list (sweptRow s after) log₁ list₁
+      → Promised start cards n log list (sweptRow s (after ++ rest)) log₁ list₁
+  array-promised s after log₁ list₁ p = go (subst (λ m. Promised start front m log list (sweptRow s after) log₁ list₁) long p)
     where
-      go : Promised r front n log list (sweptRow s after) log₁ list₁ → Promised r cards n log list (sweptRow s (after ++ rest)) log₁ list₁
+      go : Promised start front n log list (sweptRow s after) log₁ list₁ → Promised start cards n log list (sweptRow s (after ++ rest)) log₁ list₁
       go k = (ap (with rest) (k .0) ∙ same-call, sweeps s after log₁ list₁ (k .1))

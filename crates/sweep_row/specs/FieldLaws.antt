@@ -11,15 +11,15 @@ use Rattle.sweep_rules.specs.Run.{sweep}
 use Rattle.sweep_rules.specs.Terms.{within}
 use Rattle.sweep.specs.Sweep.{call, refused, done, sweepOf}
 use Rattle.card.specs.declared.Card.{Card}
-use Rattle.reader.specs.declared.Reader.{Reader}
+use Rattle.sweep.specs.declared.Start.{Start}
 use Rattle.refusal.specs.declared.Refusal.the-variants.{Room, Argument, NotDue}
 use Rattle.sweep_row.specs.PadLaws.{take-row}
 
-pub row-is-field : (r : Reader) (cards : List Card) (log list : List ℕ)
-    → sweepOf r cards (length cards) log list
-    ≡ cond (not (isNew (r .phase))) (call (refused r cards NotDue) log list)
-    (cond (ltb (length log) logRoom || ltb (length list) listRoom) (call (refused r cards Room) log list)
-    (cond (ltb mostCards (length cards) || not (within cards)) (call (refused r cards Argument) log list)
-    (done cards (length cards) log list (sweep cards))))
+pub row-is-field : (start : Start) (cards : List Card) (log list : List ℕ)
+    → sweepOf start cards (length cards) log list
+    ≡ cond (not (isNew (start .reader .phase))) (call (refused (start .reader) cards NotDue) log list)
+    (cond (ltb (length log) logRoom || ltb (length list) listRoom) (call (refused (start .reader) cards Room) log list)
+    (cond (ltb mostCards (length cards) || not (within cards)) (call (refused (start .reader) cards Argument) log list)
+    (done (start .tick) cards (length cards) log list (sweep cards))))
 unfolding sweepOf
-row-is-field r cards log list = rw (take-row (length cards) cards refl)
+row-is-field start cards log list = rw (take-row (length cards) cards refl)

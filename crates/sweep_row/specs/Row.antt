@@ -12,12 +12,13 @@ use Rattle.uid.specs.Uid.{uidBytes}
 use Rattle.card.specs.Card.{takes, answers}
 use Rattle.reader.specs.Reader.{blank, sends, frame, hear, uid}
 use Rattle.field.specs.Merge.{join}
-use Rattle.log.specs.Log.{Exchange, sentHeard, exchangeBytes, logBytes, listBytes}
+use Rattle.log.specs.Log.{Exchange, sentHeard, exchangeBytes, exchangeSize, logSize, listBytes}
 use Rattle.sweep_rules.specs.Demand.{Typed}
 use Rattle.limits.specs.Limits.{mostCards, mostFrames}
 use Rattle.sweep_rules.specs.Run.{Out}
 use Rattle.sweep_rules.specs.Terms.{cardFits}
 use Rattle.sweep_steps.specs.Steps.{goes, foundBy}
+use Rattle.sweep.specs.declared.Start.{Start}
 use Rattle.sweep.specs.declared.Swept.{Swept}
 use Rattle.card.specs.declared.Card.{Card}
 use Rattle.card.specs.declared.CardState.the-variants.{Off}
@@ -86,7 +87,7 @@ unfoldable pub turnWith : Reader → Air → Turn
 turnWith r a = hear r (heardIn a)
 
 unfoldable pub exchangedWith : Reader → Air → Exchanged
-exchangedWith r a = record { turn = turnWith r a; bytes = length (exchangeBytes (exchangeWith r a)) }
+exchangedWith r a = record { turn = turnWith r a; bytes = exchangeSize (exchangeWith r a) }
 
 unfoldable pub finished : RowSwept → Air → RowSwept
 finished s a =
@@ -95,14 +96,18 @@ finished s a =
       reader = t .reader;
       answer = t .answer;
       frames = s .frames + 1;
-      logged = s .logged + length (exchangeBytes (exchangeWith (s .reader) a));
+      logged = s .logged + exchangeSize (exchangeWith (s .reader) a);
       found = s .found + length (foundBy t);
     }
+
+-- T-09: the tick of its first record, of a sweep that began with the tick t
+abbrev pub rowTick : ℕ → RowSwept → ℕ
+rowTick t s = t + 2 * s .frames
 
 -- log and list have room for it
 pub record Roomy (s : RowSwept) (a : Air) (log list : List ℕ) : Type 0 where
   pub bits : a .bits ≤ length (a .heard)
-  pub log-room : s .logged + length (exchangeBytes (exchangeWith (s .reader) a)) ≤ length log
+  pub log-room : s .logged + exchangeSize (exchangeWith (s .reader) a) ≤ length log
   pub list-room : 11 * s .found + 11 * length (foundBy (turnWith (s .reader) a)) ≤ length list
   pub more : s .frames < mostFrames
 
@@ -126,29 +131,30 @@ endRow o =
       reader = o .last .reader;
       answer = o .last .answer;
       frames = length (o .exchanges);
-      logged = length (logBytes (o .exchanges));
+      logged = logSize (o .exchanges);
       found = length (o .found);
     }
 
 -- ---- how far it is
 
 abbrev pub stopped : RowSwept → Progress
-stopped s = record { going = false; at = 0; swept = s; looking = false; cards = 0; seen = noneSeen; air = silence }
+stopped s = record { going = false; at = 0; swept = s; looking = false; cards = 0; seen = noneSeen; air = silence; tick = 0 }
 
 -- the first pass over a row of n cards
-abbrev pub looks : Reader → ℕ → Progress
-looks r n = record { going = true; at = n - 1; swept = refusedRow r Argument; looking = true; cards = n; seen = noneSeen; air = silence }
+abbrev pub looks : Start → ℕ → Progress
+looks start n =
+    record { going = true; at = n - 1; swept = refusedRow (start .reader) Argument; looking = true; cards = n; seen = noneSeen; air = silence; tick = start .tick }
 
 -- the next pass over the row
 abbrev pub again : Progress → RowSwept → Progress
-again p s = record { going = goesOn s; at = p .cards - 1; swept = s; looking = false; cards = p .cards; seen = p .seen; air = silence }
+again p s = record { going = goesOn s; at = p .cards - 1; swept = s; looking = false; cards = p .cards; seen = p .seen; air = silence; tick = p .tick }
 
 -- the next card of a pass
 abbrev pub onward : Progress → Air → Progress
-onward p a = record { going = p .going; at = p .at - 1; swept = p .swept; looking = p .looking; cards = p .cards; seen = p .seen; air = a }
+onward p a = record { going = p .going; at = p .at - 1; swept = p .swept; looking = p .looking; cards = p .cards; seen = p .seen; air = a; tick = p .tick }
 
 abbrev pub back : Progress → Seen → Progress
-back p s = record { going = p .going; at = p .at - 1; swept = p .swept; looking = p .looking; cards = p .cards; seen = s; air = p .air }
+back p s = record { going = p .going; at = p .at - 1; swept = p .swept; looking = p .looking; cards = p .cards; seen = s; air = p .air; tick = p .tick }
 
 -- all cards are seen
 unfoldable pub decided : Progress → Seen → Progress
@@ -174,7 +180,7 @@ turnOf p c =
 
 -- log and list afterwards
 unfoldable pub logOf : Progress → Card → List ℕ → List ℕ
-logOf p c log = cond (p .looking) log (cond (eqb (p .at) 0) (overlay log (p .swept .logged) (exchangeBytes (exchangeWith (p .swept .reader) (airWith p c)))) log)
+logOf p c log = cond (p .looking) log (cond (eqb (p .at) 0) (overlay log (p .swept .logged) (exchangeBytes (rowTick (p .tick) (p .swept)) (exchangeWith (p .swept .reader) (airWith p c)))) log)
 
 unfoldable pub listOf : Progress → Card → List ℕ → List ℕ
 listOf p c list = cond (p .looking) list (cond (eqb (p .at) 0) (overlay list (11 * p .swept .found) (listBytes (foundBy (turnWith (p .swept .reader) (airWith p c))))) list)

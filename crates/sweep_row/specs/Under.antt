@@ -15,7 +15,7 @@ use Rattle.sweep.specs.CallLaws.{Promised}
 use Rattle.sweep_steps.specs.RunLaws as run-laws
 use Rattle.sweep_steps.specs.declared.within.Progress as plain
 use Rattle.card.specs.declared.Card.{Card}
-use Rattle.reader.specs.declared.Reader.{Reader}
+use Rattle.sweep.specs.declared.Start.{Start}
 use Rattle.refusal.specs.declared.Refusal.the-variants.{Argument}
 use Rattle.sweep_row.specs.declared.pass.Progress.{Progress}
 use Rattle.sweep_row.specs.Row.{sweptRow, noCard, refusedRow, goesOn}
@@ -26,22 +26,23 @@ abbrev pub padded : ℕ → List Card → List Card
 padded n cards = cards ++ replicate (mostCards - n) noCard
 
 -- the tests that come before the first card
-pub record Begun (r : Reader) (cards : List Card) (log list : List ℕ) : Type 0 where
-  pub new : isNew (r .phase) ≡ true
+pub record Begun (start : Start) (cards : List Card) (log list : List ℕ) : Type 0 where
+  pub new : isNew (start .reader .phase) ≡ true
   pub log-room : logRoom ≤ length log
   pub list-room : listRoom ≤ length list
   pub few : length cards ≤ mostCards
 
 -- the cards behind the place are seen
-pub record Looking (r : Reader) (cards₀ : List Card) (log₀ list₀ : List ℕ) (p : Progress) (cards : List Card) (log list : List ℕ) : Type 0 where
-  pub begun : Begun r cards₀ log₀ list₀
+pub record Looking (start : Start) (cards₀ : List Card) (log₀ list₀ : List ℕ) (p : Progress) (cards : List Card) (log list : List ℕ) : Type 0 where
+  pub begun : Begun start cards₀ log₀ list₀
   pub row : cards ≡ cards₀
   pub log-row : log ≡ log₀
   pub list-row : list ≡ list₀
   pub count : p .cards ≡ length cards₀
   pub at : p .at < length cards₀
   pub bits : p .air .bits ≤ length (p .air .heard)
-  pub refused : p .swept ≡ refusedRow r Argument
+  pub tick : p .tick ≡ start .tick
+  pub refused : p .swept ≡ refusedRow (start .reader) Argument
   pub seen : SeenFrom cards₀ (suc (p .at)) (p .seen)
 
 -- how far the plain sweep is where the cards cs have not taken the frame yet
@@ -56,8 +57,8 @@ plainAt p cs =
     }
 
 -- the cards behind the place have taken the frame that is out; cs are the cards before it, heard₀ is what stood in the row that is heard
-pub record Taking (r : Reader) (cards₀ : List Card) (log₀ list₀ : List ℕ) (p : Progress) (cards : List Card) (log list : List ℕ) : Type 0 where
-  pub begun : Begun r cards₀ log₀ list₀
+pub record Taking (start : Start) (cards₀ : List Card) (log₀ list₀ : List ℕ) (p : Progress) (cards : List Card) (log list : List ℕ) : Type 0 where
+  pub begun : Begun start cards₀ log₀ list₀
   pub field : within cards₀ ≡ true
   pub typed : All Typed cards₀
   pub cs : List Card
@@ -66,17 +67,18 @@ pub record Taking (r : Reader) (cards₀ : List Card) (log₀ list₀ : List ℕ
   pub count : p .cards ≡ length cards₀
   pub at : p .at < length cards₀
   pub goes : goesOn (p .swept) ≡ true
-  pub sweep-at : run-laws.Under (sweep cards₀) (padded (length cards₀) cards₀) (length cards₀) log₀ list₀ (plainAt p cs) log list
+  pub tick : p .tick ≡ start .tick
+  pub sweep-at : run-laws.Under (start .tick) (sweep cards₀) (padded (length cards₀) cards₀) (length cards₀) log₀ list₀ (plainAt p cs) log list
   pub take-at : take-laws.Under heard₀ cs (length cs) (frame (p .swept .reader)) (p .air .heard) cards (p .air .bits) (suc (p .at))
 
 -- going and looking say which
-abbrev pub UnderIf : Bool → Bool → Reader → List Card → List ℕ → List ℕ → Progress → List Card → List ℕ → List ℕ → Type 0
-UnderIf false l r cards₀ log₀ list₀ p cards log list = Promised r cards₀ (length cards₀) log₀ list₀ (sweptRow (p .swept) cards) log list
-UnderIf true true r cards₀ log₀ list₀ p cards log list = Looking r cards₀ log₀ list₀ p cards log list
-UnderIf true false r cards₀ log₀ list₀ p cards log list = Taking r cards₀ log₀ list₀ p cards log list
+abbrev pub UnderIf : Bool → Bool → Start → List Card → List ℕ → List ℕ → Progress → List Card → List ℕ → List ℕ → Type 0
+UnderIf false l start cards₀ log₀ list₀ p cards log list = Promised start cards₀ (length cards₀) log₀ list₀ (sweptRow (p .swept) cards) log list
+UnderIf true true start cards₀ log₀ list₀ p cards log list = Looking start cards₀ log₀ list₀ p cards log list
+UnderIf true false start cards₀ log₀ list₀ p cards log list = Taking start cards₀ log₀ list₀ p cards log list
 
-abbrev pub Under : Reader → List Card → List ℕ → List ℕ → Progress → List Card → List ℕ → List ℕ → Type 0
-Under r cards₀ log₀ list₀ p cards log list = UnderIf (p .going) (p .looking) r cards₀ log₀ list₀ p cards log list
+abbrev pub Under : Start → List Card → List ℕ → List ℕ → Progress → List Card → List ℕ → List ℕ → Type 0
+Under start cards₀ log₀ list₀ p cards log list = UnderIf (p .going) (p .looking) start cards₀ log₀ list₀ p cards log list
 
 -- more turns than a pass over a row has
 abbrev pub passTurns : ℕ
@@ -87,5 +89,5 @@ abbrev pub measure : Progress → ℕ
 measure p = cond (p .looking) (passTurns * (1 + mostFrames) + p .at) (passTurns * (mostFrames - p .swept .frames) + p .at)
 
 -- a sweep over any row of n cards begins
-pub record Opened (r : Reader) (n : ℕ) (log₀ list₀ : List ℕ) (p : Progress) (log list : List ℕ) : Type 0 where
-  pub begins : (cards : List Card) → length cards ≡ n → Under r cards log₀ list₀ p cards log list
+pub record Opened (start : Start) (n : ℕ) (log₀ list₀ : List ℕ) (p : Progress) (log list : List ℕ) : Type 0 where
+  pub begins : (cards : List Card) → length cards ≡ n → Under start cards log₀ list₀ p cards log list

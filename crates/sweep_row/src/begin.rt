@@ -4,7 +4,7 @@ ghost use mathlib.Core.List.{[]};
 ghost use Prim.Native.Nat.{_≤_};
 ghost use lib.ListN.{length};
 ghost use Rattle.rows.specs.Rows.{overlay};
-ghost use Rattle.log.specs.Log.{logBytes, listBytes};
+ghost use Rattle.log.specs.Log.{logBytes, logSize, listBytes};
 ghost use Rattle.sweep_rules.specs.Run.{sweep};
 ghost use Rattle.sweep_row.specs.Row.{refusedRow, firstRow, endRow};
 use crate::RowSwept;
@@ -48,10 +48,10 @@ pub fn first() -> RowSwept
 }
 
 // The sweep over an empty row: REQA and silence.
-pub fn empty(log: &mut [u8], list: &mut [u8]) -> RowSwept
-    requires { ⌜ (length (logBytes (sweep [] .exchanges)) ≤ length (now log)) × (length (listBytes (sweep [] .found)) ≤ length (now list)) ⌝ }
+pub fn empty(tick: u32, log: &mut [u8], list: &mut [u8]) -> RowSwept
+    requires { ⌜ (logSize (sweep [] .exchanges) ≤ length (now log)) × (length (listBytes (sweep [] .found)) ≤ length (now list)) ⌝ }
     ensures { λ s. ⌜ s ≡ endRow (sweep []) ⌝ }
-    ensures { λ s. ⌜ now (log .exit) ≡ overlay (now (log .entry)) 0 (logBytes (sweep [] .exchanges)) ⌝ }
+    ensures { λ s. ⌜ now (log .exit) ≡ overlay (now (log .entry)) 0 (logBytes tick (sweep [] .exchanges)) ⌝ }
     ensures { λ s. ⌜ now (list .exit) ≡ overlay (now (list .entry)) 0 (listBytes (sweep [] .found)) ⌝ }
 {
     let u = Uid {
@@ -64,7 +64,7 @@ pub fn empty(log: &mut [u8], list: &mut [u8]) -> RowSwept
         index: 0,
         state: CardState::Off,
     };
-    let p = sweep_steps::within::run([c; MOST_CARDS], 0, log, list);
+    let p = sweep_steps::within::run([c; MOST_CARDS], 0, tick, log, list);
     let t = p.turn;
     let r = t.reader;
     let a = t.answer;

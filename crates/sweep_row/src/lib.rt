@@ -7,6 +7,7 @@ ghost use Rattle.sweep_row.specs.Row.{sweptRow};
 use card::Card;
 use reader::Answer;
 use reader::Reader;
+use sweep::Start;
 
 mod air;
 mod begin;
@@ -28,11 +29,11 @@ pub struct RowSwept {
 // The reader finds every idle card of the lent row and halts it. Each frame and what was heard after it goes into the lent log, each UID into
 // the lent list, from their fronts on. Declined, with all unchanged: 11, the reader is not new; 1, log or list is too short; 6, the row has more
 // cards than the limit or is not a field that a sweep takes.
-pub fn sweep_row(r: Reader, cards: &mut [Card], log: &mut [u8], list: &mut [u8]) -> RowSwept
-    ensures { λ s. ⌜ call (sweptRow s (now (cards .exit))) (now (log .exit)) (now (list .exit)) ≡ sweepOf r (now (cards .entry)) (length (now (cards .entry))) (now (log .entry)) (now (list .entry)) ⌝ }
-    ensures { λ s. ⌜ Sweeps r (now (cards .entry)) (length (now (cards .entry))) (now (log .entry)) (now (list .entry)) (sweptRow s (now (cards .exit))) (now (log .exit)) (now (list .exit)) ⌝ }
+pub fn sweep_row(start: Start, cards: &mut [Card], log: &mut [u8], list: &mut [u8]) -> RowSwept
+    ensures { λ s. ⌜ call (sweptRow s (now (cards .exit))) (now (log .exit)) (now (list .exit)) ≡ sweepOf start (now (cards .entry)) (length (now (cards .entry))) (now (log .entry)) (now (list .entry)) ⌝ }
+    ensures { λ s. ⌜ Sweeps start (now (cards .entry)) (length (now (cards .entry))) (now (log .entry)) (now (list .entry)) (sweptRow s (now (cards .exit))) (now (log .exit)) (now (list .exit)) ⌝ }
 {
-    let mut p = pass::opening(r, cards.len(), log, list);
+    let mut p = pass::opening(start, cards.len(), log, list);
     while p.going {
         let t = pass::turn(p, cards[p.at], log, list);
         cards[p.at] = t.card;

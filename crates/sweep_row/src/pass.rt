@@ -11,11 +11,12 @@ use crate::air::Air;
 use crate::seen::Seen;
 use card::Card;
 use limits::MOST_CARDS;
-use reader::Reader;
 use refusal::Refusal;
+use sweep::Start;
 
 // going: the card at a place is asked for; at: its place. In a pass over the row its cards come one by one, the last first. The first pass
-// looks whether the row is a field that a sweep takes; in each pass after it the cards take the frame that the reader has out.
+// looks whether the row is a field that a sweep takes; in each pass after it the cards take the frame that the reader has out. tick: that of the
+// log's first record.
 pub struct Progress {
     pub going: bool,
     pub at: usize,
@@ -24,6 +25,7 @@ pub struct Progress {
     pub cards: usize,
     pub seen: Seen,
     pub air: Air,
+    pub tick: u32,
 }
 
 // A card after its turn, and how far the sweep is.
@@ -46,14 +48,16 @@ fn stopped(s: RowSwept) -> Progress
         cards: 0,
         seen: n,
         air: a,
+        tick: 0,
     }
 }
 
 // The first pass over a row of n cards.
-fn looks(r: Reader, n: usize) -> Progress
+fn looks(start: Start, n: usize) -> Progress
     requires { ⌜ 0 < n ⌝ }
-    ensures { λ p. ⌜ p ≡ looks r n ⌝ }
+    ensures { λ p. ⌜ p ≡ looks start n ⌝ }
 {
+    let r = start.reader;
     let s = crate::begin::refused(r, Refusal::Argument);
     let seen = crate::seen::none();
     let a = crate::air::silence();
@@ -65,6 +69,7 @@ fn looks(r: Reader, n: usize) -> Progress
         cards: n,
         seen: seen,
         air: a,
+        tick: start.tick,
     }
 }
 
@@ -84,6 +89,7 @@ fn again(p: Progress, s: RowSwept) -> Progress
         cards: p.cards,
         seen: seen,
         air: a,
+        tick: p.tick,
     }
 }
 
@@ -102,6 +108,7 @@ fn onward(p: Progress, a: Air) -> Progress
         cards: p.cards,
         seen: seen,
         air: a,
+        tick: p.tick,
     }
 }
 
@@ -120,6 +127,7 @@ fn back(p: Progress, seen: Seen) -> Progress
         cards: p.cards,
         seen: seen,
         air: a,
+        tick: p.tick,
     }
 }
 
@@ -165,7 +173,7 @@ pub fn turn(p: Progress, c: Card, log: &mut [u8], list: &mut [u8]) -> Turned
     let k = h.card;
     let b = h.air;
     if p.at == 0 {
-        let f = crate::finish::finish(s, b, log, list);
+        let f = crate::finish::finish(s, b, p.tick, log, list);
         let q = again(p, f);
         return Turned { card: k, next: q };
     }
@@ -174,9 +182,10 @@ pub fn turn(p: Progress, c: Card, log: &mut [u8], list: &mut [u8]) -> Turned
 }
 
 // The sweep's tests, in their order; then the first pass. An empty row is swept at once.
-pub fn opening(r: Reader, n: usize, log: &mut [u8], list: &mut [u8]) -> Progress
-    ensures { λ p. ⌜ Opened r n (now (log .entry)) (now (list .entry)) p (now (log .exit)) (now (list .exit)) ⌝ }
+pub fn opening(start: Start, n: usize, log: &mut [u8], list: &mut [u8]) -> Progress
+    ensures { λ p. ⌜ Opened start n (now (log .entry)) (now (list .entry)) p (now (log .exit)) (now (list .exit)) ⌝ }
 {
+    let r = start.reader;
     let phase = r.phase;
     if !reader::within::is_new(phase) {
         return stopped(crate::begin::refused(r, Refusal::NotDue));
@@ -191,8 +200,8 @@ pub fn opening(r: Reader, n: usize, log: &mut [u8], list: &mut [u8]) -> Progress
         return stopped(crate::begin::refused(r, Refusal::Argument));
     }
     if n == 0 {
-        let s = crate::begin::empty(log, list);
+        let s = crate::begin::empty(start.tick, log, list);
         return stopped(s);
     }
-    looks(r, n)
+    looks(start, n)
 }

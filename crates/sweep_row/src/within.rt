@@ -8,7 +8,7 @@ ghost use Rattle.sweep_row.specs.Row.{sweptRow};
 use crate::RowSwept;
 use card::Card;
 use limits::MOST_CARDS;
-use reader::Reader;
+use sweep::Start;
 use sweep::Swept;
 
 // The array after the sweep, and what the sweep over the lent row gave.
@@ -19,16 +19,16 @@ pub struct ArraySwept {
 
 // The first n cards of the array are lent as the row; the others are unchanged.
 pub fn sweep_array(
-    r: Reader,
+    start: Start,
     mut cards: [Card; MOST_CARDS],
     n: usize,
     log: &mut [u8],
     list: &mut [u8],
 ) -> ArraySwept
     requires { ⌜ n ≤ mostCards ⌝ }
-    ensures { λ s. ⌜ (call (sweptRow (s .swept) (s .cards)) (now (log .exit)) (now (list .exit)) ≡ sweepOf r cards n (now (log .entry)) (now (list .entry))) × Sweeps r cards n (now (log .entry)) (now (list .entry)) (sweptRow (s .swept) (s .cards)) (now (log .exit)) (now (list .exit)) ⌝ }
+    ensures { λ s. ⌜ (call (sweptRow (s .swept) (s .cards)) (now (log .exit)) (now (list .exit)) ≡ sweepOf start cards n (now (log .entry)) (now (list .entry))) × Sweeps start cards n (now (log .entry)) (now (list .entry)) (sweptRow (s .swept) (s .cards)) (now (log .exit)) (now (list .exit)) ⌝ }
 {
-    let s = crate::sweep_row(r, &mut cards[..n], log, list);
+    let s = crate::sweep_row(start, &mut cards[..n], log, list);
     ArraySwept {
         cards: cards,
         swept: s,
@@ -37,19 +37,19 @@ pub fn sweep_array(
 
 // The plain sweep's answer, by the lent row. An array holds no row of more cards than the limit, which the plain sweep declines.
 pub fn sweep_by_row(
-    r: Reader,
+    start: Start,
     cards: [Card; MOST_CARDS],
     n: usize,
     log: &mut [u8],
     list: &mut [u8],
 ) -> Swept
-    ensures { λ s. ⌜ call s (now (log .exit)) (now (list .exit)) ≡ sweepOf r cards n (now (log .entry)) (now (list .entry)) ⌝ }
-    ensures { λ s. ⌜ Sweeps r cards n (now (log .entry)) (now (list .entry)) s (now (log .exit)) (now (list .exit)) ⌝ }
+    ensures { λ s. ⌜ call s (now (log .exit)) (now (list .exit)) ≡ sweepOf start cards n (now (log .entry)) (now (list .entry)) ⌝ }
+    ensures { λ s. ⌜ Sweeps start cards n (now (log .entry)) (now (list .entry)) s (now (log .exit)) (now (list .exit)) ⌝ }
 {
     if n > MOST_CARDS {
-        return sweep::sweep(r, cards, n, log, list);
+        return sweep::sweep(start, cards, n, log, list);
     }
-    let a = sweep_array(r, cards, n, log, list);
+    let a = sweep_array(start, cards, n, log, list);
     let s = a.swept;
     let last = s.reader;
     let answer = s.answer;

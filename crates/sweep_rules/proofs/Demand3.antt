@@ -17,7 +17,8 @@ use Rattle.uid.specs.Uid.{levels, rowOf, falling, frameSum, uidBytes}
 use Rattle.uid.specs.UidLaws.{name, Sound, rows-off, length-row, name-row}
 use Rattle.reader.specs.Reader.{blank, sends, turn}
 use Rattle.log.specs.CountLaws.{sent-counted}
-use Rattle.log.specs.Log.{exchangeBytes, logBytes}
+use Rattle.log.specs.Log.{exchangeBytes, logBytes, exchangeSize, logSize}
+use Rattle.log.specs.RecordLaws.{exchange-size, log-size}
 use Rattle.sweep_rules.specs.Demand.{Typed, idle, halted, Descending, Demand3}
 use Rattle.limits.specs.Limits.{mostCards, mostFrames, framesBound}
 use Rattle.sweep_rules.specs.Run.{sweep}
@@ -126,14 +127,14 @@ module _ (cs : List Card) (s : All Fits cs) (few : length cs ≤ mostCards) (d :
   unfolding uidBytes
   fits-found = all-map {F = Sound} (λ u. length u ≤ 10) uidBytes found (λ u t. rw length-take (omega (arith, t .ten))) sound-found
 
-  smalls : All (λ e. (0 < length (e .sent)) × (length (exchangeBytes e) ≤ 19)) (sweep cs .exchanges)
+  smalls : All (λ e. (0 < length (e .sent)) × (exchangeSize e ≤ 27)) (sweep cs .exchanges)
   unfolding view
   smalls = small-all (sweep cs .exchanges) (ap (λ w. w .2 .1) swept)
 
   -- the log of a sweep in which at most n cards are idle, n free: the limit's room follows from it
-  log-bound : (n : ℕ) → length (idle cs) ≤ n → length (logBytes (sweep cs .exchanges)) ≤ 19 * framesBound n
+  log-bound : (n : ℕ) → length (idle cs) ≤ n → logSize (sweep cs .exchanges) ≤ 27 * framesBound n
   log-bound n few =
-      let short : All (λ e. length (exchangeBytes e) ≤ 19) (sweep cs .exchanges) = all-weaken (sweep cs .exchanges) (λ e h. h .1) smalls in
+      let short : All (λ e. exchangeSize e ≤ 27) (sweep cs .exchanges) = all-weaken (sweep cs .exchanges) (λ e h. h .1) smalls in
       let most : frames (sort (idles cs)) ≤ framesBound n = frames-small n (idles cs) whole (omega (arith, length-idles, few)) in
       omega (arith, log-length (sweep cs .exchanges) short, count, sum-is, most)
 
@@ -144,7 +145,6 @@ module _ (cs : List Card) (s : All Fits cs) (few : length cs ≤ mostCards) (d :
   sweep-is : Demand3 cs (sweep cs)
   unfolding view found
   sweep-is =
-      let e : All (λ e. length (exchangeBytes e) ≤ 19) (sweep cs .exchanges) = all-weaken (sweep cs .exchanges) (λ e h. h .1) smalls in
       record {
         finished = ap (λ w. w .2 .2) swept;
         found = is-list;
@@ -153,10 +153,10 @@ module _ (cs : List Card) (s : All Fits cs) (few : length cs ≤ mostCards) (d :
         descending = rows-fall;
         cards = ap (λ w. w .2 .0) swept;
         frames = count;
-        counted = sent-counted (sweep cs .exchanges) (unfold sweep in run-loggable mostFrames (sends (blank ReqaSent true)) cs (unfold sweep in smalls)) ∙ count;
+        counted = λ t. sent-counted t (sweep cs .exchanges) (unfold sweep in run-loggable mostFrames (sends (blank ReqaSent true)) cs (unfold sweep in smalls)) ∙ count;
         bound = rw (count, ← sum-is) (rw length-idles at (sweep-bound (idles cs) whole));
-        short = e;
-        log-fits = omega (arith, log-bound mostCards few-idles);
+        short = λ t. all-weaken (sweep cs .exchanges) (λ e h. rw (exchange-size t e) (h .1)) smalls;
+        log-fits = λ t. rw (log-size t (sweep cs .exchanges)) (omega (arith, log-bound mostCards few-idles));
         list-fits = rw (is-list, list-length (map uidBytes found) fits-found, length-map (falling (idle cs)) uidBytes, length-falling (idle cs)) (omega (arith, few-idles));
       }
 

@@ -10,54 +10,42 @@ use native.Mathlib.Omega.{arith}
 use Rattle.rows.specs.EachLaws.{length-fill}
 use Rattle.rows.specs.ListLaws.{both}
 use Rattle.rows.specs.Rows.{All, clean, fill}
-use Rattle.log.specs.Log.{packed, pack, header, plain, marks, sentRecord, heardRecord, Exchange, sentHeard, exchangeBytes, logBytes, listBytes, entryBytes}
-
-length-packed : (n : ℕ) (r : List ℕ) → length (packed n r) ≡ n
-unfolding packed
-length-packed zero r = refl
-length-packed (suc n) r = ap suc (length-packed n (drop 8 r))
+use Rattle.log.specs.Log.{tickBytes, sentRecord, heardRecord, Exchange, sentHeard, exchangeBytes, logBytes, exchangeSize, logSize, listBytes, entryBytes}
+use Rattle.log.specs.RecordLaws.{length-tick, length-sent, length-heard-clean, length-heard-collided, log-size-next}
 
 -- the bytes of n bits
 abbrev bytesFor : ℕ → ℕ
 bytesFor n = (n + 7) / 8
 
-length-sent : (f : List ℕ) → length (sentRecord f) ≡ 2 + bytesFor (length f)
-unfolding sentRecord header
-length-sent f = rw (length-append, length-packed)
-
-length-heard : (h : List ℕ) → length (heardRecord h) ≤ 2 + 2 * bytesFor (length h)
-unfolding heardRecord header plain marks
-length-heard [] = omega arith
-length-heard (x ∷ h) = go (clean (x ∷ h))
+length-heard : (x h : List ℕ) → length (heardRecord x h) ≤ 2 + length x + 2 * bytesFor (length h)
+length-heard x h = go (clean h) refl
   where
-    r : List ℕ
-    r = x ∷ h
+    go : (b : Bool) → clean h ≡ b → length (heardRecord x h) ≤ 2 + length x + 2 * bytesFor (length h)
+    go true e = omega (arith, length-heard-clean x h e)
+    go false e = omega (arith, length-heard-collided x h e)
 
-    go : (b : Bool) → length (cond b (header 1 (length r) ++ pack r) (header 2 (length r) ++ (pack (plain r) ++ pack (marks r)))) ≤ 2 + 2 * bytesFor (length r)
-    go true = rw (length-append, length-packed) (omega arith)
-    go false = simp (length-append, length-packed, length-map) (omega arith)
-
-length-clean : (h : List ℕ) → clean h ≡ true → length (heardRecord h) ≤ 2 + bytesFor (length h)
-unfolding heardRecord header
-length-clean [] e = omega arith
-length-clean (x ∷ h) e = rw e (rw (length-append, length-packed) (omega arith))
-
--- a frame went out, and both records take at most 19 bytes
+-- a frame went out, and both records take at most 27 bytes
 unfoldable pub small : Exchange → Bool
-small e = ltb 0 (length (e .sent)) && leb (length (exchangeBytes e)) 19
+small e = ltb 0 (length (e .sent)) && leb (exchangeSize e) 27
 
 unfoldable pub allSmall : List Exchange → Bool
 allSmall [] = true
 allSmall (e ∷ l) = small e && allSmall l
 
+-- by the lengths of the two records
+sized : (f h : List ℕ) → 0 < length f → length (heardRecord (tickBytes 1) h) ≤ 21 - bytesFor (length f) → bytesFor (length f) ≤ 21 → small (sentHeard f h) ≡ true
+unfolding small exchangeSize exchangeBytes
+sized f h s k m =
+    let a : List ℕ = sentRecord (tickBytes 0) f in
+    let b : List ℕ = heardRecord (tickBytes 1) h in
+    rw (lt-ltb 0 (length f) s) (le-leb (length (a ++ b)) 27 (omega (arith, length-append a b, length-sent (tickBytes 0) f, length-tick 0)))
+
 -- by the lengths of the two rows; and where the answer is clean
 pub small-any : (f h : List ℕ) → 0 < length f → bytesFor (length f) + 2 * bytesFor (length h) ≤ 15 → small (sentHeard f h) ≡ true
-unfolding small exchangeBytes
-small-any f h s k = rw (lt-ltb 0 (length f) s) (le-leb (length (sentRecord f ++ heardRecord h)) 19 (rw (length-append, length-sent) (omega (arith, length-heard h))))
+small-any f h s k = sized f h s (omega (arith, length-heard (tickBytes 1) h, length-tick 1)) (omega arith)
 
 pub small-clean : (f h : List ℕ) → 0 < length f → clean h ≡ true → bytesFor (length f) + bytesFor (length h) ≤ 15 → small (sentHeard f h) ≡ true
-unfolding small exchangeBytes
-small-clean f h s c k = rw (lt-ltb 0 (length f) s) (le-leb (length (sentRecord f ++ heardRecord h)) 19 (rw (length-append, length-sent) (omega (arith, length-clean h c))))
+small-clean f h s c k = sized f h s (omega (arith, length-heard-clean (tickBytes 1) h c, length-tick 1)) (omega arith)
 
 -- an ANTICOLLISION and its answer
 pub small-anti : (f h : List ℕ) (c : ℕ) → c ≤ 45 → length f ≡ 18 + c → length h ≡ 45 - c → small (sentHeard f h) ≡ true
@@ -67,18 +55,18 @@ small-anti f h c k ef eh = small-any f h (omega arith) (rw (ef, eh) (go (leb c 6
     go true e = omega (arith, leb-true c 6 e)
     go false e = omega (arith, leb-false c 6 e)
 
-pub small-all : (l : List Exchange) → allSmall l ≡ true → All (λ e. (0 < length (e .sent)) × (length (exchangeBytes e) ≤ 19)) l
+pub small-all : (l : List Exchange) → allSmall l ≡ true → All (λ e. (0 < length (e .sent)) × (exchangeSize e ≤ 27)) l
 unfolding allSmall small
 small-all [] h = tt
 small-all (e ∷ l) h =
     let b : (small e ≡ true) × (allSmall l ≡ true) = both (small e) (allSmall l) h in
-    let c : (ltb 0 (length (e .sent)) ≡ true) × (leb (length (exchangeBytes e)) 19 ≡ true) = both (ltb 0 (length (e .sent))) (leb (length (exchangeBytes e)) 19) (b .0) in
-    ((ltb-true 0 (length (e .sent)) (c .0), leb-true (length (exchangeBytes e)) 19 (c .1)), small-all l (b .1))
+    let c : (ltb 0 (length (e .sent)) ≡ true) × (leb (exchangeSize e) 27 ≡ true) = both (ltb 0 (length (e .sent))) (leb (exchangeSize e) 27) (b .0) in
+    ((ltb-true 0 (length (e .sent)) (c .0), leb-true (exchangeSize e) 27 (c .1)), small-all l (b .1))
 
-pub log-length : (l : List Exchange) → All (λ e. length (exchangeBytes e) ≤ 19) l → length (logBytes l) ≤ 19 * length l
-unfolding logBytes
+pub log-length : (l : List Exchange) → All (λ e. exchangeSize e ≤ 27) l → logSize l ≤ 27 * length l
+unfolding logSize logBytes
 log-length [] h = omega arith
-log-length (e ∷ l) h = rw (length-append (exchangeBytes e) (logBytes l)) (omega (arith, h .0, log-length l (h .1)))
+log-length (e ∷ l) h = omega (arith, log-size-next e l, h .0, log-length l (h .1))
 
 pub list-length : (l : List (List ℕ)) → All (λ u. length u ≤ 10) l → length (listBytes l) ≡ 11 * length l
 unfolding listBytes entryBytes

@@ -12,7 +12,7 @@ use Rattle.reader.specs.Reader.{frame, hear}
 use Rattle.field.specs.Field.{allTake, heardFrom}
 use Rattle.log.specs.Calls.{rowSize}
 use Rattle.log.specs.CountLaws.{Loggable}
-use Rattle.log.specs.Log.{Exchange, sentRecord, heardRecord, exchangeBytes}
+use Rattle.log.specs.Log.{Exchange, tickBytes, sentRecord, heardRecord, exchangeBytes, exchangeSize}
 use Rattle.log.specs.RecordLaws.{length-sent, length-heard-clean, length-heard-collided}
 use Rattle.sweep_rules.specs.Run.{Out, before, ended, follow, run, finding}
 use Rattle.card.specs.declared.Card.{Card}
@@ -40,24 +40,26 @@ run-bits (suc fuel) t cs =
 
 -- ---- both rows are short
 
-heard-least : (h : List ℕ) → 2 + rowSize (length h) ≤ length (heardRecord h)
-heard-least h = go (clean h) refl
+heard-least : (x h : List ℕ) → 2 + rowSize (length h) ≤ length (heardRecord x h)
+heard-least x h = go (clean h) refl
   where
-    go : (b : Bool) → clean h ≡ b → 2 + rowSize (length h) ≤ length (heardRecord h)
-    go true e = omega (arith, length-heard-clean h e)
-    go false e = omega (arith, length-heard-collided h e)
+    go : (b : Bool) → clean h ≡ b → 2 + rowSize (length h) ≤ length (heardRecord x h)
+    go true e = omega (arith, length-heard-clean x h e)
+    go false e = omega (arith, length-heard-collided x h e)
 
-loggable : (e : Exchange) → Bits (e .sent) → (0 < length (e .sent)) × (length (exchangeBytes e) ≤ 19) → Loggable e
-unfolding exchangeBytes
+loggable : (e : Exchange) → Bits (e .sent) → (0 < length (e .sent)) × (exchangeSize e ≤ 27) → Loggable e
+unfolding exchangeSize exchangeBytes
 loggable e b h =
-    let n : length (sentRecord (e .sent)) + length (heardRecord (e .heard)) ≤ 19 = omega (arith, h .1, length-append (sentRecord (e .sent)) (heardRecord (e .heard))) in
+    let s : List ℕ = sentRecord (tickBytes 0) (e .sent) in
+    let r : List ℕ = heardRecord (tickBytes 1) (e .heard) in
+    let n : length s + length r ≤ 27 = omega (arith, h .1, length-append s r) in
     record {
       bits = b;
       some = h .0;
-      sent-fits = omega (arith, n, length-sent (e .sent));
-      heard-fits = omega (arith, n, heard-least (e .heard));
+      sent-fits = omega (arith, n, length-sent (tickBytes 0) (e .sent));
+      heard-fits = omega (arith, n, heard-least (tickBytes 1) (e .heard));
     }
 
-pub run-loggable : (fuel : ℕ) (t : Turn) (cs : List Card) → All (λ e. (0 < length (e .sent)) × (length (exchangeBytes e) ≤ 19)) (run fuel t cs .exchanges)
+pub run-loggable : (fuel : ℕ) (t : Turn) (cs : List Card) → All (λ e. (0 < length (e .sent)) × (exchangeSize e ≤ 27)) (run fuel t cs .exchanges)
     → All Loggable (run fuel t cs .exchanges)
 run-loggable fuel t cs h = all-zip (run fuel t cs .exchanges) loggable (run-bits fuel t cs) h

@@ -12,6 +12,7 @@ use Rattle.uid.specs.Order.{above}
 use Rattle.uid.specs.Uid.{uidBytes, rowOf, falling, frameSum}
 use Rattle.card.specs.Card.{withState}
 use Rattle.reader.specs.Reader.{turn, blank}
+use Rattle.log.specs.Calls.{tickSize}
 use Rattle.log.specs.Log.{exchangeBytes, logBytes, listBytes}
 use Rattle.log.specs.Reading.{sentIn}
 use Rattle.sweep_rules.specs.Run.{Out}
@@ -61,11 +62,12 @@ pub record Demand3 (cs : List Card) (o : Out) : Type 0 where
   pub descending : Descending (map rowOf (falling (idle cs)))
   -- the same cards in their places, each halted
   pub cards : o .cards ≡ map halted cs
-  -- the frames are as many as the sum says, and so are the reader records that are read from the log's bytes
+  -- the frames are as many as the sum says, and so are the reader records that are read from the log's bytes, whatever the starting tick t
+  -- (T-09: "a starting tick, any one in demand 3")
   pub frames : length (o .exchanges) ≡ frameSum (falling (idle cs))
-  pub counted : sentIn (logBytes (o .exchanges)) ≡ frameSum (falling (idle cs))
+  pub counted : (t : ℕ) → sentIn tickSize (logBytes t (o .exchanges)) ≡ frameSum (falling (idle cs))
   pub bound : length (o .exchanges) ≤ framesBound (length (idle cs))
-  -- each frame and what was heard take at most 19 bytes of log; log and list have room
-  pub short : All (λ e. length (exchangeBytes e) ≤ 19) (o .exchanges)
-  pub log-fits : length (logBytes (o .exchanges)) ≤ logRoom
+  -- each frame and what was heard take at most 27 bytes of log, eight of them their ticks; log and list have room
+  pub short : (t : ℕ) → All (λ e. length (exchangeBytes t e) ≤ 27) (o .exchanges)
+  pub log-fits : (t : ℕ) → length (logBytes t (o .exchanges)) ≤ logRoom
   pub list-fits : length (listBytes (o .found)) ≤ listRoom

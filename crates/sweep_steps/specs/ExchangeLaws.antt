@@ -11,7 +11,8 @@ use Rattle.field.specs.Calls.{together}
 use Rattle.field.specs.Field.{heardFrom}
 use Rattle.field.specs.TakeLaws.{front-fits}
 use Rattle.field.specs.declared.within.Together.{Together}
-use Rattle.log.specs.Log.{sentHeard, exchangeBytes, sentRecord, heardRecord}
+use Rattle.log.specs.Log.{sentHeard, tickBytes, exchangeBytes, exchangeSize, sentRecord, heardRecord}
+use Rattle.log.specs.RecordLaws.{exchange-size}
 use Rattle.card.specs.declared.Card.{Card}
 
 -- the first n bits of the row r are s
@@ -37,13 +38,13 @@ heard-front f n r u cards k t e d h o =
     (o ∙ ap (λ x. overlay d 0 (heardFrom x (take k cards))) (u .bits))
 
 -- the two records one behind the other
-pub length-exchange : (f h : List ℕ) → length (exchangeBytes (sentHeard f h)) ≡ length (sentRecord f) + length (heardRecord h)
+pub length-exchange : (t : ℕ) (f h : List ℕ) → exchangeSize (sentHeard f h) ≡ length (sentRecord (tickBytes t) f) + length (heardRecord (tickBytes (t + 1)) h)
 unfolding exchangeBytes
-length-exchange f h = length-append (sentRecord f) (heardRecord h)
+length-exchange t f h = sym (exchange-size t (sentHeard f h)) ∙ length-append (sentRecord (tickBytes t) f) (heardRecord (tickBytes (t + 1)) h)
 
-pub exchange-written : (log : List ℕ) (at : ℕ) (f h log₁ log₂ : List ℕ) (a : ℕ) → at + length (exchangeBytes (sentHeard f h)) ≤ length log
-    → a ≡ length (sentRecord f) → log₁ ≡ overlay log at (sentRecord f) → log₂ ≡ overlay log₁ (at + a) (heardRecord h)
-    → log₂ ≡ overlay log at (exchangeBytes (sentHeard f h))
+pub exchange-written : (log : List ℕ) (at t : ℕ) (f h log₁ log₂ : List ℕ) (a : ℕ) → at + exchangeSize (sentHeard f h) ≤ length log
+    → a ≡ length (sentRecord (tickBytes t) f) → log₁ ≡ overlay log at (sentRecord (tickBytes t) f) → log₂ ≡ overlay log₁ (at + a) (heardRecord (tickBytes (t + 1)) h)
+    → log₂ ≡ overlay log at (exchangeBytes t (sentHeard f h))
 unfolding exchangeBytes
-exchange-written log at f h log₁ log₂ a room e o₁ o₂ =
-    o₂ ∙ rw (o₁, e) (overlay-next log at (sentRecord f) (heardRecord h) (omega (arith, length-exchange f h)))
+exchange-written log at t f h log₁ log₂ a room e o₁ o₂ =
+    o₂ ∙ rw (o₁, e) (overlay-next log at (sentRecord (tickBytes t) f) (heardRecord (tickBytes (t + 1)) h) (omega (arith, length-exchange t f h)))

@@ -16,7 +16,8 @@ use Rattle.uid.specs.Uid.{uidBytes}
 use Rattle.reader.specs.Reader.{blank, sends, frame, hear}
 use Rattle.field.specs.Calls.{cardsAfter}
 use Rattle.field.specs.Field.{allTake, heardFrom}
-use Rattle.log.specs.Log.{Exchange, sentHeard, exchangeBytes, logBytes, listBytes, entryBytes}
+use Rattle.log.specs.Log.{Exchange, sentHeard, exchangeBytes, logBytes, exchangeSize, logSize, listBytes, entryBytes}
+use Rattle.log.specs.RecordLaws.{exchange-size, log-size, log-size-next}
 use Rattle.limits.specs.Limits.{mostCards, mostFrames}
 use Rattle.sweep_rules.specs.Run.{Out, before, finding, ended, follow, run, sweep}
 use Rattle.card.specs.declared.Card.{Card}
@@ -25,7 +26,7 @@ use Rattle.reader.specs.declared.Turn.{Turn}
 use Rattle.reader.specs.declared.Phase.the-variants.{ReqaSent}
 use Rattle.reader.specs.declared.Answer.{Answer}
 use Rattle.reader.specs.declared.Answer.the-variants.{Sends, Finds, Selects, Finishes, Declines}
-use Rattle.sweep_steps.specs.Steps.{goes, foundIn, foundBy, exchangeOf, exchanged, stepped, started, goesOn, ends, nextExchange, nextTurn, Roomy, Written}
+use Rattle.sweep_steps.specs.Steps.{goes, foundIn, foundBy, exchangeOf, exchanged, stepped, started, goesOn, ends, nextExchange, nextTurn, nextTick, Roomy, Written}
 use Rattle.sweep_steps.specs.declared.within.Exchanged.{Exchanged}
 use Rattle.sweep_steps.specs.declared.within.Progress.{Progress}
 
@@ -130,13 +131,13 @@ entries-least (u ∷ a) =
 abbrev left : Progress → ℕ → Out
 left p n = rest (mostFrames - p .frames) (p .turn) (take n (p .cards))
 
--- the whole run is W, over the first n of cards₀ with log₀ and list₀; so far it is at p, log and list
-pub record Under (W : Out) (cards₀ : List Card) (n : ℕ) (log₀ list₀ : List ℕ) (p : Progress) (log list : List ℕ) : Type 0 where
+-- the whole run is W, over the first n of cards₀ with log₀ and list₀, its first tick t; so far it is at p, log and list
+pub record Under (t : ℕ) (W : Out) (cards₀ : List Card) (n : ℕ) (log₀ list₀ : List ℕ) (p : Progress) (log list : List ℕ) : Type 0 where
   pub full : length (p .cards) ≡ mostCards
   pub log-size : length log ≡ length log₀
   pub list-size : length list ≡ length list₀
-  pub log-row : overlay log (p .logged) (logBytes (left p n .exchanges)) ≡ overlay log₀ 0 (logBytes (W .exchanges))
-  pub log-at : p .logged + length (logBytes (left p n .exchanges)) ≡ length (logBytes (W .exchanges))
+  pub log-row : overlay log (p .logged) (logBytes (nextTick t p) (left p n .exchanges)) ≡ overlay log₀ 0 (logBytes t (W .exchanges))
+  pub log-at : p .logged + logSize (left p n .exchanges) ≡ logSize (W .exchanges)
   pub list-row : overlay list (11 * p .found) (listBytes (left p n .found)) ≡ overlay list₀ 0 (listBytes (W .found))
   pub list-at : 11 * p .found + length (listBytes (left p n .found)) ≡ length (listBytes (W .found))
   pub found : p .found + length (left p n .found) ≡ length (W .found)
@@ -146,16 +147,17 @@ pub record Under (W : Out) (cards₀ : List Card) (n : ℕ) (log₀ list₀ : Li
   pub others : drop n (p .cards) ≡ drop n cards₀
 
 -- before the first exchange
-pub under-none : (cards : List Card) (n : ℕ) (log list : List ℕ) → length cards ≡ mostCards → Under (sweep (take n cards)) cards n log list (started cards) log list
+pub under-none : (t : ℕ) (cards : List Card) (n : ℕ) (log list : List ℕ) → length cards ≡ mostCards → Under t (sweep (take n cards)) cards n log list (started cards) log list
 unfolding started
-under-none cards n log list h =
+under-none t cards n log list h =
+    let z : t + 2 * 0 ≡ t = omega arith in
     let e : rest mostFrames (sends (blank ReqaSent true)) (take n cards) ≡ sweep (take n cards) = sym (rest-all (take n cards)) in
     record {
       full = h;
       log-size = refl;
       list-size = refl;
-      log-row = ap (λ o. overlay log 0 (logBytes (o .exchanges))) e;
-      log-at = ap (λ o. 0 + length (logBytes (o .exchanges))) e ∙ omega arith;
+      log-row = ap₂ (λ i o. overlay log 0 (logBytes i (o .exchanges))) z e;
+      log-at = ap (λ o. 0 + logSize (o .exchanges)) e ∙ omega arith;
       list-row = ap (λ o. overlay list 0 (listBytes (o .found))) e;
       list-at = ap (λ o. 0 + length (listBytes (o .found))) e ∙ omega arith;
       found = ap (λ o. 0 + length (o .found)) e ∙ omega arith;
@@ -213,10 +215,10 @@ made : (a : Turn) (b : List Card) (c d e : ℕ) (q : Progress) → a ≡ q .turn
     → _≡_ {A = Progress} (record { turn = a; cards = b; logged = c; frames = d; found = e }) q
 made a b c d e q ea eb ec ed ee = rw (ea, eb, ec, ed, ee)
 
-module _ (W : Out) (cards₀ : List Card) (n : ℕ) (log₀ list₀ : List ℕ) (p : Progress) (log list : List ℕ) (u : Under W cards₀ n log₀ list₀ p log list) (few : n ≤ mostCards) where
+module _ (t : ℕ) (W : Out) (cards₀ : List Card) (n : ℕ) (log₀ list₀ : List ℕ) (p : Progress) (log list : List ℕ) (u : Under t W cards₀ n log₀ list₀ p log list) (few : n ≤ mostCards) where
   -- the next exchange, and the UIDs it finds
   X : List ℕ
-  X = exchangeBytes (nextExchange p n)
+  X = exchangeBytes (nextTick t p) (nextExchange p n)
 
   U : List (List ℕ)
   U = foundBy (nextTurn p n)
@@ -229,30 +231,42 @@ module _ (W : Out) (cards₀ : List Card) (n : ℕ) (log₀ list₀ : List ℕ) 
     unfolding U R
     step = left-step p n (omega (arith, u .full)) g
 
-    log-next : logBytes (left p n .exchanges) ≡ X ++ logBytes (R .exchanges)
-    unfolding X before with-found logBytes
-    log-next = ap (λ o. logBytes (o .exchanges)) step
+    log-next : logBytes (nextTick t p) (left p n .exchanges) ≡ X ++ logBytes (nextTick t (stepped p n)) (R .exchanges)
+    unfolding X before with-found logBytes stepped
+    log-next =
+        let e : nextTick t p + 2 ≡ nextTick t (stepped p n) = omega arith in
+        ap (λ o. logBytes (nextTick t p) (o .exchanges)) step ∙ ap (λ i. X ++ logBytes i (R .exchanges)) e
+
+    size-next : logSize (left p n .exchanges) ≡ exchangeSize (nextExchange p n) + logSize (R .exchanges)
+    unfolding before with-found
+    size-next = ap (λ o. logSize (o .exchanges)) step ∙ log-size-next (nextExchange p n) (R .exchanges)
+
+    length-next : length X ≡ exchangeSize (nextExchange p n)
+    unfolding X
+    length-next = exchange-size (nextTick t p) (nextExchange p n)
 
     list-next : listBytes (left p n .found) ≡ listBytes U ++ listBytes (R .found)
     unfolding before with-found
     list-next = ap (λ o. listBytes (o .found)) step ∙ list-append U (R .found)
 
-    pub under-room : length (logBytes (W .exchanges)) ≤ length log₀ → length (listBytes (W .found)) ≤ length list₀ → Roomy p n log list
+    pub under-room : logSize (W .exchanges) ≤ length log₀ → length (listBytes (W .found)) ≤ length list₀ → Roomy p n log list
     unfolding X U
     under-room hlog hlist =
         record {
           few = few;
-          log-room = omega (arith, u .log-size, u .log-at, ap length log-next, length-append X (logBytes (R .exchanges)));
+          log-room = omega (arith, u .log-size, u .log-at, size-next);
           list-room = omega (arith, u .list-size, u .list-at, ap length list-next, length-append (listBytes U) (listBytes (R .found)), entries-least U);
           more = goes-on p g .0;
         }
 
-    pub under-turn : length (logBytes (W .exchanges)) ≤ length log₀ → length (listBytes (W .found)) ≤ length list₀
-        → (log′ list′ : List ℕ) → Written p n log list log′ list′ → Under W cards₀ n log₀ list₀ (stepped p n) log′ list′
+    pub under-turn : logSize (W .exchanges) ≤ length log₀ → length (listBytes (W .found)) ≤ length list₀
+        → (log′ list′ : List ℕ) → Written t p n log list log′ list′ → Under t W cards₀ n log₀ list₀ (stepped p n) log′ list′
     unfolding X U R stepped exchanged before with-found
     under-turn hlog hlist log′ list′ w =
-        let few-log : p .logged + length X + length (logBytes (R .exchanges)) ≤ length log =
-        omega (arith, u .log-size, u .log-at, ap length log-next, length-append X (logBytes (R .exchanges))) in
+        let L : List ℕ = logBytes (nextTick t (stepped p n)) (R .exchanges) in
+        let few-log : p .logged + length X + length L ≤ length log =
+        omega (arith, u .log-size, u .log-at, size-next, length-next, log-size (nextTick t (stepped p n)) (R .exchanges)) in
+        let at-log : p .logged + exchangeSize (nextExchange p n) ≡ p .logged + length X = omega (arith, length-next) in
         let few-list : 11 * p .found + length (listBytes U) + length (listBytes (R .found)) ≤ length list =
         omega (arith, u .list-size, u .list-at, ap length list-next, length-append (listBytes U) (listBytes (R .found))) in
         let at : 11 * (p .found + length U) ≡ 11 * p .found + length (listBytes U) = omega (arith, w .entries) in
@@ -260,8 +274,8 @@ module _ (W : Out) (cards₀ : List Card) (n : ℕ) (log₀ list₀ : List ℕ) 
           full = length-after (p .cards) n (frame (p .turn .reader)) (omega (arith, u .full)) ∙ u .full;
           log-size = ap length (w .log-row) ∙ length-overlay log (p .logged) X (omega arith) ∙ u .log-size;
           list-size = ap length (w .list-row) ∙ length-overlay list (11 * p .found) (listBytes U) (omega arith) ∙ u .list-size;
-          log-row = rw (w .log-row, overlay-next log (p .logged) X (logBytes (R .exchanges)) few-log, ← log-next) (u .log-row);
-          log-at = omega (arith, u .log-at, ap length log-next, length-append X (logBytes (R .exchanges)));
+          log-row = rw (w .log-row, at-log, overlay-next log (p .logged) X L few-log, ← log-next) (u .log-row);
+          log-at = omega (arith, u .log-at, size-next);
           list-row = rw (w .list-row, at, overlay-next list (11 * p .found) (listBytes U) (listBytes (R .found)) few-list, ← list-next) (u .list-row);
           list-at = omega (arith, u .list-at, at, ap length list-next, length-append (listBytes U) (listBytes (R .found)));
           found = omega (arith, u .found, ap (λ o. length (o .found)) step, length-append U (R .found));
@@ -276,21 +290,21 @@ module _ (W : Out) (cards₀ : List Card) (n : ℕ) (log₀ list₀ : List ℕ) 
     none : left p n ≡ ended (take n (p .cards)) (p .turn)
     none = left-none p n g
 
-    pub under-log : log ≡ overlay log₀ 0 (logBytes (W .exchanges))
+    pub under-log : log ≡ overlay log₀ 0 (logBytes t (W .exchanges))
     unfolding ended logBytes
-    under-log = sym (overlay-nil log (p .logged)) ∙ ap (λ o. overlay log (p .logged) (logBytes (o .exchanges))) (sym none) ∙ u .log-row
+    under-log = sym (overlay-nil log (p .logged)) ∙ ap (λ o. overlay log (p .logged) (logBytes (nextTick t p) (o .exchanges))) (sym none) ∙ u .log-row
 
     pub under-list : list ≡ overlay list₀ 0 (listBytes (W .found))
     unfolding ended listBytes
     under-list = sym (overlay-nil list (11 * p .found)) ∙ ap (λ o. overlay list (11 * p .found) (listBytes (o .found))) (sym none) ∙ u .list-row
 
     pub under-ends : p ≡ ends cards₀ n W
-    unfolding ended logBytes
+    unfolding ended logBytes logSize
     under-ends =
         let t : p .turn ≡ W .last = ap (λ o. o .last) (sym none) ∙ u .last in
         let c : p .cards ≡ W .cards ++ drop n cards₀ =
         sym (take-append-drop n (p .cards)) ∙ ap₂ _++_ (ap (λ o. o .cards) (sym none) ∙ u .cards) (u .others) in
-        let l : p .logged ≡ length (logBytes (W .exchanges)) = omega (arith, u .log-at, ap (λ o. length (logBytes (o .exchanges))) none) in
+        let l : p .logged ≡ logSize (W .exchanges) = omega (arith, u .log-at, ap (λ o. logSize (o .exchanges)) none) in
         let k : p .frames ≡ length (W .exchanges) = omega (arith, u .frames, ap (λ o. length (o .exchanges)) none) in
         let d : p .found ≡ length (W .found) = omega (arith, u .found, ap (λ o. length (o .found)) none) in
         made (p .turn) (p .cards) (p .logged) (p .frames) (p .found) (ends cards₀ n W) t c l k d

@@ -10,7 +10,7 @@ use Rattle.uid.specs.Uid.{uidBytes}
 use Rattle.reader.specs.Reader.{blank, sends, frame, hear}
 use Rattle.field.specs.Calls.{cardsAfter}
 use Rattle.field.specs.Field.{heardFrom}
-use Rattle.log.specs.Log.{Exchange, sentHeard, exchangeBytes, logBytes, listBytes}
+use Rattle.log.specs.Log.{Exchange, sentHeard, exchangeBytes, exchangeSize, logSize, listBytes}
 use Rattle.limits.specs.Limits.{mostCards, mostFrames}
 use Rattle.sweep_rules.specs.Run.{Out}
 use Rattle.card.specs.declared.Card.{Card}
@@ -51,7 +51,7 @@ exchanged r cards n =
     record {
       turn = hear r (heardFrom (frame r) (take n cards));
       cards = cardsAfter cards n (frame r);
-      bytes = length (exchangeBytes (exchangeOf r (take n cards)));
+      bytes = exchangeSize (exchangeOf r (take n cards));
     }
 
 -- how far a sweep is before the first exchange, and after one more
@@ -70,16 +70,24 @@ nextExchange p n = exchangeOf (p .turn .reader) (take n (p .cards))
 abbrev pub nextTurn : Progress → ℕ → Turn
 nextTurn p n = exchanged (p .turn .reader) (p .cards) n .turn
 
+-- T-09, "adds one tick a record": the tick of its first record, where the first record of the sweep has t; each frame sent has two
+abbrev pub nextTick : ℕ → Progress → ℕ
+nextTick t p = t + 2 * p .frames
+
+-- a tick of 32 bits and two more for each frame of a sweep are less than this
+abbrev pub tickBound : ℕ
+tickBound = 8589934592
+
 -- log and list have room for it
 pub record Roomy (p : Progress) (n : ℕ) (log list : List ℕ) : Type 0 where
   pub few : n ≤ mostCards
-  pub log-room : p .logged + length (exchangeBytes (nextExchange p n)) ≤ length log
+  pub log-room : p .logged + exchangeSize (nextExchange p n) ≤ length log
   pub list-room : 11 * p .found + 11 * length (foundBy (nextTurn p n)) ≤ length list
   pub more : p .frames < mostFrames
 
--- log and list before it and afterwards; an entry of the list takes 11 bytes
-pub record Written (p : Progress) (n : ℕ) (log list log′ list′ : List ℕ) : Type 0 where
-  pub log-row : log′ ≡ overlay log (p .logged) (exchangeBytes (nextExchange p n))
+-- log and list before it and afterwards, in a sweep whose first tick is t; an entry of the list takes 11 bytes
+pub record Written (t : ℕ) (p : Progress) (n : ℕ) (log list log′ list′ : List ℕ) : Type 0 where
+  pub log-row : log′ ≡ overlay log (p .logged) (exchangeBytes (nextTick t p) (nextExchange p n))
   pub list-row : list′ ≡ overlay list (11 * p .found) (listBytes (foundBy (nextTurn p n)))
   pub entries : length (listBytes (foundBy (nextTurn p n))) ≡ 11 * length (foundBy (nextTurn p n))
 
@@ -93,7 +101,7 @@ ends cards n o =
     record {
       turn = o .last;
       cards = o .cards ++ drop n cards;
-      logged = length (logBytes (o .exchanges));
+      logged = logSize (o .exchanges);
       frames = length (o .exchanges);
       found = length (o .found);
     }

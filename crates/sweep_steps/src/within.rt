@@ -4,13 +4,13 @@ ghost use mathlib.Core.Bool.{true};
 ghost use Prim.Native.Nat.{_+_, _*_, _≤_, _<_};
 ghost use lib.ListN.{length, take};
 ghost use Rattle.rows.specs.Rows.{All, overlay, clean};
-ghost use Rattle.log.specs.Log.{sentHeard, exchangeBytes, logBytes, listBytes};
+ghost use Rattle.log.specs.Log.{sentHeard, exchangeBytes, exchangeSize, logBytes, logSize, listBytes};
 ghost use Rattle.log.specs.Calls.{mostBits};
 ghost use Rattle.limits.specs.Limits.{mostCards};
 ghost use Rattle.sweep_rules.specs.Run.{sweep};
 ghost use Rattle.sweep_rules.specs.Terms.{within};
 ghost use Rattle.sweep_rules.specs.Demand.{Typed};
-ghost use Rattle.sweep_steps.specs.Steps.{goes, foundBy, exchangeOf, exchanged, stepped, goesOn, ends, Roomy, Written};
+ghost use Rattle.sweep_steps.specs.Steps.{goes, foundBy, exchangeOf, exchanged, stepped, goesOn, ends, tickBound, Roomy, Written};
 use card::Card;
 use limits::MOST_CARDS;
 use reader::Answer;
@@ -43,22 +43,29 @@ pub struct Progress {
     pub found: usize,
 }
 
-// The records of a reader frame and of what was heard after it. The answer is their number of bytes.
-pub fn put_exchange(log: &mut [u8], at: usize, frame: &[u8], heard: &[u8]) -> usize
-    requires { ⌜ (clean (now frame) ≡ true) × (length (now frame) ≤ mostBits) × (length (now heard) ≤ mostBits) × (at + length (exchangeBytes (sentHeard (now frame) (now heard))) ≤ length (now log)) ⌝ }
-    ensures { λ r. ⌜ r ≡ length (exchangeBytes (sentHeard (now (frame .entry)) (now (heard .entry)))) ⌝ }
-    ensures { λ r. ⌜ now (log .exit) ≡ overlay (now (log .entry)) at (exchangeBytes (sentHeard (now (frame .entry)) (now (heard .entry)))) ⌝ }
+// The records of a reader frame, with a tick, and of what was heard after it, with the next. The answer is their number of bytes.
+pub fn put_exchange(log: &mut [u8], at: usize, tick: usize, frame: &[u8], heard: &[u8]) -> usize
+    requires { ⌜ (clean (now frame) ≡ true) × (length (now frame) ≤ mostBits) × (length (now heard) ≤ mostBits) × (at + exchangeSize (sentHeard (now frame) (now heard)) ≤ length (now log)) × (tick < tickBound) ⌝ }
+    ensures { λ r. ⌜ r ≡ exchangeSize (sentHeard (now (frame .entry)) (now (heard .entry))) ⌝ }
+    ensures { λ r. ⌜ now (log .exit) ≡ overlay (now (log .entry)) at (exchangeBytes tick (sentHeard (now (frame .entry)) (now (heard .entry)))) ⌝ }
 {
-    let first = log::within::put_sent(log, at, frame);
-    let second = log::within::put_heard(log, at + first, heard);
+    let first = log::within::put_sent(log, at, tick, frame);
+    let second = log::within::put_heard(log, at + first, tick + 1, heard);
     first + second
 }
 
 // The reader's frame, taken by the first n cards; its records in the log; and the reader's turn on what it heard.
-fn exchange(r: Reader, cards: [Card; MOST_CARDS], n: usize, log: &mut [u8], at: usize) -> Exchanged
-    requires { ⌜ (n ≤ mostCards) × (at + length (exchangeBytes (exchangeOf r (take n cards))) ≤ length (now log)) ⌝ }
+fn exchange(
+    r: Reader,
+    cards: [Card; MOST_CARDS],
+    n: usize,
+    log: &mut [u8],
+    at: usize,
+    tick: usize,
+) -> Exchanged
+    requires { ⌜ (n ≤ mostCards) × (at + exchangeSize (exchangeOf r (take n cards)) ≤ length (now log)) × (tick < tickBound) ⌝ }
     ensures { λ x. ⌜ x ≡ exchanged r cards n ⌝ }
-    ensures { λ x. ⌜ now (log .exit) ≡ overlay (now (log .entry)) at (exchangeBytes (exchangeOf r (take n cards))) ⌝ }
+    ensures { λ x. ⌜ now (log .exit) ≡ overlay (now (log .entry)) at (exchangeBytes tick (exchangeOf r (take n cards))) ⌝ }
 {
     let mut frame = [0u8; 81];
     reader::within::put_frame(r, &mut frame);
@@ -66,7 +73,7 @@ fn exchange(r: Reader, cards: [Card; MOST_CARDS], n: usize, log: &mut [u8], at: 
     let mut heard = [0u8; 45];
     let t = field::within::take_all(cards, n, &frame[..bits], &mut heard);
     let m = t.bits;
-    let bytes = put_exchange(log, at, &frame[..bits], &heard[..m]);
+    let bytes = put_exchange(log, at, tick, &frame[..bits], &heard[..m]);
     let next = reader::within::hear_rules(r, &heard[..m]);
     let after = t.cards;
     Exchanged {
@@ -98,17 +105,18 @@ pub fn put_found(t: Turn, list: &mut [u8], at: usize) -> usize
     }
 }
 
-// One exchange more.
-fn step(p: Progress, n: usize, log: &mut [u8], list: &mut [u8]) -> Progress
+// One exchange more of a sweep that began with the tick start.
+fn step(p: Progress, n: usize, start: u32, log: &mut [u8], list: &mut [u8]) -> Progress
     requires { ⌜ Roomy p n (now log) (now list) ⌝ }
     ensures { λ r. ⌜ r ≡ stepped p n ⌝ }
-    ensures { λ r. ⌜ Written p n (now (log .entry)) (now (list .entry)) (now (log .exit)) (now (list .exit)) ⌝ }
+    ensures { λ r. ⌜ Written start p n (now (log .entry)) (now (list .entry)) (now (log .exit)) (now (list .exit)) ⌝ }
 {
     let t = p.turn;
     let r = t.reader;
     let cards = p.cards;
     let at = p.logged;
-    let x = exchange(r, cards, n, log, at);
+    let tick = start as usize + 2 * p.frames;
+    let x = exchange(r, cards, n, log, at, tick);
     let next = x.turn;
     let found = put_found(next, list, 11 * p.found);
     let after = x.cards;
@@ -146,11 +154,17 @@ fn goes_on(p: Progress) -> bool
     false
 }
 
-// A whole sweep over the first n cards. It is called where log and list have room for what it writes.
-pub fn run(cards: [Card; MOST_CARDS], n: usize, log: &mut [u8], list: &mut [u8]) -> Progress
-    requires { ⌜ (n ≤ mostCards) × (length (logBytes (sweep (take n cards) .exchanges)) ≤ length (now log)) × (length (listBytes (sweep (take n cards) .found)) ≤ length (now list)) ⌝ }
+// A whole sweep over the first n cards, the tick of its first record start. It is called where log and list have room for what it writes.
+pub fn run(
+    cards: [Card; MOST_CARDS],
+    n: usize,
+    start: u32,
+    log: &mut [u8],
+    list: &mut [u8],
+) -> Progress
+    requires { ⌜ (n ≤ mostCards) × (logSize (sweep (take n cards) .exchanges) ≤ length (now log)) × (length (listBytes (sweep (take n cards) .found)) ≤ length (now list)) ⌝ }
     ensures { λ p. ⌜ p ≡ ends cards n (sweep (take n cards)) ⌝ }
-    ensures { λ p. ⌜ now (log .exit) ≡ overlay (now (log .entry)) 0 (logBytes (sweep (take n cards) .exchanges)) ⌝ }
+    ensures { λ p. ⌜ now (log .exit) ≡ overlay (now (log .entry)) 0 (logBytes start (sweep (take n cards) .exchanges)) ⌝ }
     ensures { λ p. ⌜ now (list .exit) ≡ overlay (now (list .entry)) 0 (listBytes (sweep (take n cards) .found)) ⌝ }
 {
     let t = reader::within::sends(reader::within::blank(Phase::ReqaSent, true));
@@ -162,7 +176,7 @@ pub fn run(cards: [Card; MOST_CARDS], n: usize, log: &mut [u8], list: &mut [u8])
         found: 0,
     };
     while goes_on(p) {
-        p = step(p, n, log, list);
+        p = step(p, n, start, log, list);
     }
     p
 }

@@ -5,6 +5,7 @@ use card::Card;
 use card::CardState;
 use limits::MOST_CARDS;
 use reader::Reader;
+use sweep::Start;
 use sweep::Swept;
 use uid::Level;
 use uid::Uid;
@@ -39,10 +40,11 @@ pub fn line(k: usize, g: Given, word: &[u8]) -> Answer {
 fn sweep_by(k: usize, g: Given, off: usize, log: &mut [u8], list: &mut [u8]) -> Swept {
     let cards = spoil(good(), off);
     let r = reader_for(off);
+    let start = Start { reader: r, tick: 0 };
     if k == 10 {
-        return sweep::sweep(r, cards, g.c, log, list);
+        return sweep::sweep(start, cards, g.c, log, list);
     }
-    sweep_row::within::sweep_by_row(r, cards, g.c, log, list)
+    sweep_row::within::sweep_by_row(start, cards, g.c, log, list)
 }
 
 fn woken(g: Given, off: usize) -> Answer {

@@ -75,21 +75,21 @@ fn sweeps(s: &mut S) {
     for call in ["sweep", "sweep_row"] {
         s.remark(&format!("{call}: a field with one thing off"));
         for off in ["index", "uid", "ready", "off", "ready*", "active*"] {
-            beside(s, &format!("{call} 24576 352 1 {off}"), 6, &format!("{call} 24576 352 0 {off}"));
+            beside(s, &format!("{call} 40960 352 1 {off}"), 6, &format!("{call} 40960 352 0 {off}"));
         }
-        beside(s, &format!("{call} 24576 352 2 twice"), 6, &format!("{call} 24576 352 1 twice"));
-        beside(s, &format!("{call} 24576 352 33 none"), 6, &format!("{call} 24576 352 32 none"));
-        beside(s, &format!("{call} 24575 352 1 none"), 1, &format!("{call} 24576 352 1 none"));
-        beside(s, &format!("{call} 24576 351 1 none"), 1, &format!("{call} 24576 352 1 none"));
+        beside(s, &format!("{call} 40960 352 2 twice"), 6, &format!("{call} 40960 352 1 twice"));
+        beside(s, &format!("{call} 40960 352 33 none"), 6, &format!("{call} 40960 352 32 none"));
+        beside(s, &format!("{call} 40959 352 1 none"), 1, &format!("{call} 40960 352 1 none"));
+        beside(s, &format!("{call} 40960 351 1 none"), 1, &format!("{call} 40960 352 1 none"));
         s.remark("1 ahead of 6, and 11 ahead of both");
         for (line, number) in [
-            ("24575 352 33 none", 1),
-            ("24576 351 2 index", 1),
+            ("40959 352 33 none", 1),
+            ("40960 351 2 index", 1),
             ("0 0 0 none", 1),
-            ("24576 352 0 used", 11),
-            ("24575 352 1 used", 11),
-            ("24576 351 33 used", 11),
-            ("24576 352 99999 none", 6),
+            ("40960 352 0 used", 11),
+            ("40959 352 1 used", 11),
+            ("40960 351 33 used", 11),
+            ("40960 352 99999 none", 6),
         ] {
             refused(s, &format!("{call} {line}"), number);
         }
@@ -265,5 +265,5 @@ fn longest_message(s: &mut S) {
 
 fn not_understood(s: &mut S) {
     s.remark("lines that are not understood");
-    say_all(s, &["sing 1", "wake_field 4 3 16 tired", "sweep 24576 352 1 tired", "sweep 24576 352 1"]);
+    say_all(s, &["sing 1", "wake_field 4 3 16 tired", "sweep 40960 352 1 tired", "sweep 40960 352 1"]);
 }

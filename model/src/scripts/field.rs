@@ -139,11 +139,16 @@ pub fn script(seed: u64) -> Script<VectorsSweep> {
     combs(&mut s, &mut random);
     refused_fields(&mut s);
     rooms(&mut s);
+    ticks(&mut s);
     woken_fields(&mut s, &mut random);
     s.remark("random fields");
     let mut fields = 0;
-    while fields < 260 && s.output.len() < 285_000 {
-        let lines = random_field(&mut random);
+    while fields < 260 && s.output.len() < 390_000 {
+        let mut lines = random_field(&mut random);
+        if random.chance(25) {
+            let tick = if random.chance(50) { random.word() } else { u32::MAX - random.below(40) as u32 };
+            lines.insert(random.below(lines.len() + 1), format!("tick {tick}"));
+        }
         // Large fields are rare: their logs take most of the room.
         if lines.len() > 5 && random.chance(if lines.len() > 12 { 95 } else { 70 }) {
             continue;
@@ -220,7 +225,7 @@ fn woken_fields(s: &mut Script<VectorsSweep>, random: &mut Random) {
 
 fn document_fields(s: &mut Script<VectorsSweep>) {
     s.remark("no cards, and document 01's fields");
-    assert_eq!(both(s, &[]), "frames 1\nlog 000764C000");
+    assert_eq!(both(s, &[]), "frames 1\nlog 00070000000064C00000000001");
     let starts = |answer: String, start: &str| assert!(answer.starts_with(start), "{answer}");
     starts(both(s, &texts(&["80122821", "01020304 idle 00"])), "frames 10\nfound 01020304\nfound 80122821\n");
     starts(both(s, &texts(&["01020304 idle 00", "80122821"])), "frames 10\n");
@@ -234,7 +239,7 @@ fn document_fields(s: &mut Script<VectorsSweep>) {
     s.remark("halted cards");
     assert_eq!(
         both(s, &texts(&["01020304 halt 00 3", "04112233445566 halt"])),
-        "frames 1\ncard 01020304 halt 00 3\ncard 04112233445566 halt 20 8\nlog 000764C000"
+        "frames 1\ncard 01020304 halt 00 3\ncard 04112233445566 halt 20 8\nlog 00070000000064C00000000001"
     );
     both(s, &texts(&["01020304 halt", "01020305", "01020306 halt 20 1", "01020307 idle 00 2"]));
     s.remark("u6 = 88, and other bytes that look like the tag");
@@ -357,16 +362,16 @@ fn refused_fields(s: &mut Script<VectorsSweep>) {
     assert_eq!(both(s, &repeated), "refused 6");
     s.remark("a shorter UID that begins a longer one is no repetition");
     both(s, &texts(&["01020304", "01020304050607", "01020304050607080910"]));
-    assert_eq!(both(s, &[]), "frames 1\nlog 000764C000");
+    assert_eq!(both(s, &[]), "frames 1\nlog 00070000000064C00000000001");
 }
 
 /// T-06: what is lent, on either side of what a sweep asks for; 1 goes ahead of 6, and a card that is not made ahead of both.
 fn rooms(s: &mut Script<VectorsSweep>) {
     s.remark("rooms that are lent, one byte under what is asked for, as asked, and more");
-    for log in [0, 24_575, 24_576, 65_535] {
+    for log in [0, 40_959, 40_960, 65_535] {
         for list in [0, 351, 352, 353] {
             let answer = both(s, &[format!("room {log} {list}"), "01020304".to_string()]);
-            assert_eq!(answer == "refused 1", log < 24_576 || list < 352);
+            assert_eq!(answer == "refused 1", log < 40_960 || list < 352);
         }
     }
     let with = |count: u8, line: &str| -> Vec<String> {
@@ -375,18 +380,47 @@ fn rooms(s: &mut Script<VectorsSweep>) {
         lines
     };
     for (count, line, answer) in
-        [(33, "room 24575 352", "refused 1"), (33, "room 24576 352", "refused 6"), (32, "room 24575 352", "refused 1")]
+        [(33, "room 40959 352", "refused 1"), (33, "room 40960 352", "refused 6"), (32, "room 40959 352", "refused 1")]
     {
         assert_eq!(both(s, &with(count, line)), answer);
     }
-    assert!(both(s, &with(32, "room 24576 352")).starts_with("frames 1\n"));
+    assert!(both(s, &with(32, "room 40960 352")).starts_with("frames 1\n"));
     assert_eq!(both(s, &texts(&["88020304", "room 0 0"])), "refused 6");
     s.remark("the last line that is understood counts, wherever it stands");
     assert_eq!(both(s, &texts(&["room 0 0", "01020304 halt", "room 65535 65535"])).lines().next(), Some("frames 1"));
     assert_eq!(both(s, &texts(&["room 65535 65535", "01020304 halt", "room 0 0"])), "refused 1");
     for line in ["room", "room 0", "room 0 0 0", "room 65536 0", "room 0 65536", "room - 0", "room 0 x", "Room 0 0", "rooms 0 0"] {
-        assert_eq!(both(s, &texts(&[line])).lines().last(), Some("log 000764C000"));
+        assert_eq!(both(s, &texts(&[line])).lines().last(), Some("log 00070000000064C00000000001"));
     }
+}
+
+/// T-09: where the ticks start, and where they wrap.
+fn ticks(s: &mut Script<VectorsSweep>) {
+    s.remark("starting ticks, at both ends and where they wrap between two records and within the field");
+    for (tick, log) in [
+        ("0", "00070000000064C00000000001"),
+        ("1", "00070000000164C00000000002"),
+        ("255", "0007000000FF64C00000000100"),
+        ("65535", "00070000FFFF64C00000010000"),
+        ("16777215", "000700FFFFFF64C00001000000"),
+        ("305419896", "00071234567864C00012345679"),
+        ("4294967294", "0007FFFFFFFE64C000FFFFFFFF"),
+        ("4294967295", "0007FFFFFFFF64C00000000000"),
+        ("0004294967", "00070041893764C00000418938"),
+    ] {
+        assert_eq!(both(s, &[format!("tick {tick}")]), format!("frames 1\nlog {log}"));
+    }
+    for tick in [4_294_967_276u32, 4_294_967_277, 4_294_967_286] {
+        both(s, &[format!("tick {tick}"), "80122821".to_string(), "01020304 idle 00".to_string()]);
+    }
+    s.remark("the last line that is understood counts; a refusal tests no tick, and one card woken has none");
+    assert_eq!(both(s, &texts(&["tick 7", "tick 9"])).lines().last(), Some("log 00070000000964C0000000000A"));
+    for line in ["tick", "tick 4294967296", "tick 9999999999", "tick 00000000001", "tick -", "tick -1", "tick 1x", "tick 1 2", "Tick 1", "ticks 1"] {
+        assert_eq!(both(s, &texts(&["tick 5", line])).lines().last(), Some("log 00070000000564C00000000006"));
+    }
+    assert_eq!(both(s, &texts(&["tick 5", "room 40959 352"])), "refused 1");
+    assert_eq!(both(s, &texts(&["tick 5", "01020304 off"])), "refused 6");
+    assert!(both(s, &texts(&["tick 5", "01020304", "wake 01020304"])).starts_with("selected 01020304 20\nframes 2\n"));
 }
 
 /// A locker field of four wristbands that part at the last bit of a byte.

@@ -2,8 +2,8 @@
 
 use crate::bench_front::{BenchFront, VectorsFront};
 use crate::card::Card;
-use crate::frames::Row;
-use crate::language::{hex, read_row, Script};
+use crate::frames::{self, Row};
+use crate::language::{hex, read_row, show_row, Script};
 use crate::random::Random;
 use crate::sweep::field_takes;
 
@@ -83,7 +83,83 @@ pub fn script(seed: u64) -> S {
         random_numbers(&mut s, &mut random);
     }
     longest(&mut s);
+    delays(&mut s, &mut random);
     s
+}
+
+/// T-09: frames of each kind, after a 0 and after a 1.
+fn judged_rows() -> Vec<Row> {
+    let mut rows = vec![frames::short(0x26), frames::short(0x52), frames::short(0x27), frames::short(0x66), Row::new(), frames::hlta(), vec![1], vec![0], vec![2], vec![1, 2]];
+    for k in [0, 1, 2, 7, 8, 9, 15, 16, 31, 32] {
+        rows.push(frames::anticollision(1, &frames::bits_of(&[0xA5, 0x5A, 0xFF, 0x80, 0x80])[..k]));
+    }
+    for (l, bytes) in [(1, [1, 2, 3, 4, 4]), (2, [0x80, 0x12, 0x28, 0x21, 0x9B]), (3, [1, 2, 3, 4, 5])] {
+        rows.push(frames::anticollision(l, &[]));
+        rows.push(frames::select(l, &bytes));
+    }
+    // The last data bit is the last of CRC_A.
+    rows.extend((0..=255).map(|b| frames::select(1, &[b, 2, 3, 4, 4])).find(|row| row[79] == 1));
+    rows
+}
+
+/// T-09: the judge of delay: both sides of every tie, wrapping ticks, the least and the greatest delay, damaged frames, the empty row.
+fn delays(s: &mut S, random: &mut Random) {
+    s.remark("delays: the examples");
+    for (line, answer) in [
+        ("delay 0110010 0 1172", "off 0"),
+        ("delay 0110010 4294967295 1299", "off 128"),
+        ("delay 110010010000001000 1000 2100", "off -72"),
+        ("delay 000010101000000001111010100101100110 0 1301", "off -63"),
+        ("delay 0110010 5 4", "refused 14"),
+    ] {
+        assert_eq!(s.say(line), answer);
+    }
+    let judge = |s: &mut S, row: &[u8], sent: u32, delay: u32| s.say(&format!("delay {} {sent} {}", show_row(row), sent.wrapping_add(delay)));
+    s.remark("each kind of frame: nothing, the due delays, both ends of what is judged");
+    for row in judged_rows() {
+        for delay in [0, 1172, 1236, 2_147_483_647, 2_147_483_648, u32::MAX] {
+            judge(s, &row, 4_294_967_200, delay);
+        }
+    }
+    s.remark("both sides of each tie, for n = 9, 10 and a large n, before the first point too");
+    for row in [vec![], frames::hlta()] {
+        let place = if row.is_empty() { 20 } else { 84 };
+        for n in [8u32, 9, 10, 16_000_000, 16_777_214] {
+            for add in [0, 1, 63, 64, 65, 127] {
+                judge(s, &row, random.word(), n * 128 + place + add);
+            }
+        }
+    }
+    s.remark("a damaged frame is an other one: each bit of a SELECT and of an ANTICOLLISION turned, and collided");
+    for good in [frames::select(1, &[1, 2, 3, 4, 4]), frames::anticollision(2, &[1, 0, 1])] {
+        for place in 0..good.len() {
+            for bit in [1 - good[place], 2] {
+                let mut row = good.clone();
+                row[place] = bit;
+                judge(s, &row, 0, 1300);
+            }
+        }
+    }
+    s.remark("lines that are not understood");
+    for line in ["delay", "delay 0110010", "delay 0110010 0", "delay 0110010 0 1 2", "delay 0110012 0 1", "delay 0110010 0 4294967296", "delay 0110010 4294967296 0", "delay 0110010 -1 0", "delay 0110010 0 00000000001", "delays 0110010 0 1"] {
+        s.say(line);
+    }
+    s.say("delay 0110010 0000000000 0000001173");
+    s.remark("random delays");
+    for _ in 0..120 {
+        let mut row = random.pick(&judged_rows());
+        if random.chance(25) && !row.is_empty() {
+            let place = random.below(row.len());
+            row[place] = random.below(3) as u8;
+        }
+        let delay = match random.below(4) {
+            0 => random.word(),
+            1 => random.below(1400) as u32,
+            2 => 128 * random.below(40) as u32 + 20,
+            _ => 128 * random.below(40) as u32 + 84,
+        };
+        judge(s, &row, random.word(), delay);
+    }
 }
 
 fn language(s: &mut S) {

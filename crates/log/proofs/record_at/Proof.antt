@@ -12,6 +12,9 @@ returns c = simp (le-leb _ _ (c .if1 .taken))
 add-if2 : tie.Need-add-if2
 add-if2 c = search needs
 
+add-if2-2 : tie.Need-add-if2-2
+add-if2-2 c = search needs
+
 returns-2 : tie.Need-returns-2
 unfolding recordAt
 returns-2 c = simp (lt-leb _ _ (c .before .if1 .left), lt-ltb _ _ (c .if2 .taken))
@@ -19,11 +22,14 @@ returns-2 c = simp (lt-leb _ _ (c .before .if1 .left), lt-ltb _ _ (c .if2 .taken
 add-after-header : tie.Need-add-after-header
 add-after-header c = search needs
 
+add-after-header-2 : tie.Need-add-after-header-2
+add-after-header-2 c = search needs
+
 shared-slice-read-after-header : tie.Need-shared-slice-read-after-header
 shared-slice-read-after-header c = search needs
 
-add-after-header-2 : tie.Need-add-after-header-2
-add-after-header-2 c = search needs
+add-after-header-3 : tie.Need-add-after-header-3
+add-after-header-3 c = search needs
 
 shared-slice-read-after-header-2 : tie.Need-shared-slice-read-after-header-2
 shared-slice-read-after-header-2 c = search needs
@@ -41,10 +47,12 @@ record-at-spec =
     (tie.spec
     returns
     add-if2
+    add-if2-2
     returns-2
     add-after-header
-    shared-slice-read-after-header
     add-after-header-2
+    shared-slice-read-after-header
+    add-after-header-3
     shared-slice-read-after-header-2
     after-header-requires
     returns-3)

@@ -19,7 +19,7 @@ loop-holds : tie.Need-loop-holds Inv-loop μ-loop
 loop-holds c = (omega arith, refl, omega arith)
 
 mul-v : tie.Need-mul-v Inv-loop μ-loop
-mul-v c = omega (arith, digit-room (c .before .loop .v) (c .before .loop .i) (omega arith) (c .before .loop .inv .2))
+mul-v c = omega (arith, digit-room 9 (c .before .loop .i) (c .before .loop .v) (omega arith) (c .before .loop .inv .2))
 
 shared-slice-read-decimal-value : tie.Need-shared-slice-read-decimal-value Inv-loop μ-loop
 shared-slice-read-decimal-value c = omega arith
@@ -33,7 +33,7 @@ cast-v c = omega arith
 add-v : tie.Need-add-v Inv-loop μ-loop
 add-v c =
     let l = c .before .before .before .loop in
-    omega (arith, digit-room (l .v) (l .i) (omega arith) (l .inv .2))
+    omega (arith, digit-room 9 (l .i) (l .v) (omega arith) (l .inv .2))
 
 add-i : tie.Need-add-i Inv-loop μ-loop
 add-i c = omega arith

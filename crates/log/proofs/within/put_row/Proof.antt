@@ -10,8 +10,8 @@ use mathlib.Core.Bool.{false}
 use Rattle.log.proofs.within.put_row.Statement.{statement}
 use Rattle.log.proofs.within.put_row.Tie as tie
 
-header-of-requires : tie.Need-header-of-requires
-header-of-requires c κs = search needs
+head-of-requires : tie.Need-head-of-requires
+head-of-requires c κs = search needs
 
 slice-aggregate-put : tie.Need-slice-aggregate-put
 slice-aggregate-put c = search needs
@@ -39,15 +39,15 @@ returns c =
     let a = c .before .before .before .before .before .before .before .before .before .before .before .before .args in
     let r = now (a .row) in (
       refl,
-      rw (c .before .before .put-packed .ensures, c .before .before .before .before .before .before .put .ensures, c .before .before .before .before .before .before .before .before .before .header-of .ensures)
-          (row-written (now (a .out)) (a .at) (a .kind) (length r) (pack (plain r)) (omega (arith, length-pack false r))),
+      rw (c .before .before .put-packed .ensures, c .before .before .before .before .before .before .put .ensures, c .before .before .before .before .before .before .before .before .before .head-of .ensures)
+          (row-written (now (a .out)) (a .at) (a .kind) (length r) (a .tick) (pack (plain r)) (omega (arith, length-pack false r))),
     )
 
 pub put-row-spec : {M : Type 1} → statement M
 put-row-spec =
     tie.close
     (tie.spec
-    header-of-requires
+    head-of-requires
     slice-aggregate-put
     put-requires
     add-put-packed

@@ -47,7 +47,7 @@ put-exchange-requires c κs =
     let w = c .before .before .before .before .before .before .put-frame in
     let forty-five : length (a .a .heard) ≡ 45 = search needs in
     let u : Front (frame (a .r)) (b .result) (w .last .1 .0) = front-of _ _ _ _ (b .ensures) (w .ensures) in
-    (rw (u .bits) (bits-clean _ (frame-bits (a .r))), rw length-take (omega (arith, u .fits, w .kept .1 .0)), rw length-take (omega (arith, q .0, forty-five)), rw (u .bits) (q .1))
+    (rw (u .bits) (bits-clean _ (frame-bits (a .r))), rw length-take (omega (arith, u .fits, w .kept .1 .0)), rw length-take (omega (arith, q .0, forty-five)), rw (u .bits) (q .1), q .2)
 
 array-share-prefix-heard-2 : tie.Need-array-share-prefix-heard-2
 array-share-prefix-heard-2 c = c .before .before .before .before .before .before .before .before .before .before .before .before .pre .0

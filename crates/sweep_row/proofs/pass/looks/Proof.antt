@@ -11,11 +11,11 @@ none-requires c κs = search needs
 silence-requires : tie.Need-silence-requires
 silence-requires c κs = search needs
 
-sub-t7 : tie.Need-sub-t7
-sub-t7 c = search needs
+sub-t8 : tie.Need-sub-t8
+sub-t8 c = search needs
 
 returns : tie.Need-returns
 returns c = rw (c .silence .ensures, c .before .none .ensures, c .before .before .refused .ensures)
 
 pub looks-spec : {M : Type 1} → statement M
-looks-spec = tie.close (tie.spec refused-requires none-requires silence-requires sub-t7 returns)
+looks-spec = tie.close (tie.spec refused-requires none-requires silence-requires sub-t8 returns)

@@ -19,8 +19,8 @@ stopped-requires c κs = search needs
 
 returns : tie.Need-returns
 returns c =
-    let a = c .before .before .before .before .before .before .args in
-    opens-not-due (a .r) (a .n) (now (a .log)) (now (a .list)) (c .stopped .result) (c .before .refused .result) (c .stopped .ensures) (c .before .refused .ensures) (sym (c .before .before .before .is-new .ensures) ∙ not-true _ (c .before .before .if1 .taken))
+    let a = c .before .before .before .before .before .before .before .args in
+    opens-not-due (a .start) (a .n) (now (a .log)) (now (a .list)) (c .stopped .result) (c .before .refused .result) (c .stopped .ensures) (c .before .refused .ensures) (sym (c .before .before .before .is-new .ensures) ∙ not-true _ (c .before .before .if1 .taken))
 
 refused-requires-2 : tie.Need-refused-requires-2
 refused-requires-2 c κs = search needs
@@ -30,9 +30,9 @@ stopped-requires-2 c κs = search needs
 
 returns-2 : tie.Need-returns-2
 returns-2 c =
-    let a = c .before .before .before .before .before .before .before .args in
-    let new : isNew (a .r .phase) ≡ true = sym (c .before .before .before .before .is-new .ensures) ∙ not-false _ (c .before .before .before .if1 .left) in
-    opens-no-log (a .r) (a .n) (now (a .log)) (now (a .list)) (c .stopped2 .result) (c .before .refused2 .result) (c .stopped2 .ensures) new (c .before .refused2 .ensures) (c .before .before .if2 .taken)
+    let a = c .before .before .before .before .before .before .before .before .args in
+    let new : isNew (a .start .reader .phase) ≡ true = sym (c .before .before .before .before .is-new .ensures) ∙ not-false _ (c .before .before .before .if1 .left) in
+    opens-no-log (a .start) (a .n) (now (a .log)) (now (a .list)) (c .stopped2 .result) (c .before .refused2 .result) (c .stopped2 .ensures) new (c .before .refused2 .ensures) (c .before .before .if2 .taken)
 
 refused-requires-3 : tie.Need-refused-requires-3
 refused-requires-3 c κs = search needs
@@ -42,9 +42,9 @@ stopped-requires-3 c κs = search needs
 
 returns-3 : tie.Need-returns-3
 returns-3 c =
-    let a = c .before .before .before .before .before .before .before .before .args in
-    let new : isNew (a .r .phase) ≡ true = sym (c .before .before .before .before .before .is-new .ensures) ∙ not-false _ (c .before .before .before .before .if1 .left) in
-    opens-no-list (a .r) (a .n) (now (a .log)) (now (a .list)) (c .stopped3 .result) (c .before .refused3 .result) (c .stopped3 .ensures) new (c .before .before .before .if2 .left) (c .before .refused3 .ensures) (c .before .before .if3 .taken)
+    let a = c .before .before .before .before .before .before .before .before .before .args in
+    let new : isNew (a .start .reader .phase) ≡ true = sym (c .before .before .before .before .before .is-new .ensures) ∙ not-false _ (c .before .before .before .before .if1 .left) in
+    opens-no-list (a .start) (a .n) (now (a .log)) (now (a .list)) (c .stopped3 .result) (c .before .refused3 .result) (c .stopped3 .ensures) new (c .before .before .before .if2 .left) (c .before .refused3 .ensures) (c .before .before .if3 .taken)
 
 refused-requires-4 : tie.Need-refused-requires-4
 refused-requires-4 c κs = search needs
@@ -54,17 +54,17 @@ stopped-requires-4 c κs = search needs
 
 returns-4 : tie.Need-returns-4
 returns-4 c =
-    let a = c .before .before .before .before .before .before .before .before .before .args in
-    let new : isNew (a .r .phase) ≡ true = sym (c .before .before .before .before .before .before .is-new .ensures) ∙ not-false _ (c .before .before .before .before .before .if1 .left) in
-    opens-too-many (a .r) (a .n) (now (a .log)) (now (a .list)) (c .stopped4 .result) (c .before .refused4 .result) (c .stopped4 .ensures) new (c .before .before .before .before .if2 .left) (c .before .before .before .if3 .left) (c .before .refused4 .ensures) (c .before .before .if4 .taken)
+    let a = c .before .before .before .before .before .before .before .before .before .before .args in
+    let new : isNew (a .start .reader .phase) ≡ true = sym (c .before .before .before .before .before .before .is-new .ensures) ∙ not-false _ (c .before .before .before .before .before .if1 .left) in
+    opens-too-many (a .start) (a .n) (now (a .log)) (now (a .list)) (c .stopped4 .result) (c .before .refused4 .result) (c .stopped4 .ensures) new (c .before .before .before .before .if2 .left) (c .before .before .before .if3 .left) (c .before .refused4 .ensures) (c .before .before .if4 .taken)
 
 empty-requires : tie.Need-empty-requires
 empty-requires c κs =
-    let a = c .before .before .before .before .before .before .before .before .before .before .args in
-    let new : isNew (a .r .phase) ≡ true = sym (c .before .before .before .before .before .before .before .is-new .ensures) ∙ not-false _ (c .before .before .before .before .before .before .if1 .left) in
+    let a = c .before .before .before .before .before .before .before .before .before .before .before .args in
+    let new : isNew (a .start .reader .phase) ≡ true = sym (c .before .before .before .before .before .before .before .is-new .ensures) ∙ not-false _ (c .before .before .before .before .before .before .if1 .left) in
     let hlist = c .before .before .before .before .if3 .left in
     let hlog = c .before .before .before .before .before .if2 .left in
-    (empty-log-fits (a .r) (a .n) (now (a .log)) (now (a .list)) new hlog hlist, empty-list-fits (a .r) (a .n) (now (a .log)) (now (a .list)) new hlog hlist)
+    (empty-log-fits (a .start) (a .n) (now (a .log)) (now (a .list)) new hlog hlist, empty-list-fits (a .start) (a .n) (now (a .log)) (now (a .list)) new hlog hlist)
 
 stopped-requires-5 : tie.Need-stopped-requires-5
 stopped-requires-5 c κs = search needs
@@ -77,18 +77,18 @@ same-length-2 c = search needs
 
 returns-5 : tie.Need-returns-5
 returns-5 c =
-    let a = c .before .before .before .before .before .before .before .before .before .before .before .before .before .before .before .before .args in
-    let new : isNew (a .r .phase) ≡ true = sym (c .before .before .before .before .before .before .before .before .before .before .before .before .before .is-new .ensures) ∙ not-false _ (c .before .before .before .before .before .before .before .before .before .before .before .before .if1 .left) in
-    opens-empty (a .r) (a .n) (now (a .log)) (now (a .list)) new (c .before .before .before .before .before .before .before .before .before .before .before .if2 .left) (c .before .before .before .before .before .before .before .before .before .before .if3 .left) (c .before .before .before .before .before .before .before .before .if5 .taken) (c .stopped5 .result) (c .before .before .before .before .before .empty .result) (c .stopped5 .ensures) (c .before .before .before .before .before .empty .ensures .0) _ _ (c .before .before .before .before .before .empty .ensures .1 .0) (c .before .before .before .before .before .empty .ensures .1 .1)
+    let a = c .before .before .before .before .before .before .before .before .before .before .before .before .before .before .before .before .before .args in
+    let new : isNew (a .start .reader .phase) ≡ true = sym (c .before .before .before .before .before .before .before .before .before .before .before .before .before .is-new .ensures) ∙ not-false _ (c .before .before .before .before .before .before .before .before .before .before .before .before .if1 .left) in
+    opens-empty (a .start) (a .n) (now (a .log)) (now (a .list)) new (c .before .before .before .before .before .before .before .before .before .before .before .if2 .left) (c .before .before .before .before .before .before .before .before .before .before .if3 .left) (c .before .before .before .before .before .before .before .before .if5 .taken) (c .stopped5 .result) (c .before .before .before .before .before .empty .result) (c .stopped5 .ensures) (c .before .before .before .before .before .empty .ensures .0) _ _ (c .before .before .before .before .before .empty .ensures .1 .0) (c .before .before .before .before .before .empty .ensures .1 .1)
 
 looks-requires : tie.Need-looks-requires
 looks-requires c κs = search needs
 
 returns-6 : tie.Need-returns-6
 returns-6 c =
-    let a = c .before .before .before .before .before .before .before .before .before .args in
-    let new : isNew (a .r .phase) ≡ true = sym (c .before .before .before .before .before .before .is-new .ensures) ∙ not-false _ (c .before .before .before .before .before .if1 .left) in
-    opens-looks (a .r) (a .n) (now (a .log)) (now (a .list)) new (c .before .before .before .before .if2 .left) (c .before .before .before .if3 .left) (c .before .before .if4 .left) (c .before .if5 .left) (c .looks .result) (c .looks .ensures)
+    let a = c .before .before .before .before .before .before .before .before .before .before .args in
+    let new : isNew (a .start .reader .phase) ≡ true = sym (c .before .before .before .before .before .before .is-new .ensures) ∙ not-false _ (c .before .before .before .before .before .if1 .left) in
+    opens-looks (a .start) (a .n) (now (a .log)) (now (a .list)) new (c .before .before .before .before .if2 .left) (c .before .before .before .if3 .left) (c .before .before .if4 .left) (c .before .if5 .left) (c .looks .result) (c .looks .ensures)
 
 pub opening-spec : {M : Type 1} → statement M
 opening-spec =

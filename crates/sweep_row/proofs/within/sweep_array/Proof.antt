@@ -44,11 +44,11 @@ use borrow.Table.Elements.{length-take-le, same-len}
 use borrow.Rule.Array.Share.{room-take}
 use Rattle.limits.specs.Limits.{mostCards}
 use Rattle.card.specs.declared.Card.{Card}
-use Rattle.reader.specs.declared.Reader.{Reader}
+use Rattle.sweep.specs.declared.Start.{Start}
 use Rattle.sweep_row.specs.declared.RowSwept.{RowSwept}
 use Rattle.sweep_row.specs.declared.within.ArraySwept.{ArraySwept}
-use Rattle.reader.proofs.Reader as E
-use Rattle.reader.proofs.Reader.Laws as E′
+use Rattle.sweep.proofs.Start as E
+use Rattle.sweep.proofs.Start.Laws as E′
 use Rattle.card.proofs.Card as T
 use Rattle.card.proofs.Card.Laws as T′
 use Rattle.sweep_row.proofs.RowSwept as R
@@ -77,11 +77,11 @@ abbrev Bytes : Type 0
 Bytes = List ℕ
 
 abbrev Arg : Type 0
-Arg = Reader × (List Card × (ℕ × (RefT Bytes × (RefT Bytes × Unit {0}))))
+Arg = Start × (List Card × (ℕ × (RefT Bytes × (RefT Bytes × Unit {0}))))
 
 -- machine values
-abbrev mreader : Reader → Val
-mreader r = LL.val E.the-type E′.the-laws r
+abbrev mstart : Start → Val
+mstart r = LL.val E.the-type E′.the-laws r
 
 abbrev mcards : List Card → Val
 mcards k = only (array-vals (LL.vals T.the-type T′.the-laws) k)
@@ -113,7 +113,7 @@ abbrev Sweeping : {M : Type 1} (𝓤 : URA M) (H : Heap 𝓤) (A : Atoms 𝓤) (
 Sweeping 𝓤 H A mem run = tripleOf 𝓤 H A row.signature (row.spec 𝓤 H A mem run)
 
 module _ {M : Type 1} (𝓤 : URA M) (H : Heap 𝓤) (A : Atoms 𝓤) (W : Given 𝓤 H A) (mem : Memory → SProp 𝓤) (run : Routine → Fun 𝓤) (κ₁ κ₂ : Lft) (q₁ q₂ : Share)
-    (r : Reader) (cards : List Card) (n : ℕ) (x₁ x₂ : RefT Bytes) where
+    (r : Start) (cards : List Card) (n : ℕ) (x₁ x₂ : RefT Bytes) where
   abbrev log₀ : Bytes
   log₀ = x₁ .now
 
@@ -130,7 +130,7 @@ module _ {M : Type 1} (𝓤 : URA M) (H : Heap 𝓤) (A : Atoms 𝓤) (W : Given
   x = (r, (cards, (n, (x₁, (x₂, tt)))))
 
   abbrev at : List Val × (List Val × (List Val × (List Val × (List Val × Unit {0}))))
-  at = (mreader r ∷ [], (mcards cards ∷ [], (vint w64 n ∷ [], (s₁ ∷ [], (s₂ ∷ [], tt)))))
+  at = (mstart r ∷ [], (mcards cards ∷ [], (vint w64 n ∷ [], (s₁ ∷ [], (s₂ ∷ [], tt)))))
 
   abbrev front : List Card
   front = take n cards
@@ -164,12 +164,12 @@ module _ {M : Type 1} (𝓤 : URA M) (H : Heap 𝓤) (A : Atoms 𝓤) (W : Given
 
     -- what the callee's triple binds outside: the row at a lifetime ν of its own, log and list at theirs
     abbrev to-row : ℕ → GName → Sweeping 𝓤 H A mem run .Ghost
-    to-row ν δ = (((ν ∷ [], (κ₁, (κ₂, tt))), (fullShare, (q₁, (q₂, tt))), tt, (r, (x₀ δ, (x₁, (x₂, tt)))), (mreader r ∷ [], (sliceVal (b, 0) n ∷ [], (s₁ ∷ [], (s₂ ∷ [], tt))))), tt)
+    to-row ν δ = (((ν ∷ [], (κ₁, (κ₂, tt))), (fullShare, (q₁, (q₂, tt))), tt, (r, (x₀ δ, (x₁, (x₂, tt)))), (mstart r ∷ [], (sliceVal (b, 0) n ∷ [], (s₁ ∷ [], (s₂ ∷ [], tt))))), tt)
 
     abbrev Passed : ℕ → GName → List (Item 𝓤)
     Passed ν δ = ‵ (flft (ν ∷ []) fullShare) ∷ Tokens ∷ frontOf ν δ ∷ ‵ (MutSlice (named 0) κ₁ u8 .own x₁ (s₁ ∷ [])) ∷ ‵ (MutSlice (named 1) κ₂ u8 .own x₂ (s₂ ∷ [])) ∷ []
 
-    asks : (ν : ℕ) (δ : GName) → Is E.the-row r (mreader r ∷ []) → ent 𝓤 (⋆ 𝓤 H A (Passed ν δ)) (Sweeping 𝓤 H A mem run .pre (to-row ν δ))
+    asks : (ν : ℕ) (δ : GName) → Is E.the-row r (mstart r ∷ []) → ent 𝓤 (⋆ 𝓤 H A (Passed ν δ)) (Sweeping 𝓤 H A mem run .pre (to-row ν δ))
     asks ν δ gr =
         qed W (Passed ν δ) ∵ nothing ! $ move ! (5 ∷ 0 ∷ []) $ fjoin ! $ move ! (4 ∷ 0 ∷ []) $ fjoin ! $ move ! (3 ∷ 0 ∷ []) $ fjoin ! $
         owned ! E.the-row (Is E.the-row) (LL.makes E.the-type E′.the-plain 𝓤 H A) r _ gr $ fjoin ! $ move ! (1 ∷ 2 ∷ []) $ join ! $ join ! $ frame ! $ done !
@@ -181,14 +181,14 @@ module _ {M : Type 1} (𝓤 : URA M) (H : Heap 𝓤) (A : Atoms 𝓤) (W : Given
   abbrev Keeps : RowSwept → List Card → Bytes → Bytes → Type 0
   Keeps p ws lg ls = Sweeps r front (length front) log₀ list₀ (sweptRow p ws) lg ls
 
-  walk : (𝓣 : Tables 𝓤 H) → Triple 𝓤 (𝓣 .C #row) (Sweeping 𝓤 H A mem run) → n ≤ mostCards → n < 2 ^ 64 → Room u8 (length log₀) → Room u8 (length list₀) → Is E.the-row r (mreader r ∷ []) → Is Cards cards (mcards cards ∷ [])
-      → ent 𝓤 (onEntry 𝓤 H A self.signature (κ₁, (κ₂, tt)) (q₁, (q₂, tt)) x at) (WpFn 𝓤 H (𝓣 .C) (𝓣 .Λ) code.function (mreader r ∷ mcards cards ∷ vint w64 n ∷ s₁ ∷ s₂ ∷ []) Post)
+  walk : (𝓣 : Tables 𝓤 H) → Triple 𝓤 (𝓣 .C #row) (Sweeping 𝓤 H A mem run) → n ≤ mostCards → n < 2 ^ 64 → Room u8 (length log₀) → Room u8 (length list₀) → Is E.the-row r (mstart r ∷ []) → Is Cards cards (mcards cards ∷ [])
+      → ent 𝓤 (onEntry 𝓤 H A self.signature (κ₁, (κ₂, tt)) (q₁, (q₂, tt)) x at) (WpFn 𝓤 H (𝓣 .C) (𝓣 .Λ) code.function (mstart r ∷ mcards cards ∷ vint w64 n ∷ s₁ ∷ s₂ ∷ []) Post)
   walk 𝓣 known few gn gn₁ gn₂ gr gc =
       let long : length front ≡ n = length-take-le n cards (subst (λ (m : ℕ). n ≤ m) (sym (gc .1 .0 .1)) few) in
       let parted : Is Cards (front ++ rest) (mcards cards ∷ []) = subst (λ (k : List Card). Is Cards k (mcards cards ∷ [])) (sym (take-append-drop n cards)) gc in
       let typed = array-lawful 𝓤 H A W T.the-row (LL.lawful T.the-type T′.the-laws 𝓤 H A W) mostCards .typed in
       qed W (Tokens ∷ ‵ (owns (E.the-row ∷ Cards ∷ usize ∷ MutSlice (named 0) κ₁ u8 ∷ MutSlice (named 1) κ₂ u8 ∷ []) x at) ∷ []) ∵
-      enter ! (𝓣 .C) (𝓣 .Λ) code.function (mreader r ∷ mcards cards ∷ vint w64 n ∷ s₁ ∷ s₂ ∷ []) _ $
+      enter ! (𝓣 .C) (𝓣 .Λ) code.function (mstart r ∷ mcards cards ∷ vint w64 n ∷ s₁ ∷ s₂ ∷ []) _ $
       alloc1 ! (λ l₀. alloc1 ! (λ l₁. alloc1 ! (λ l₂. alloc1 ! (λ l₃. alloc1 ! (λ l₄. alloc1 ! (λ l₅. alloc1 ! (λ l₆. alloc1 ! (λ l₇. alloc1 ! (λ l₈. alloc1 ! (λ l₉. alloc1 ! (λ l₁₀. alloc1 ! (λ l₁₁. alloc1 ! (λ l₁₂. alloc1 ! (λ l₁₃. alloc1 ! (λ l₁₄. alloc0 ! $ params1 ! $
       -- [_14; ..; _13; ..; ...; _0; ..; the tokens; what the parameters own]
       pass1 ! (init ! 26 refl (LL.lawful E.the-type E′.the-laws 𝓤 H A W .typed r _ gr .0)) $ pass1 ! (init ! 24 refl (typed cards _ gc .0)) $ pass1 ! (init ! 22 refl (tt, record { fits = gn })) $

@@ -6,7 +6,7 @@ use Rattle.rows.specs.Rows.{overlay, clean}
 use Rattle.reader.specs.Reader.{frame, hear}
 use Rattle.field.specs.Calls.{together, cardsAfter}
 use Rattle.field.specs.Field.{heardFrom}
-use Rattle.log.specs.Log.{exchangeBytes}
+use Rattle.log.specs.Log.{exchangeSize}
 use Rattle.sweep_steps.specs.ExchangeLaws.{Front, front-of, heard-front}
 use Rattle.rows.specs.CleanLaws.{bits-clean}
 use Rattle.reader.specs.FrameLaws.{frame-bits}
@@ -94,7 +94,7 @@ put-exchange-requires c κs =
     let t = c .before .before .before .before .take-all in
     let v : Front (heardFrom (frame (a .r)) (take (a .n) (a .cards))) (t .result .bits) (t .last .1 .1 .1 .0) =
     heard-front (frame (a .r)) (b .result) (p .last .1 .0) u (a .cards) (a .n) (t .result) (t .ensures .0) _ (t .last .1 .1 .1 .0) (t .ensures .1) in
-    (rw (u .bits) (bits-clean _ (frame-bits (a .r))), rw length-take (omega (arith, u .fits, p .kept .1 .0)), rw length-take (omega (arith, v .fits, t .kept .1 .1 .1 .0)), rw (u .bits, v .bits) (c .before .before .before .before .before .before .before .before .before .before .before .before .pre .1))
+    (rw (u .bits) (bits-clean _ (frame-bits (a .r))), rw length-take (omega (arith, u .fits, p .kept .1 .0)), rw length-take (omega (arith, v .fits, t .kept .1 .1 .1 .0)), rw (u .bits, v .bits) (c .before .before .before .before .before .before .before .before .before .before .before .before .pre .1), c .before .before .before .before .before .before .before .before .before .before .before .before .pre .2)
 
 array-share-prefix-heard-2 : tie.Need-array-share-prefix-heard-2
 array-share-prefix-heard-2 c =
@@ -136,7 +136,7 @@ returns c =
     heard-front (frame (a .r)) (b .result) (p .last .1 .0) u (a .cards) (a .n) (t .result) (t .ensures .0) _ (t .last .1 .1 .1 .0) (t .ensures .1) in
     let x = c .before .before .before .before .before .put-exchange in
     let h = c .before .hear-rules in
-    let bytes : x .result ≡ length (exchangeBytes (exchangeOf (a .r) (take (a .n) (a .cards)))) = rw (u .bits, v .bits) at (x .ensures .0) in
+    let bytes : x .result ≡ exchangeSize (exchangeOf (a .r) (take (a .n) (a .cards))) = rw (u .bits, v .bits) at (x .ensures .0) in
     let turn : h .result ≡ hear (a .r) (heardFrom (frame (a .r)) (take (a .n) (a .cards))) = h .ensures ∙ ap (hear (a .r)) (v .bits) in
     let cards : t .result .cards ≡ cardsAfter (a .cards) (a .n) (frame (a .r)) = ap (λ y. y .cards) (t .ensures .0) ∙ ap (cardsAfter (a .cards) (a .n)) (u .bits) in
     (rw (bytes, turn, cards), rw (u .bits, v .bits) at (x .ensures .1))

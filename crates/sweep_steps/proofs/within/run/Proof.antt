@@ -14,10 +14,10 @@ use Rattle.sweep_steps.proofs.within.run.Statement.{statement}
 use Rattle.sweep_steps.proofs.within.run.Tie as tie
 
 abbrev Inv-loop : tie.InvT-loop
-Inv-loop n log₀ list₀ p₀ log list p = Under (sweep (take n (p₀ .cards))) (p₀ .cards) n log₀ list₀ p log list
+Inv-loop n t log₀ list₀ p₀ log list p = Under t (sweep (take n (p₀ .cards))) (p₀ .cards) n log₀ list₀ p log list
 
 abbrev μ-loop : tie.MeasureT-loop
-μ-loop n log₀ list₀ p₀ log list p = mostFrames - p .frames
+μ-loop n t log₀ list₀ p₀ log list p = mostFrames - p .frames
 
 blank-requires : tie.Need-blank-requires Inv-loop μ-loop
 blank-requires c κs = tt
@@ -30,7 +30,7 @@ unfolding started
 loop-holds c =
     let a = c .before .before .before .before .args in
     let e = c .sends .ensures ∙ ap sends (c .before .blank .ensures) in
-    rw e (under-none (a .cards) (a .n) (now (a .log)) (now (a .list)) (search needs))
+    rw e (under-none (a .start) (a .cards) (a .n) (now (a .log)) (now (a .list)) (search needs))
 
 goes-on-requires : tie.Need-goes-on-requires Inv-loop μ-loop
 goes-on-requires c κs = tt
@@ -40,7 +40,7 @@ step-requires c κs =
     let l = c .before .before .before .before .loop in
     let a = c .before .before .before .before .before .before .before .before .before .args in
     let g : goesOn (l .p) ≡ true = sym (c .before .before .before .goes-on .ensures) ∙ c .before .before .if1 .taken in
-    under-room _ (a .cards) (a .n) (now (a .log)) (now (a .list)) (l .p) (l .log) (l .list) (l .inv) (c .before .before .before .before .before .before .before .before .before .pre .0) g (c .before .before .before .before .before .before .before .before .before .pre .1) (c .before .before .before .before .before .before .before .before .before .pre .2)
+    under-room (a .start) _ (a .cards) (a .n) (now (a .log)) (now (a .list)) (l .p) (l .log) (l .list) (l .inv) (c .before .before .before .before .before .before .before .before .before .pre .0) g (c .before .before .before .before .before .before .before .before .before .pre .1) (c .before .before .before .before .before .before .before .before .before .pre .2)
 
 loop-less : tie.Need-loop-less Inv-loop μ-loop
 loop-less c =
@@ -53,7 +53,7 @@ loop-again c =
     let a = c .before .before .before .before .before .before .before .before .before .before .before .before .before .before .args in
     let s = c .before .before .before .before .step in
     let g : goesOn (l .p) ≡ true = sym (c .before .before .before .before .before .before .before .before .goes-on .ensures) ∙ c .before .before .before .before .before .before .before .if1 .taken in
-    rw (s .ensures .0) (under-turn _ (a .cards) (a .n) (now (a .log)) (now (a .list)) (l .p) (l .log) (l .list) (l .inv) (c .before .before .before .before .before .before .before .before .before .before .before .before .before .before .pre .0) g (c .before .before .before .before .before .before .before .before .before .before .before .before .before .before .pre .1) (c .before .before .before .before .before .before .before .before .before .before .before .before .before .before .pre .2) (s .last .1 .1 .0) (s .last .1 .1 .1 .0) (s .ensures .1))
+    rw (s .ensures .0) (under-turn (a .start) _ (a .cards) (a .n) (now (a .log)) (now (a .list)) (l .p) (l .log) (l .list) (l .inv) (c .before .before .before .before .before .before .before .before .before .before .before .before .before .before .pre .0) g (c .before .before .before .before .before .before .before .before .before .before .before .before .before .before .pre .1) (c .before .before .before .before .before .before .before .before .before .before .before .before .before .before .pre .2) (s .last .1 .1 .1 .0) (s .last .1 .1 .1 .1 .0) (s .ensures .1))
 
 same-length : tie.Need-same-length Inv-loop μ-loop
 same-length c = c .before .before .loop .inv .log-size
@@ -66,10 +66,10 @@ returns c =
     let l = c .before .before .loop in
     let a = c .before .before .before .before .before .before .before .args in
     let g : goesOn (l .p) ≡ false = sym (c .before .goes-on .ensures) ∙ c .if1 .left in (
-      under-ends _ (a .cards) (a .n) (now (a .log)) (now (a .list)) (l .p) (l .log) (l .list) (l .inv) (c .before .before .before .before .before .before .before .pre .0) g,
+      under-ends (a .start) _ (a .cards) (a .n) (now (a .log)) (now (a .list)) (l .p) (l .log) (l .list) (l .inv) (c .before .before .before .before .before .before .before .pre .0) g,
       (
-        under-log _ (a .cards) (a .n) (now (a .log)) (now (a .list)) (l .p) (l .log) (l .list) (l .inv) (c .before .before .before .before .before .before .before .pre .0) g,
-        under-list _ (a .cards) (a .n) (now (a .log)) (now (a .list)) (l .p) (l .log) (l .list) (l .inv) (c .before .before .before .before .before .before .before .pre .0) g,
+        under-log (a .start) _ (a .cards) (a .n) (now (a .log)) (now (a .list)) (l .p) (l .log) (l .list) (l .inv) (c .before .before .before .before .before .before .before .pre .0) g,
+        under-list (a .start) _ (a .cards) (a .n) (now (a .log)) (now (a .list)) (l .p) (l .log) (l .list) (l .inv) (c .before .before .before .before .before .before .before .pre .0) g,
       ),
     )
 

@@ -9,24 +9,30 @@ use borrow.Author.Needs.{needs}
 use Rattle.sweep_steps.proofs.within.step.Statement.{statement}
 use Rattle.sweep_steps.proofs.within.step.Tie as tie
 
+mul-tick : tie.Need-mul-tick
+mul-tick c = search needs
+
+add-tick : tie.Need-add-tick
+add-tick c = search needs
+
 exchange-requires : tie.Need-exchange-requires
 exchange-requires c κs = search needs
 
 mul-put-found : tie.Need-mul-put-found
-mul-put-found c = search needs
+mul-put-found c = omega (arith, c .before .before .before .before .before .before .before .before .before .before .before .before .before .pre .list-room, c .before .before .before .before .before .before .before .before .before .before .before .before .before .good .1 .1 .1 .1 .0 .1)
 
 put-found-requires : tie.Need-put-found-requires
-put-found-requires c κs = omega (arith, c .before .before .before .before .before .before .before .before .before .before .before .before .pre .list-room, ap (λ x. length (foundBy (x .turn))) (c .before .before .before .before .before .exchange .ensures .0))
+put-found-requires c κs = omega (arith, c .before .before .before .before .before .before .before .before .before .before .before .before .before .pre .list-room, ap (λ x. length (foundBy (x .turn))) (c .before .before .before .before .before .exchange .ensures .0))
 
-add-t17 : tie.Need-add-t17
+add-t16 : tie.Need-add-t16
 unfolding exchanged
-add-t17 c = omega (arith, c .before .before .before .before .before .before .before .before .before .before .before .before .before .before .before .before .before .pre .log-room, c .before .before .before .before .before .before .before .before .before .before .before .before .before .before .before .before .before .good .1 .1 .0 .1, ap (λ x. x .bytes) (c .before .before .before .before .before .before .before .before .before .before .exchange .ensures .0))
+add-t16 c = omega (arith, c .before .before .before .before .before .before .before .before .before .before .before .before .before .before .before .before .before .before .pre .log-room, c .before .before .before .before .before .before .before .before .before .before .before .before .before .before .before .before .before .before .good .1 .1 .1 .0 .1, ap (λ x. x .bytes) (c .before .before .before .before .before .before .before .before .before .before .exchange .ensures .0))
 
-add-t18 : tie.Need-add-t18
-add-t18 c = omega (arith, c .before .before .before .before .before .before .before .before .before .before .before .before .before .before .before .before .before .before .pre .more)
+add-t15 : tie.Need-add-t15
+add-t15 c = omega (arith, c .before .before .before .before .before .before .before .before .before .before .before .before .before .before .before .before .before .before .before .pre .more)
 
-add-t19 : tie.Need-add-t19
-add-t19 c = omega (arith, c .before .before .before .before .before .before .before .before .before .before .before .before .before .before .before .before .before .before .before .pre .list-room, c .before .before .before .before .before .before .before .before .before .before .before .before .before .before .before .before .before .before .before .good .1 .1 .1 .0 .1, c .before .before .before .before .before .before .put-found .ensures .0, ap (λ x. length (foundBy (x .turn))) (c .before .before .before .before .before .before .before .before .before .before .before .before .exchange .ensures .0))
+add-t21 : tie.Need-add-t21
+add-t21 c = omega (arith, c .before .before .before .before .before .before .before .before .before .before .before .before .before .before .before .before .before .before .before .before .pre .list-room, c .before .before .before .before .before .before .before .before .before .before .before .before .before .before .before .before .before .before .before .before .good .1 .1 .1 .1 .0 .1, c .before .before .before .before .before .before .put-found .ensures .0, ap (λ x. length (foundBy (x .turn))) (c .before .before .before .before .before .before .before .before .before .before .before .before .exchange .ensures .0))
 
 same-length : tie.Need-same-length
 same-length c = search needs
@@ -45,12 +51,14 @@ pub step-spec : {M : Type 1} → statement M
 step-spec =
     tie.close
     (tie.spec
+    mul-tick
+    add-tick
     exchange-requires
     mul-put-found
     put-found-requires
-    add-t17
-    add-t18
-    add-t19
+    add-t16
+    add-t15
+    add-t21
     same-length
     same-length-2
     returns)
