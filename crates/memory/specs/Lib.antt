@@ -1,0 +1,9 @@
+pub mod Memory
+pub mod Stored
+pub mod Calls
+pub mod MemoryLaws
+pub mod BranchLaws
+pub mod EnterLaws
+pub mod LearnLaws
+pub mod StoredLaws
+pub mod CallLaws
