@@ -3,7 +3,7 @@ use mathlib.Core.Path.{_≡_, refl, sym, ap, _∙_}
 use Prim.Native.Nat.{ℕ, zero, suc, _+_, _-_, _*_, _≤_, _<_, min}
 use native.Mathlib.Nat.{zero-min, min-zero, suc-min-suc, min-le-left, min-le-right}
 use mathlib.Core.Bool.{Bool, true, false, cond}
-use mathlib.Core.List.{List, [], _∷_}
+use mathlib.Core.List.{List, [], _∷_, _++_}
 use lib.ListN.{length, take, drop, getD, set, replicate, length-take, length-drop, length-map, List·getD-map}
 use lib.Seq.{take-all, getD-take, getD-drop, drop-drop}
 use lib.Dec.{ltb}
@@ -28,7 +28,7 @@ use Rattle.reader.specs.declared.Phase.the-variants.{AnticollisionSent, SelectS
 use Rattle.reader.specs.declared.Reader.{Reader}
 use Rattle.reader.specs.StepLaws.{drop-take}
 
-bits-take : (k : ℕ) (w : List ℕ) → take k (bits w) ≡ bits (take k w)
+pub bits-take : (k : ℕ) (w : List ℕ) → take k (bits w) ≡ bits (take k w)
 unfolding bits
 bits-take zero w = refl
 bits-take (suc k) [] = refl
@@ -40,11 +40,16 @@ bits-drop zero w = refl
 bits-drop (suc k) [] = refl
 bits-drop (suc k) (x ∷ w) = bits-drop k w
 
+pub bits-append : (w u : List ℕ) → bits (w ++ u) ≡ bits w ++ bits u
+unfolding bits
+bits-append [] u = refl
+bits-append (x ∷ w) u = ap (λ l. cond (ltb 1 x) 1 x ∷ l) (bits-append w u)
+
 pub length-bits : (w : List ℕ) → length (bits w) ≡ length w
 unfolding bits
 length-bits w = rw length-map
 
-bits-are : (w : List ℕ) → Bits (bits w)
+pub bits-are : (w : List ℕ) → Bits (bits w)
 unfolding bits
 bits-are [] = tt
 bits-are (x ∷ w) = (go (ltb 1 x) refl, bits-are w)

@@ -55,7 +55,7 @@ pub recalls-end : (w : List ℕ) → hear (blank ReqaSent true) w [] ≡ recall 
 unfolding hear comes Plain.hear hearAtqa isNil
 recalls-end w = refl
 
-learns : (K e : List ℕ) → Bits (K ++ e) → length (K ++ e) ≤ 40 → drop (length K) (take (length (K ++ e)) (airBits (bytesOf 5 (K ++ e)))) ≡ e
+pub learns : (K e : List ℕ) → Bits (K ++ e) → length (K ++ e) ≤ 40 → drop (length K) (take (length (K ++ e)) (airBits (bytesOf 5 (K ++ e)))) ≡ e
 learns K e b h = rw (bits-bytes-take 5 (K ++ e) b h) (drop-at K e (length K) refl)
 
 module _ (j : ℕ) (P K e w h : List ℕ) (hj : j < 3) (hw : length w ≡ 40 * j + length K) (b : Bits (K ++ e)) (m : length (K ++ e) ≤ 40) where

@@ -4,12 +4,10 @@ use Prim.Native.Nat.{ℕ, suc, _+_, _*_, _≤_, _<_}
 use mathlib.Core.Bool.{Bool, true, false, cond}
 use mathlib.Core.List.{List, [], _∷_, _++_, map}
 use lib.ListN.{length, take, drop, length-map, length-append}
-use lib.Dec.{ltb}
 use native.Mathlib.Omega.{arith}
 use Rattle.rows.specs.CleanLaws.{not-nil, next-clean}
 use Rattle.rows.specs.ListLaws.{all-append}
 use Rattle.rows.specs.Rows.{clean, next, All, isNil, Bits}
-use borrow.Author.Tests.{ltb-false}
 use Rattle.frame.specs.ByteLaws.{length-bytes}
 use Rattle.frame.specs.Frame.{bytesOf}
 use Rattle.uid.specs.LevelLaws.{wide, InLevels}
@@ -25,6 +23,7 @@ use Rattle.field.specs.Field.{allTake, heardFrom}
 use Rattle.field.specs.HeardLaws.{reads-atqa, length-atqas, length-answer, reads-clean, reads-clash}
 use Rattle.field.specs.Merge.{merge}
 use Rattle.log.specs.Log.{sentHeard}
+use Rattle.memory.specs.LevelReadLaws.{next-bits}
 use Rattle.memory.specs.Memory.{recall, branch, keeping, hear}
 use Rattle.log.specs.Log.{sentHeard}
 use Rattle.memory.specs.MemoryLaws.{entering, recalls-atqa, recalls-end, recalls-whole, recalls-collided, recalls-more, recalls-last, recalls-silence}
@@ -74,15 +73,6 @@ tick-found : (f : ℕ) (r : Reader) (w : List ℕ) (t : Turn) (w′ : List ℕ) 
     → small (sentHeard (frame r) h) ≡ true → goes f t w′ F′ ≡ v → goes (suc f) (finds r) w F ≡ (uidBytes (r .uid) ∷ v .0, suc (v .1), v .2)
 unfolding goes run before finding view allSmall finds
 tick-found f r w t w′ F F′ h v e₁ e₂ e₃ e₄ e₅ = rw (e₁, e₂, e₃, e₄) (ap (λ u. (uidBytes (r .uid) ∷ u .0, suc (u .1), u .2)) e₅)
-
-next-bits : (h : List ℕ) → Bits (next h)
-unfolding next
-next-bits [] = tt
-next-bits (x ∷ h) = go (ltb 1 x) refl (next-bits h)
-  where
-    go : (b : Bool) → ltb 1 x ≡ b → Bits (next h) → Bits (cond b (1 ∷ []) (x ∷ next h))
-    go true e i = (omega arith, tt)
-    go false e i = (omega (arith, ltb-false 1 x e), i)
 
 -- ---- the laws
 

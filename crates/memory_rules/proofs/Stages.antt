@@ -3,9 +3,8 @@ use mathlib.Core.Path.{_≡_, refl, sym, ap, _∙_}
 use Prim.Native.Nat.{ℕ, zero, suc, _+_, _-_, _*_, _≤_, _<_}
 use native.Mathlib.Nat.{suc-add}
 use mathlib.Core.Bool.{Bool, true, false, cond}
-use mathlib.Core.List.{List, [], _∷_, _++_, append-nil, append-assoc}
+use mathlib.Core.List.{List, [], _++_, append-nil, append-assoc}
 use lib.ListN.{length, length-append}
-use lib.Dec.{ltb}
 use native.Mathlib.Numerals.{one-add}
 use native.Mathlib.Omega.{arith}
 use Rattle.rows.specs.EachLaws.{bits-right}
@@ -14,7 +13,7 @@ use Rattle.uid.specs.LevelLaws.{wide, InLevels}
 use Rattle.reader.specs.ReaderLaws.{lvl, opened, selecting, closed}
 use Rattle.memory.specs.Memory.{bits}
 use Rattle.memory.specs.MemoryLaws.{entering, enters-open}
-use Rattle.memory.specs.EnterLaws.{length-bits}
+use Rattle.memory.specs.EnterLaws.{length-bits, bits-append}
 use Rattle.sweep_rules.proofs.Abstract.{strips, heard, level, select, Apart}
 use Rattle.sweep_rules.proofs.Early.{law-early-32}
 use Rattle.sweep_rules.proofs.First.{strips-nil, strips-append}
@@ -31,11 +30,6 @@ use Rattle.memory_rules.proofs.From.{from, select-from, full, left, lon
 use Rattle.memory_rules.proofs.Marks.{marks, marks-append, length-marks, bits-marks}
 use Rattle.card.specs.declared.Card.{Card}
 use Rattle.card.specs.declared.CardState.the-variants.{Ready, Active}
-
-bits-append : (w u : List ℕ) → bits (w ++ u) ≡ bits w ++ bits u
-unfolding bits
-bits-append [] u = refl
-bits-append (x ∷ w) u = ap (λ l. cond (ltb 1 x) 1 x ∷ l) (bits-append w u)
 
 -- the first level's bits behind K; all of them; the path then
 behind : List ℕ → List (List ℕ) → List ℕ
