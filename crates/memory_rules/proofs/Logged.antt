@@ -8,7 +8,7 @@ use Rattle.reader.specs.FrameLaws.{frame-bits}
 use Rattle.reader.specs.Reader.{frame}
 use Rattle.field.specs.Field.{allTake, heardFrom}
 use Rattle.log.specs.CountLaws.{Loggable}
-use Rattle.log.specs.Log.{exchangeBytes}
+use Rattle.log.specs.Log.{exchangeSize}
 use Rattle.memory.specs.Memory.{Recall, hear}
 use Rattle.sweep_rules.specs.Run.{Out, before, ended, follow, finding}
 use Rattle.sweep_rules.proofs.Logged.{loggable}
@@ -34,6 +34,6 @@ run-bits (suc fuel) m cs =
     on Finishes t cs o h = tt
     on (Declines e) t cs o h = tt
 
-pub run-loggable : (fuel : ℕ) (m : Recall) (cs : List Card) → All (λ e. (0 < length (e .sent)) × (length (exchangeBytes e) ≤ 19)) (run fuel m cs .exchanges)
+pub run-loggable : (fuel : ℕ) (m : Recall) (cs : List Card) → All (λ e. (0 < length (e .sent)) × (exchangeSize e ≤ 27)) (run fuel m cs .exchanges)
     → All Loggable (run fuel m cs .exchanges)
 run-loggable fuel m cs h = all-zip (run fuel m cs .exchanges) loggable (run-bits fuel m cs) h

@@ -13,7 +13,8 @@ use Rattle.uid.specs.UidLaws.{name, Sound}
 use Rattle.reader.specs.Reader.{blank, turn, sends}
 use Rattle.reader.specs.ReaderLaws.{asking}
 use Rattle.log.specs.CountLaws.{sent-counted}
-use Rattle.log.specs.Log.{exchangeBytes}
+use Rattle.log.specs.Log.{exchangeSize}
+use Rattle.log.specs.RecordLaws.{exchange-size, log-size}
 use Rattle.memory.specs.Memory.{recall}
 use Rattle.sweep_rules.specs.Demand.{Typed, idle, halted, Demand3}
 use Rattle.sweep_rules.specs.Run.{sweep}
@@ -85,26 +86,26 @@ module _ (cs : List Card) (t : All Typed cs) (w : within cs ≡ true) where
   unfolding view
   count = ap (λ z. z .1) run-is
 
-  smalls : All (λ e. (0 < length (e .sent)) × (length (exchangeBytes e) ≤ 19)) (recalled cs .exchanges)
+  smalls : All (λ e. (0 < length (e .sent)) × (exchangeSize e ≤ 27)) (recalled cs .exchanges)
   unfolding view
   smalls = small-all (recalled cs .exchanges) (ap (λ z. z .2 .1) run-is)
 
   pub remembers : Remembers cs (recalled cs)
   unfolding view found
   remembers =
-      let e : All (λ e. length (exchangeBytes e) ≤ 19) (recalled cs .exchanges) = all-weaken (recalled cs .exchanges) (λ e h. h .1) smalls in
+      let e : All (λ e. exchangeSize e ≤ 27) (recalled cs .exchanges) = all-weaken (recalled cs .exchanges) (λ e h. h .1) smalls in
       let f : recalled cs .found ≡ sweep cs .found = ap (λ z. z .0) run-is ∙ sym (plain .found) in
       record {
         finished = ap (λ z. z .2 .2) run-is;
         found = f;
         cards = ap (λ z. z .2 .0) run-is ∙ sym (plain .cards);
         frames = count;
-        counted = sent-counted (recalled cs .exchanges) (unfold recalled in run-loggable mostFrames (recall (sends (blank ReqaSent true)) []) cs (unfold recalled in smalls)) ∙ count;
+        counted = λ t. sent-counted t (recalled cs .exchanges) (unfold recalled in run-loggable mostFrames (recall (sends (blank ReqaSent true)) []) cs (unfold recalled in smalls)) ∙ count;
         fewer = omega (arith, count, sum-is, first-le (sort (idles cs)), plain .frames, plain-sum);
         once = rw (← many) (all-met found falls);
         total = λ h. rw count (rw many at (total found falls (rw many h)));
         most = λ h. rw count (rw many at (most found falls (rw many h)));
-        short = e;
-        log-fits = omega (arith, log-length (recalled cs .exchanges) e, count, sum-is, small, first-le (sort (idles cs)));
+        short = λ t. all-weaken (recalled cs .exchanges) (λ e h. rw (exchange-size t e) (h .1)) smalls;
+        log-fits = λ t. omega (arith, log-size t (recalled cs .exchanges), log-length (recalled cs .exchanges) e, count, sum-is, small, first-le (sort (idles cs)));
         list-fits = rw f (plain .list-fits);
       }

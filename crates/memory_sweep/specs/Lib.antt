@@ -1,0 +1,2 @@
+pub mod Recalled
+pub mod Promise
