@@ -2,11 +2,12 @@
 use mathlib.Core.Path.{_≡_, refl, sym, ap, ap₂, subst, _∙_}
 use Prim.Native.Nat.{ℕ, suc, _+_, _≤_, _<_}
 use native.Mathlib.Omega.{arith}
+use native.Mathlib.Nat.{zero-add}
 use native.Mathlib.Numerals.{add-one}
 use mathlib.Core.Bool.{Bool, true, false}
 use mathlib.Core.List.{List, [], _∷_, _++_, append-nil}
-use lib.ListN.{length, take, drop, getD, set, length-set, drop-of-length-le}
-use lib.Seq.{take-suc, set-getD, take-length}
+use lib.ListN.{length, take, getD, set, length-set, drop-of-length-le}
+use lib.Seq.{take-suc, set-getD, take-length, take-suc-set, paste, paste-suc}
 use Rattle.sweep_row.specs.Row.{sweptRow}
 use Rattle.card.specs.declared.Card.{Card}
 use Rattle.sweep.specs.declared.Start.{Start}
@@ -15,7 +16,6 @@ use Rattle.memory_row.specs.declared.pass.Progress.{Progress}
 use Rattle.memory_row.specs.declared.pass.Turned.{Turned}
 use Rattle.memory_row.specs.Row.{Promises, blankCard, stopped, heldWith, fetchedOne, stores, storedOne, Called}
 use Rattle.memory_row.specs.RowLaws.{carried}
-use Rattle.memory_row.specs.StoreLaws.{take-set, set-half}
 use Rattle.memory_row.specs.Under.{Fetching, Storing, UnderIf, Under, Ready, Turns}
 
 module _ (start : Start) (ys : List Card) (log₀ list₀ : List ℕ) (p : Progress) (ws : List Card) (log list : List ℕ) (u : Under start ys log₀ list₀ p ws log list) where
@@ -53,7 +53,7 @@ module _ (start : Start) (ys : List Card) (log₀ list₀ : List ℕ) (p : Progr
 
       one-more : take (suc (p .at)) (heldWith p c) ≡ take (suc (p .at)) ys
       one-more =
-          take-set (p .held) (p .at) c (omega (arith, F .at, F .few, F .long))
+          take-suc-set (p .held) (p .at) c (omega (arith, F .at, F .few, F .long))
           ∙ ap₂ (λ a b. a ++ (b ∷ [])) (F .same) (sym here-is ∙ ap (λ l. getD l (p .at) blankCard) (F .row))
           ∙ sym (take-suc ys (p .at) blankCard (F .at))
 
@@ -98,13 +98,16 @@ module _ (start : Start) (ys : List Card) (log₀ list₀ : List ℕ) (p : Progr
       abbrev d : Card
       d = getD (p .held) (p .at) blankCard
 
-      half : set ws (p .at) d ≡ take (suc (p .at)) (p .held) ++ drop (suc (p .at)) ys
-      half = ap (λ l. set l (p .at) d) (S .row) ∙ set-half (p .held) ys (p .at) blankCard (S .at) (omega (arith, S .at, S .few, S .long))
+      half : set ws (p .at) d ≡ paste ys 0 (p .held) (suc (p .at))
+      half =
+          ap (λ l. set l (p .at) d) (S .row)
+          ∙ subst (λ i. set (paste ys 0 (p .held) (p .at)) i d ≡ paste ys 0 (p .held) (suc (p .at))) (zero-add (p .at))
+          (paste-suc ys 0 (p .held) (p .at) blankCard (omega (arith, S .at)) (omega (arith, S .at, S .few, S .long)))
 
       next-stored : p .at + 1 < p .cards → Under start ys log₀ list₀ (storedOne p) (set ws (p .at) d) log list
       next-stored l =
           record {
-            row = subst (λ m. set ws (p .at) d ≡ take m (p .held) ++ drop m ys) (sym (add-one (p .at))) half;
+            row = subst (λ m. set ws (p .at) d ≡ paste ys 0 (p .held) m) (sym (add-one (p .at))) half;
             count = S .count;
             at = omega (arith, l, S .count);
             few = S .few;
@@ -117,7 +120,7 @@ module _ (start : Start) (ys : List Card) (log₀ list₀ : List ℕ) (p : Progr
           let n : ℕ = length ys in
           let e : suc (p .at) ≡ n = omega (arith, l, S .at, S .count) in
           let whole : set ws (p .at) d ≡ take n (p .held) =
-          subst (λ m. set ws (p .at) d ≡ take m (p .held) ++ drop m ys) e half ∙ ap (λ x. take n (p .held) ++ x) (drop-of-length-le ys {i = n} (omega arith)) ∙ append-nil (take n (p .held)) in
+          subst (λ m. set ws (p .at) d ≡ paste ys 0 (p .held) m) e half ∙ ap (λ x. take n (p .held) ++ x) (drop-of-length-le ys {i = 0 + n} (omega arith)) ∙ append-nil (take n (p .held)) in
           subst (λ x. Promises start ys n log₀ list₀ (sweptRow (p .swept) x) log list) (sym whole) (S .promised)
 
 -- ---- what a turn gives, branch by branch

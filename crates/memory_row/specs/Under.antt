@@ -1,9 +1,10 @@
 -- The invariant of the call over a lent row, and the two steps that hold to it: how it begins, and one card's turn.
 use Prim.Native.Nat.{ℕ, _+_, _-_, _≤_, _<_}
 use mathlib.Core.Bool.{Bool, true, false, cond}
-use mathlib.Core.List.{List, _++_}
+use mathlib.Core.List.{List}
 use mathlib.Core.Path.{_≡_}
-use lib.ListN.{length, take, drop, getD, set}
+use lib.ListN.{length, take, getD, set}
+use lib.Seq.{paste}
 use Rattle.limits.specs.Limits.{mostCards}
 use Rattle.sweep_row.specs.Row.{sweptRow}
 use Rattle.card.specs.declared.Card.{Card}
@@ -26,7 +27,7 @@ pub record Fetching (start : Start) (cards₀ : List Card) (log₀ list₀ : Lis
 
 -- the sweep ran, and its cards before the place are stored
 pub record Storing (start : Start) (cards₀ : List Card) (log₀ list₀ : List ℕ) (p : Progress) (cards : List Card) (log list : List ℕ) : Type 0 where
-  pub row : cards ≡ take (p .at) (p .held) ++ drop (p .at) cards₀
+  pub row : cards ≡ paste cards₀ 0 (p .held) (p .at)
   pub count : p .cards ≡ length cards₀
   pub at : p .at < length cards₀
   pub few : length cards₀ ≤ mostCards
