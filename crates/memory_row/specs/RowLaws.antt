@@ -68,7 +68,7 @@ module _ (start : Start) (log list : List ℕ) where
   abbrev pub short : Bool
   short = ltb (length log) logRoom || ltb (length list) listRoom
 
-  -- the call by its tests, over the cards of which it refuses; and its numbers, over the field
+  -- the call by its tests: declined with these cards, or the run c; and its numbers, over the field
   abbrev pub byTests : Bool → Bool → Bool → List Card → Call → Call
   byTests a b d cards c =
       cond a (call (refused (start .reader) cards NotDue) log list) (cond b (call (refused (start .reader) cards Room) log list) (cond d (call (refused (start .reader) cards Argument) log list) c))

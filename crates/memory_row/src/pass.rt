@@ -1,5 +1,5 @@
-// How far the call over a row is, and one card's turn. The row's cards are read one by one, the sweep runs over them as values, and they are stored one
-// by one: its branches are kept beside the reader, not in the row. All that branches is here, on values: the row is only read and stored.
+// How far the call over a row is, and one card's turn (T-14). The row's cards are read one by one, the sweep runs over them as values, and they are stored
+// one by one. All that branches is here, on values: the row is only read and stored.
 ghost use mathlib.Core.Path.{_≡_};
 ghost use Prim.Native.Nat.{_≤_, _<_};
 ghost use Rattle.limits.specs.Limits.{mostCards};

@@ -1,4 +1,4 @@
-// The sweep that remembers over an array of cards, as values, and what a row takes of it.
+// The sweep that remembers (T-14) over an array of cards, as values, and what a row takes of it.
 ghost use mathlib.Core.Path.{_≡_};
 ghost use lib.ListN.{length};
 ghost use Rattle.limits.specs.Limits.{mostCards};

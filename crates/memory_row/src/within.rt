@@ -1,4 +1,4 @@
-// T-14 over a lent row, for our own crates that have their cards in an array.
+// The sweep that remembers (T-14) over a lent row, for our own crates that have their cards in an array.
 ghost use mathlib.Core.Path.{_≡_};
 ghost use Prim.Native.Nat.{_≤_};
 ghost use Rattle.limits.specs.Limits.{mostCards};
