@@ -63,10 +63,22 @@ stepped p n =
     let x : Exchanged = exchanged (p .turn .reader) (p .cards) n in
     record { turn = x .turn; cards = x .cards; logged = p .logged + x .bytes; frames = p .frames + 1; found = p .found + length (foundBy (x .turn)) }
 
--- the exchange that comes next, and the reader's turn after it
+-- the exchange that comes next
 abbrev pub nextExchange : Progress → ℕ → Exchange
 nextExchange p n = exchangeOf (p .turn .reader) (take n (p .cards))
 
+-- how far a sweep is after it, whatever its reader does: its turn is then t
+unfoldable pub onto : Progress → ℕ → Turn → Progress
+onto p n t =
+    record {
+      turn = t;
+      cards = cardsAfter (p .cards) n (frame (p .turn .reader));
+      logged = p .logged + exchangeSize (nextExchange p n);
+      frames = p .frames + 1;
+      found = p .found + length (foundBy t);
+    }
+
+-- the plain reader's turn after it
 abbrev pub nextTurn : Progress → ℕ → Turn
 nextTurn p n = exchanged (p .turn .reader) (p .cards) n .turn
 
