@@ -37,12 +37,12 @@ module _ (cards : List Card) (n : ℕ) (typed : All Typed (take n cards)) (field
       → done (s₀ .tick) cards n log list (recalled (take n cards)) ≡ recallOf s₀ cards n log list → Promised s₀ cards n log list s log₁ list₁
   unfolding done
   kept s₀ log list s log₁ list₁ e k = (
-      e ∙ k,
-      record {
-        says = call-says s₀ cards n log list s log₁ list₁ (e ∙ k);
-        run = λ t. e;
-        remembers = λ t. whole;
-        list = λ t. ap (λ c. c .list) e ∙ ap (λ us. overlay list 0 (listBytes us)) (whole .found);
-        cards = λ t. ap (λ c. c .swept .cards) e ∙ ap (λ cs. cs ++ drop n cards) (whole .cards);
-      },
-    )
+    e ∙ k,
+    record {
+      says = call-says s₀ cards n log list s log₁ list₁ (e ∙ k);
+      run = λ t. e;
+      remembers = λ t. whole;
+      list = λ t. ap (λ c. c .list) e ∙ ap (λ us. overlay list 0 (listBytes us)) (whole .found);
+      cards = λ t. ap (λ c. c .swept .cards) e ∙ ap (λ cs. cs ++ drop n cards) (whole .cards);
+    },
+  )
