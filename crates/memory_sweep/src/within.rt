@@ -30,7 +30,7 @@ pub struct Progress {
     pub found: usize,
 }
 
-// The reader's frame, taken by the first n cards; its records in the log; and what the reader does with what it heard.
+// The reader's frame on the air, and what the reader does with what it heard.
 fn exchange(
     r: Reader,
     path: Path,
@@ -44,19 +44,15 @@ fn exchange(
     ensures { λ x. ⌜ x ≡ exchanged r path cards n ⌝ }
     ensures { λ x. ⌜ now (log .exit) ≡ overlay (now (log .entry)) at (exchangeBytes tick (exchangeOf r (take n cards))) ⌝ }
 {
-    let mut frame = [0u8; 81];
-    reader::within::put_frame(r, &mut frame);
-    let bits = reader::within::frame_bits(r);
-    let mut heard = [0u8; 45];
-    let t = field::within::take_all(cards, n, &frame[..bits], &mut heard);
-    let m = t.bits;
-    let bytes = sweep_steps::within::put_exchange(log, at, tick, &frame[..bits], &heard[..m]);
+    let a = sweep_steps::within::air(r, cards, n, log, at, tick);
+    let heard = a.heard;
+    let m = a.bits;
     let next = memory::within::hear_rules(r, path, &heard[..m]);
-    let after = t.cards;
+    let after = a.cards;
     Exchanged {
         memory: next,
         cards: after,
-        bytes: bytes,
+        bytes: a.bytes,
     }
 }
 
