@@ -8,15 +8,12 @@ use mathlib.Core.List.{List}
 use lib.ListN.{length, take}
 use lib.Dec.{ltb}
 use borrow.Author.Tests.{lt-ltb, le-ltb}
-use Rattle.refusal.specs.Refusal.{declining}
-use Rattle.reader.specs.Calls.{turnSays}
 use Rattle.reader.specs.Reader.{isNew}
 use Rattle.limits.specs.Limits.{mostCards, logRoom, listRoom}
-use Rattle.sweep_rules.specs.Run.{Out}
 use Rattle.sweep_rules.specs.Terms.{within}
 use Rattle.memory_rules.specs.Run.{recalled}
 use Rattle.sweep.specs.Promise.{Terms, sweptSays}
-use Rattle.sweep.specs.Sweep.{call, refused, done}
+use Rattle.sweep.specs.Sweep.{Call, call, refused, done}
 use Rattle.memory_sweep.specs.Promise.{recallSays, Recalls}
 use Rattle.memory_sweep.specs.Recalled.{recallOf}
 use Rattle.card.specs.declared.Card.{Card}
@@ -36,18 +33,14 @@ module _ (s₀ : Start) (cards : List Card) (n : ℕ) (log list : List ℕ) wher
   unfolding recallOf done
   call-says s log₁ list₁ e =
       ap (λ c. sweptSays (c .swept)) e
-      ∙ go (not (isNew (s₀ .reader .phase))) (ltb (length log) logRoom || ltb (length list) listRoom) (ltb mostCards n || not (within (take n cards)))
+      ∙ go (not (isNew (s₀ .reader .phase))) (ltb (length log) logRoom || ltb (length list) listRoom) (ltb mostCards n || not (within (take n cards))) _ _ _ _
     where
-      o : Out
-      o = recalled (take n cards)
-
-      go : (a b d : Bool) → sweptSays (cond a (call (refused (s₀ .reader) cards NotDue) log list) (cond b (call (refused (s₀ .reader) cards Room) log list)
-          (cond d (call (refused (s₀ .reader) cards Argument) log list) (done (s₀ .tick) cards n log list o))) .swept)
-          ≡ cond a (declining 11) (cond b (declining 1) (cond d (declining 6) (turnSays (o .last))))
-      go true b d = refl
-      go false true d = refl
-      go false false true = refl
-      go false false false = refl
+      go : (a b d : Bool) (w x y z : Call) → sweptSays (cond a w (cond b x (cond d y z)) .swept)
+          ≡ cond a (sweptSays (w .swept)) (cond b (sweptSays (x .swept)) (cond d (sweptSays (y .swept)) (sweptSays (z .swept))))
+      go true b d w x y z = refl
+      go false true d w x y z = refl
+      go false false true w x y z = refl
+      go false false false w x y z = refl
 
   declines : (e : Refusal) (s : Swept) → s ≡ refused (s₀ .reader) cards e → call (refused (s₀ .reader) cards e) log list ≡ recallOf s₀ cards n log list → (Terms s₀ cards n log list → ⊥)
       → Promised s₀ cards n log list s log list

@@ -46,11 +46,11 @@ fn exchange(
 {
     let a = sweep_steps::within::air(r, cards, n, log, at, tick);
     let heard = a.heard;
-    let m = a.bits;
-    let next = memory::within::hear_rules(r, path, &heard[..m]);
+    let k = a.bits;
+    let m = memory::within::hear_rules(r, path, &heard[..k]);
     let after = a.cards;
     Exchanged {
-        memory: next,
+        memory: m,
         cards: after,
         bytes: a.bytes,
     }
