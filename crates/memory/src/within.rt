@@ -1,10 +1,13 @@
 // The rules of the reader that remembers, on values. Called by our own crates only: firmware calls `start_sweep` and `hear`.
 ghost use mathlib.Core.Path.{_≡_};
-ghost use mathlib.Core.List.{_++_};
+ghost use mathlib.Core.Bool.{true};
+ghost use mathlib.Core.List.{[], _++_};
 ghost use Prim.Native.Nat.{_+_, _*_};
 ghost use lib.ListN.{take};
 ghost use Rattle.uid.specs.Uid.{place};
 ghost use Rattle.selection.specs.Heard.{readRest};
+ghost use Rattle.reader.specs.Reader.{blank, sends};
+ghost use Rattle.reader.specs.declared.Phase.the-variants.{ReqaSent};
 ghost use Rattle.memory.specs.Memory.{recall, learnt, entersBy, keeps, higher, comes, stays, hear};
 ghost use Rattle.memory.specs.Stored.{pathOf, stored, Kept, isSends, isOn, memoryOf};
 use crate::Memory;
@@ -19,6 +22,15 @@ use reader::Phase;
 use reader::Reader;
 use reader::Turn;
 use uid::Level;
+
+// A sweep begins: REQA is out, and nothing is remembered.
+pub fn fresh() -> Memory
+    ensures { λ m. ⌜ m ≡ memoryOf (recall (sends (blank ReqaSent true)) []) ⌝ }
+{
+    let t = reader::within::sends(reader::within::blank(Phase::ReqaSent, true));
+    let p = empty();
+    Memory { turn: t, path: p }
+}
 
 // Does the reader send a frame, its UID not yet complete?
 fn is_sending(a: Answer) -> bool

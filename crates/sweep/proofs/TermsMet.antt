@@ -39,10 +39,11 @@ module _ (s₀ : Start) (cards : List Card) (n : ℕ) (log list : List ℕ) wher
   tests-passed false false true s e = absurd (omega arith)
   tests-passed false false false s e = (refl, refl, refl)
 
-  -- where nothing is declined the terms hold
-  pub terms-if : sweepSays s₀ cards n log list .number ≡ 0 → Terms s₀ cards n log list
-  terms-if e =
-      let p = tests-passed (not (isNew (s₀ .reader .phase))) (ltb (length log) logRoom || ltb (length list) listRoom) (ltb mostCards n || not (within (take n cards))) (turnSays (sweep (take n cards) .last)) e in
+  -- where the tests of a call decline nothing the terms hold, whatever it says then
+  pub terms-passed : (s : Said) → declineIf (not (isNew (s₀ .reader .phase))) 11 (declineIf (ltb (length log) logRoom || ltb (length list) listRoom) 1
+      (declineIf (ltb mostCards n || not (within (take n cards))) 6 s)) .number ≡ 0 → Terms s₀ cards n log list
+  terms-passed s e =
+      let p = tests-passed (not (isNew (s₀ .reader .phase))) (ltb (length log) logRoom || ltb (length list) listRoom) (ltb mostCards n || not (within (take n cards))) s e in
       let room = or-false (ltb (length log) logRoom) (ltb (length list) listRoom) (p .1) in
       let field = or-false (ltb mostCards n) (not (within (take n cards))) (p .2) in
       record {
@@ -52,6 +53,9 @@ module _ (s₀ : Start) (cards : List Card) (n : ℕ) (log list : List ℕ) wher
         few = ltb-false mostCards n (field .0);
         field = not-false (within (take n cards)) (field .1);
       }
+
+  pub terms-if : sweepSays s₀ cards n log list .number ≡ 0 → Terms s₀ cards n log list
+  terms-if e = terms-passed (turnSays (sweep (take n cards) .last)) e
 
   -- .. and where they hold nothing is
   pub terms-then : All Typed (take n cards) → Terms s₀ cards n log list → sweepSays s₀ cards n log list .number ≡ 0
