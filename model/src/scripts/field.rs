@@ -454,10 +454,16 @@ fn remembered(s: &mut Script<VectorsSweep>, random: &mut Random) {
     s.remark("cards of one maker; the comb, which the plain sweep needs 753 frames for");
     let one_maker: Vec<String> = (0..12).map(|i: u8| format!("04A1B2C3D4{:02X}80", i.wrapping_mul(37))).chain(["remember".to_string()]).collect();
     field(s, &one_maker);
-    let mut lines: Vec<String> = comb(random).iter().map(|u| show_hex(u)).collect();
-    lines.push("remember".to_string());
-    // The request's figure for the worst field is 226; this comb shares its levels in another order.
-    assert!(field(s, &lines).starts_with("frames 2"));
+    // Each card parts from each later one at one of the last 31 places of its row.
+    let mut uids = vec![vec![0xFF; 10]];
+    for place in 49..80 {
+        let mut uid = vec![0xFF; 10];
+        uid[place / 8] ^= 1 << (place % 8);
+        uids.push(uid);
+    }
+    shuffle(random, &mut uids);
+    let lines: Vec<String> = uids.iter().map(|u| show_hex(u)).chain(["remember".to_string()]).collect();
+    assert!(field(s, &lines).starts_with("frames 226\n"));
     s.remark("refused as the plain one; the line needs no more words; with a card to wake it has no effect");
     assert_eq!(both(s, &texts(&["remember", "01020304", "room 40959 352"])), "refused 1");
     assert_eq!(both(s, &texts(&["remember", "01020304", "room 40960 351"])), "refused 1");
