@@ -50,9 +50,18 @@ fn none(bench: Bench) -> Reply {
 
 // The bench with this reader.
 fn with_reader(bench: Bench, reader: LinkReader) -> Bench {
-    let mut after = bench;
-    after.reader = reader;
-    after
+    let path = bench.path;
+    let answer = bench.answer;
+    let message = bench.message;
+    Bench {
+        reader,
+        is_remembering: bench.is_remembering,
+        path,
+        answer,
+        room: bench.room,
+        message,
+        length: bench.length,
+    }
 }
 
 // What comes of a call or a row: the bits that the reader sends stand at the front of sent, a whole answer in the answer buffer.

@@ -28,10 +28,24 @@ pub fn start(bench: Bench) -> Reply {
     if !is_sent(a) {
         return turned(bench, m, &sent);
     }
-    let mut after = bench;
-    after.is_remembering = true;
-    after.path = m.path;
-    turned(after, m, &sent)
+    let p = m.path;
+    turned(with_path(bench, p), m, &sent)
+}
+
+// A sweep that remembers is under way, with this path.
+fn with_path(bench: Bench, path: Path) -> Bench {
+    let reader = bench.reader;
+    let answer = bench.answer;
+    let message = bench.message;
+    Bench {
+        reader,
+        is_remembering: true,
+        path,
+        answer,
+        room: bench.room,
+        message,
+        length: bench.length,
+    }
 }
 
 // The reader hears a row.
@@ -41,9 +55,8 @@ pub fn hear(bench: Bench, heard: &[u8]) -> Reply {
     let r = x.reader;
     let p = bench.path;
     let m = memory::hear(r, p, heard, &mut sent);
-    let mut after = bench;
-    after.path = m.path;
-    turned(after, m, &sent)
+    let q = m.path;
+    turned(with_path(bench, q), m, &sent)
 }
 
 fn is_sent(a: Answer) -> bool {
