@@ -1,8 +1,8 @@
 -- The terms of demand 3 hold exactly where the call of a sweep declines nothing, and a field of the full number of cards meets them.
 -- Assumes nothing.
-use mathlib.Core.Path.{_≡_, refl, ap, _∙_}
-use Prim.Native.Nat.{ℕ, zero, suc, _≤_, _<_}
-use mathlib.Core.Bool.{Bool, true, false, cond, not, _||_, true≢false}
+use mathlib.Core.Path.{_≡_, refl, ap}
+use Prim.Native.Nat.{ℕ, zero, suc, _≤_}
+use mathlib.Core.Bool.{Bool, true, false, not, _||_, true≢false}
 use mathlib.Core.List.{List, [], _∷_}
 use lib.Dec.{ltb}
 use lib.ListN.{length, take, replicate, length-replicate}
@@ -13,7 +13,7 @@ use Rattle.rows.specs.Rows.{All, any, same}
 use Rattle.uid.specs.Uid.{valid, uidBytes}
 use Rattle.reader.specs.Calls.{turnSays}
 use Rattle.reader.specs.Reader.{blank, isNew}
-use Rattle.refusal.specs.Refusal.{Said, declining, declineIf}
+use Rattle.refusal.specs.Refusal.{Said, declineIf}
 use Rattle.sweep_rules.specs.Demand.{Typed, Demand3}
 use Rattle.sweep_rules.specs.Run.{sweep}
 use Rattle.sweep_rules.specs.Terms.{cardFits, allFit, apart, within}

@@ -1,10 +1,8 @@
 use mathlib.Core.Path.{_≡_, sym, _∙_}
-use mathlib.Core.Bool.{true, false}
-use native.Mathlib.Omega.{arith}
-use borrow.Author.Needs.{needs}
+use mathlib.Core.Bool.{true}
 use borrow.Author.Tests.{not-true, not-false}
 use denote.Ref.{now}
-use lib.ListN.{length, take}
+use lib.ListN.{take}
 use Rattle.rows.specs.Rows.{All}
 use Rattle.reader.specs.Reader.{isNew}
 use Rattle.sweep_rules.specs.Demand.{Typed}

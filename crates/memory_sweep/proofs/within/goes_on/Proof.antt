@@ -1,4 +1,3 @@
-use mathlib.Core.Path.{_≡_}
 use borrow.Author.Tests.{lt-ltb, le-ltb}
 use Rattle.sweep_steps.specs.Steps.{goesOn}
 use borrow.Author.Needs.{needs}

@@ -1,10 +1,9 @@
 use mathlib.Core.Bool.{true, false}
 use Prim.Native.Nat.{_-_}
-use mathlib.Core.Path.{_≡_, refl, sym, ap, _∙_}
-use native.Mathlib.Omega.{arith}
+use mathlib.Core.Path.{_≡_, sym, _∙_}
 use borrow.Author.Needs.{needs}
 use denote.Ref.{now}
-use lib.ListN.{length, take}
+use lib.ListN.{take}
 use Rattle.limits.specs.Limits.{mostFrames}
 use Rattle.memory_rules.specs.Run.{recalled}
 use Rattle.memory_sweep.specs.Steps.{started, goesOn}

@@ -1,9 +1,6 @@
-use mathlib.Core.Path.{_≡_, refl, sym, ap, _∙_}
+use mathlib.Core.Path.{ap}
 use native.Mathlib.Omega.{arith}
-use denote.Ref.{now}
 use lib.ListN.{length}
-use Rattle.rows.specs.Rows.{overlay}
-use Rattle.log.specs.Log.{listBytes}
 use Rattle.sweep_steps.specs.Steps.{foundBy}
 use Rattle.memory_sweep.specs.Steps.{exchanged, stepped}
 use borrow.Author.Needs.{needs}

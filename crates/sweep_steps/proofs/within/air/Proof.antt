@@ -1,10 +1,9 @@
-use mathlib.Core.Path.{_≡_, refl, sym, ap, ap₂, _∙_}
+use mathlib.Core.Path.{_≡_, ap, _∙_}
 use native.Mathlib.Omega.{arith}
-use denote.Ref.{now}
 use lib.ListN.{length, take, replicate, length-take}
-use Rattle.rows.specs.Rows.{overlay, clean}
+use Rattle.rows.specs.Rows.{overlay}
 use Rattle.reader.specs.Reader.{frame}
-use Rattle.field.specs.Calls.{together, cardsAfter}
+use Rattle.field.specs.Calls.{cardsAfter}
 use Rattle.field.specs.Field.{heardFrom}
 use Rattle.log.specs.Log.{exchangeSize}
 use Rattle.sweep_steps.specs.ExchangeLaws.{Front, front-of, heard-front}

@@ -1,6 +1,6 @@
 use mathlib.Core.Path.{_≡_, ap, _∙_}
 use native.Mathlib.Omega.{arith}
-use lib.ListN.{length, take, length-take}
+use lib.ListN.{take, length-take}
 use Rattle.reader.specs.Reader.{frame, hear}
 use Rattle.field.specs.Field.{heardFrom}
 use Rattle.sweep_steps.specs.ExchangeLaws.{Front, heard-aired}
