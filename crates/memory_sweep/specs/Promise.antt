@@ -15,7 +15,7 @@ use Rattle.sweep_rules.specs.Terms.{within}
 use Rattle.memory_rules.specs.Promise.{Remembers}
 use Rattle.memory_rules.specs.Run.{recalled}
 use Rattle.sweep.specs.Promise.{Terms, sweptSays}
-use Rattle.sweep.specs.Sweep.{Call, call, done}
+use Rattle.sweep.specs.Sweep.{call, done}
 use Rattle.card.specs.declared.Card.{Card}
 use Rattle.sweep.specs.declared.Start.{Start}
 use Rattle.sweep.specs.declared.Swept.{Swept}
