@@ -1,12 +1,14 @@
 # `make run` shows the main job, `make test` is the gate.
 # `make sweep FIELD=..`, `make card`, `make reader`, `make front`, `make type_b` prove a program, then run it on a file of samples/.
+# `make remember` shows both sweeps of one field side by side; `make frames` counts their frames over many fields.
 # `make speed` measures the core's CRC against Rust programs of our own.
 # `make vectors` writes the programs' scripts and expected output anew, from the independent model.
-.PHONY: run sweep card reader front type_b speed test toolchain vectors vectors-check model-check pages impostors
+.PHONY: run sweep remember frames card reader front type_b speed test toolchain vectors vectors-check model-check pages impostors
 
 CARGO = --quiet --release --offline --locked --manifest-path model/Cargo.toml
 MODEL = cargo run $(CARGO) --
 FIELD = samples/lockers.txt
+MAKER = samples/maker.txt
 
 toolchain:
 	@command -v rt >/dev/null 2>&1 || { echo "the Rattle toolchain is missing: no command 'rt' on the PATH"; exit 1; }
@@ -36,6 +38,20 @@ endef
 
 sweep: toolchain
 	$(call proved-run,bench_sweep,$(FIELD))
+
+# Both sweeps of one field, side by side: the plain one on the left, the one that remembers on the right.
+remember: toolchain
+	@rt check bench_sweep >/dev/null 2>&1 || { echo "bench_sweep is not proved: 'make sweep' says more"; exit 1; }
+	@target/bin/bench_sweep <$(MAKER) >target/plain.txt
+	@{ cat $(MAKER); echo remember; } | target/bin/bench_sweep >target/remembers.txt
+	@cat $(MAKER)
+	@grep -v '^log' target/plain.txt | cut -c1-74 >target/plain.cut; grep -v '^log' target/remembers.txt | cut -c1-74 | paste -d '|' target/plain.cut - \
+	| awk -F '|' 'BEGIN { printf "%-76s%s\n", "the plain sweep", "the sweep that remembers" } { printf "%-76s%s\n", $$1, $$2 }'
+
+# Frames of both sweeps over fields drawn by a fixed generator: README's table.
+frames: toolchain
+	@rt check bench_sweep >/dev/null 2>&1 || { echo "bench_sweep is not proved: 'make sweep' says more"; exit 1; }
+	@tools/frames target/bin/bench_sweep
 
 card: toolchain
 	$(call proved-run,bench_card,samples/card.txt)

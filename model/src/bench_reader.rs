@@ -45,6 +45,7 @@ impl Program for BenchReader {
             }
             ["select"] => self.reader.select(),
             ["sweep"] => self.reader.sweep(),
+            ["remember"] => self.reader.remember(),
             ["wake", uid] => self.reader.wake(&read_uid(uid)?),
             ["rats", index] => self.reader.rats(read_number(index, 255)? as u8),
             ["send", message] => {

@@ -7,7 +7,7 @@ use crate::language::{read_hex, read_number, read_tick, show_hex, show_row, Prog
 use crate::log::trace;
 use crate::reader::{Answer, Reader};
 use crate::refusal;
-use crate::sweep::{sweep, wake, LIST_ROOM, LOG_ROOM};
+use crate::sweep::{remember, sweep, wake, LIST_ROOM, LOG_ROOM};
 use crate::uid::MOST_CARDS;
 
 /// The most bytes that `room` can ask to be lent.
@@ -22,19 +22,26 @@ struct Collected {
     list_room: usize,
     /// The tick of the log's first record.
     tick: u32,
+    /// T-14: the sweep that remembers, in place of the plain one.
+    remembers: bool,
     /// The UID to wake, in place of the sweep.
     wake: Option<Vec<u8>>,
 }
 
 impl Default for Collected {
     fn default() -> Collected {
-        Collected { cards: Vec::new(), refused: false, log_room: LOG_ROOM, list_room: LIST_ROOM, tick: 0, wake: None }
+        Collected { cards: Vec::new(), refused: false, log_room: LOG_ROOM, list_room: LIST_ROOM, tick: 0, remembers: false, wake: None }
     }
 }
 
 impl Collected {
     /// A line that is no command of the program: a directive or a card. `None`: not understood.
     fn line(&mut self, words: &[&str]) -> Option<()> {
+        if words[0] == "remember" {
+            let [_] = *words else { return None };
+            self.remembers = true;
+            return Some(());
+        }
         if words[0] == "tick" {
             let [_, tick] = *words else { return None };
             self.tick = read_tick(tick)?;
@@ -86,7 +93,8 @@ impl Collected {
         }
         note("field lent", against(self.log_room, LOG_ROOM), against(self.list_room, LIST_ROOM));
         note("field cards", against(cards.len(), MOST_CARDS), if self.log_room < LOG_ROOM { "short log" } else { "log" });
-        let swept = match sweep(&mut Reader::new(), self.tick, &mut cards, self.log_room, self.list_room) {
+        let call = if self.remembers { remember } else { sweep };
+        let swept = match call(&mut Reader::new(), self.tick, &mut cards, self.log_room, self.list_room) {
             Ok(swept) => swept,
             Err(number) => return vec![format!("refused {number}")],
         };

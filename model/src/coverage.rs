@@ -54,8 +54,12 @@ fn expected() -> Vec<Key> {
         ("stopped", &["11"]),
     ] {
         add("reader refusal", &[phase], numbers);
-        add("reader call", &[phase], &["select", "sweep", "wake", "RATS", "message", "DESELECT", "row"]);
+        add("reader call", &[phase], &["select", "sweep", "remember", "wake", "RATS", "message", "DESELECT", "row"]);
     }
+
+    // T-14: branches kept and taken at each level, and levels that SELECT goes straight to; by hand, in the reader's script.
+    add("remembered", &["branch kept", "branch taken"], &["level 1", "level 2", "level 3"]);
+    add("remembered", &["straight to SELECT"], &["level 1", "level 2"]);
 
     // T-09: each kind of frame, after each last data bit that it can have.
     add(

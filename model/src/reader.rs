@@ -45,12 +45,25 @@ pub enum Phase {
     Stopped,
 }
 
+/// T-14: what a sweep that remembers keeps.
+#[derive(Clone, Debug, Default, PartialEq)]
+struct Memory {
+    /// The levels of the card under way, or of the one found last.
+    card: Vec<[u8; 5]>,
+    /// The branches not yet taken, the newest last: the level and the position at which a 1 was sent against a collision.
+    branches: Vec<(usize, usize)>,
+    /// The branch that is being taken, until its level is asked for.
+    target: Option<(usize, usize)>,
+}
+
 #[derive(Clone, Debug, PartialEq)]
 pub struct Reader {
     pub phase: Phase,
     sweeping: bool,
     /// The UID so far, of the levels that were selected.
     uid: Vec<u8>,
+    /// In a sweep that remembers only.
+    memory: Option<Memory>,
 }
 
 /// What a call to the reader gives.
@@ -110,7 +123,7 @@ fn read_sak(row: &[u8]) -> Result<u8, Refusal> {
 
 impl Reader {
     pub fn new() -> Reader {
-        Reader { phase: Phase::New, sweeping: false, uid: Vec::new() }
+        Reader { phase: Phase::New, sweeping: false, uid: Vec::new(), memory: None }
     }
 
     pub fn phase_name(&self) -> &'static str {
@@ -153,12 +166,12 @@ impl Reader {
     /// A refusal that stops the reader. A stopped reader has one value, whatever it held.
     fn stop(&mut self, number: Refusal) -> Answer {
         let answer = self.decline(number);
-        *self = Reader { phase: Phase::Stopped, sweeping: false, uid: Vec::new() };
+        *self = Reader { phase: Phase::Stopped, ..Reader::new() };
         answer
     }
 
     fn finish(&mut self) -> Answer {
-        *self = Reader { phase: Phase::Finished, sweeping: false, uid: Vec::new() };
+        *self = Reader { phase: Phase::Finished, ..Reader::new() };
         Answer::Finished
     }
 
@@ -178,6 +191,17 @@ impl Reader {
             return self.decline(refusal::NOT_DUE);
         }
         self.sweeping = sweeping;
+        self.send_reqa()
+    }
+
+    /// Host call, T-14: the reader's part of a sweep that remembers.
+    pub fn remember(&mut self) -> Answer {
+        note("reader call", self.phase_name(), "remember");
+        if self.phase != Phase::New {
+            return self.decline(refusal::NOT_DUE);
+        }
+        self.sweeping = true;
+        self.memory = Some(Memory::default());
         self.send_reqa()
     }
 
@@ -211,6 +235,36 @@ impl Reader {
         let frame = frames::anticollision(level, &known);
         self.phase = Phase::AnticollisionSent { level, known };
         Answer::Send(frame)
+    }
+
+    /// A level comes next, nothing of it heard yet. T-14: on the way to a branch SELECT goes out straight with the five bytes that are kept, and at
+    /// the branch's level ANTICOLLISION with the bits before its position and then a 0.
+    fn ask_level(&mut self, level: usize) -> Answer {
+        let Some(memory) = &mut self.memory else { return self.send_anticollision(level, Row::new()) };
+        let Some((to, position)) = memory.target else { return self.send_anticollision(level, Row::new()) };
+        if level < to {
+            let bytes = memory.card[level - 1];
+            note("remembered", "straight to SELECT", &format!("level {level}"));
+            self.phase = Phase::SelectSent { level, bytes };
+            return Answer::Send(frames::select(level, &bytes));
+        }
+        memory.target = None;
+        let mut known = frames::bits_of(&memory.card[to - 1])[..position].to_vec();
+        known.push(0);
+        memory.card.truncate(to - 1);
+        note("remembered", "branch taken", &format!("level {level}"));
+        self.send_anticollision(level, known)
+    }
+
+    /// ATQA was good: the newest branch, or all anew.
+    fn after_atqa(&mut self) -> Answer {
+        if let Some(memory) = &mut self.memory {
+            memory.target = memory.branches.pop();
+            if memory.target.is_none() {
+                memory.card.clear();
+            }
+        }
+        self.ask_level(1)
     }
 
     /// Host call: RATS with the reader's own size index. Due if b6 of the last SAK is set; 6: index over 8.
@@ -255,7 +309,7 @@ impl Reader {
             Phase::New | Phase::Selected { .. } | Phase::Finished | Phase::Stopped => self.decline(refusal::NOT_DUE),
             Phase::ReqaSent if self.sweeping && row.is_empty() => self.finish(),
             Phase::ReqaSent => match read_atqa(row) {
-                Ok(()) => self.send_anticollision(1, Row::new()),
+                Ok(()) => self.after_atqa(),
                 Err(refusal) => self.stop(refusal),
             },
             Phase::WupaSent { uid } => match read_atqa(row) {
@@ -323,6 +377,10 @@ impl Reader {
             // The bits before p, and then a 1.
             let mut next = data[..p].to_vec();
             next.push(1);
+            if let Some(memory) = &mut self.memory {
+                memory.branches.push((level, p));
+                note("remembered", "branch kept", &format!("level {level}"));
+            }
             return self.send_anticollision(level, next);
         }
         let mut bytes = [0; 5];
@@ -331,6 +389,10 @@ impl Reader {
         }
         if bytes[4] != check_byte(&bytes[..4]) {
             return self.stop(refusal::B);
+        }
+        if let Some(memory) = &mut self.memory {
+            memory.card.truncate(level - 1);
+            memory.card.push(bytes);
         }
         self.phase = Phase::SelectSent { level, bytes };
         Answer::Send(frames::select(level, &bytes))
@@ -356,7 +418,7 @@ impl Reader {
         }
         if more {
             self.uid.extend_from_slice(&bytes[1..4]);
-            return self.send_anticollision(level + 1, Row::new());
+            return self.ask_level(level + 1);
         }
         self.uid.extend_from_slice(&bytes[..4]);
         let uid = std::mem::take(&mut self.uid);

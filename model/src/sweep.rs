@@ -47,6 +47,23 @@ fn field_is_taken(cards: &[Card]) -> bool {
 
 /// The sweep on this reader with this much room. Tests 11, 1, 6. T-09: the log's first record has the tick given, each after it the next.
 pub fn sweep(reader: &mut Reader, tick: u32, cards: &mut [Card], log_room: usize, list_room: usize) -> Result<Swept, Refusal> {
+    sweep_by(false, reader, tick, cards, log_room, list_room)
+}
+
+/// T-14: the sweep that remembers. The same list and the same cards as the plain one, in as many frames as its own sum says, and never more.
+pub fn remember(reader: &mut Reader, tick: u32, cards: &mut [Card], log_room: usize, list_room: usize) -> Result<Swept, Refusal> {
+    let mut others = cards.to_vec();
+    let swept = sweep_by(true, reader, tick, cards, log_room, list_room)?;
+    let plain = sweep(&mut Reader::new(), tick, &mut others, log_room, list_room)?;
+    assert_eq!(swept.list, plain.list);
+    assert_eq!(cards, others);
+    assert!(swept.frames() <= plain.frames());
+    let n = swept.found.len();
+    assert!(n == 0 || swept.frames() <= 9 * n);
+    Ok(swept)
+}
+
+fn sweep_by(remembers: bool, reader: &mut Reader, tick: u32, cards: &mut [Card], log_room: usize, list_room: usize) -> Result<Swept, Refusal> {
     if reader.phase != Phase::New {
         return Err(refusal::NOT_DUE);
     }
@@ -58,7 +75,7 @@ pub fn sweep(reader: &mut Reader, tick: u32, cards: &mut [Card], log_room: usize
     }
     let idle: Vec<Vec<u8>> = cards.iter().filter(|c| c.state == State::Idle).map(|c| c.uid.clone()).collect();
     let mut swept = Swept { found: Vec::new(), list: Vec::new(), records: Vec::new(), log: Vec::new() };
-    let mut next = reader.sweep();
+    let mut next = if remembers { reader.remember() } else { reader.sweep() };
     loop {
         let frame = match next {
             Answer::Send(frame) => frame,
@@ -78,7 +95,7 @@ pub fn sweep(reader: &mut Reader, tick: u32, cards: &mut [Card], log_room: usize
         }
         next = reader.hear(&heard, &[], &mut []);
     }
-    self_check(&swept, &idle, cards);
+    self_check(&swept, if remembers { uid::recall_sum(&idle) } else { uid::frame_sum(&idle) }, &idle, cards);
     Ok(swept)
 }
 
@@ -128,9 +145,9 @@ fn claim(before: &[Card], after: &[Card], uid: &[u8], sak: Option<u8>) {
 
 /// What document 01 says of a whole sweep, tested each time: the list is the idle cards in falling order, the number of frames
 /// is the sum from the UIDs alone, all cards are halted, and the room holds the log.
-fn self_check(swept: &Swept, idle: &[Vec<u8>], cards: &[Card]) {
+fn self_check(swept: &Swept, frames: usize, idle: &[Vec<u8>], cards: &[Card]) {
     assert_eq!(swept.found, uid::falling(idle));
-    assert_eq!(swept.frames(), uid::frame_sum(idle));
+    assert_eq!(swept.frames(), frames);
     assert!(cards.iter().all(|c| c.state == State::Halt));
     assert!(swept.log.len() <= LOG_ROOM && swept.list.len() <= LIST_ROOM);
     assert_eq!(swept.records.len(), 2 * swept.frames());

@@ -93,6 +93,27 @@ pub fn frame_sum(idle: &[Vec<u8>]) -> usize {
     sum
 }
 
+/// T-14: the frames of a sweep that remembers. From each card's term go the whole levels, from the first on, that it shares with the card before it,
+/// and of the positions only those count that lie past where these two first differ.
+pub fn recall_sum(idle: &[Vec<u8>]) -> usize {
+    let order = falling(idle);
+    let rows: Vec<Row> = order.iter().map(|u| on_air(u)).collect();
+    let mut sum = 1;
+    for (i, uid) in order.iter().enumerate() {
+        let mut places: Vec<usize> = rows[i + 1..].iter().map(|later| first_difference(&rows[i], later)).collect();
+        let mut shared = 0;
+        if i > 0 {
+            let parted = first_difference(&rows[i - 1], &rows[i]);
+            shared = parted / 40;
+            places.retain(|&place| place > parted);
+        }
+        places.sort();
+        places.dedup();
+        sum += 2 + 2 * level_count(uid) - shared + places.len();
+    }
+    sum
+}
+
 /// The most cards of a field, by T-06.
 pub const MOST_CARDS: usize = 32;
 
@@ -147,5 +168,8 @@ mod tests {
         assert_eq!(frame_sum(&three), 17);
         assert_eq!(falling(&three), uids(&["01020304", "04112233445566", "80122821"]));
         assert_eq!(frame_sum(&uids(&["04112233445566", "01020304"])), 12);
+        let four = uids(&["01020304", "80122821", "04112233445566", "04112233445567"]);
+        assert_eq!((frame_sum(&four), recall_sum(&four)), (25, 23));
+        assert_eq!((recall_sum(&[]), recall_sum(&two), recall_sum(&three)), (1, 10, 17));
     }
 }

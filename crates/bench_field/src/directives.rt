@@ -40,6 +40,14 @@ fn is_tick(n: usize, behind: &[u8]) -> bool {
     behind.len() == 0
 }
 
+// `remember`: the sweep that remembers, in place of the plain one.
+pub fn remember(c: Collected, text: &[u8]) -> Collecting {
+    let behind = bench::word(text, 1);
+    let mut after = c;
+    after.is_remembering = true;
+    taken(c, after, behind.len() == 0)
+}
+
 // What comes after a line that is understood or not.
 fn taken(before: Collected, after: Collected, is_understood: bool) -> Collecting {
     if is_understood {

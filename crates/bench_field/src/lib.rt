@@ -10,7 +10,7 @@ use card::Card;
 use limits::MOST_CARDS;
 
 // The cards so far, in the order given: their number, and as many of them as a sweep takes; whether a card was not to be made; how many bytes of
-// log and list are lent to the sweep; the tick of its first record; and the UID to wake, so many bytes, none where the field is to be swept.
+// log and list are lent to the sweep; the tick of its first record; whether it remembers (T-14); and the UID to wake, so many bytes, none where the field is to be swept.
 pub struct Collected {
     pub cards: [Card; MOST_CARDS],
     pub count: usize,
@@ -18,6 +18,7 @@ pub struct Collected {
     pub log: usize,
     pub list: usize,
     pub tick: u32,
+    pub is_remembering: bool,
     pub uid: [u8; 10],
     pub length: usize,
 }
@@ -42,6 +43,7 @@ pub fn none() -> Collected {
         log: limits::LOG_ROOM,
         list: limits::LIST_ROOM,
         tick: 0,
+        is_remembering: false,
         uid: [0; 10],
         length: 0,
     }
@@ -66,10 +68,11 @@ pub fn collect(c: Collected, talk: Talk) -> Collected {
 
 // By the line's first word.
 fn line_taken(c: Collected, text: &[u8]) -> Collecting {
-    let k = bench_talk::which(b"room tick", 2, bench::word(text, 0));
+    let k = bench_talk::which(b"room tick remember", 3, bench::word(text, 0));
     match k {
         0 => directives::room(c, text),
         1 => directives::tick(c, text),
+        2 => directives::remember(c, text),
         _ => cards::card_line(c, text),
     }
 }

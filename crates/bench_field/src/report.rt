@@ -35,9 +35,27 @@ pub fn swept(c: Collected, way: Way, log: &mut [u8], list: &mut [u8]) -> Swept {
         reader: r,
         tick: c.tick,
     };
+    if c.is_remembering {
+        return remembered(start, cards, c.count, way, log, list);
+    }
     match way {
         Way::Values => sweep::sweep(start, cards, c.count, log, list),
         Way::Row => sweep_row::within::sweep_by_row(start, cards, c.count, log, list),
+    }
+}
+
+// .. by the sweep that remembers.
+fn remembered(
+    start: Start,
+    cards: [Card; MOST_CARDS],
+    count: usize,
+    way: Way,
+    log: &mut [u8],
+    list: &mut [u8],
+) -> Swept {
+    match way {
+        Way::Values => memory_sweep::sweep(start, cards, count, log, list),
+        Way::Row => memory_row::within::sweep_by_row(start, cards, count, log, list),
     }
 }
 

@@ -2,6 +2,7 @@
 use crate::Bench;
 use crate::Reply;
 use crate::answers;
+use crate::remembering;
 use reader_link::LinkReader;
 use reader_link::LinkTurn;
 use reader_link::whole;
@@ -27,13 +28,14 @@ pub fn script(bench: Bench, text: &[u8]) -> Reply {
 
 // The lines of one word.
 fn alone(bench: Bench, name: &[u8]) -> Reply {
-    let k = bench_talk::which(b"new select sweep deselect silence", 5, name);
+    let k = bench_talk::which(b"new select sweep deselect silence remember", 6, name);
     match k {
         0 => new(bench),
         1 => select(bench),
         2 => start_sweep(bench),
         3 => deselect(bench),
         4 => hear(bench, b""),
+        5 => remembering::start(bench),
         _ => none(bench),
     }
 }
@@ -48,10 +50,13 @@ fn none(bench: Bench) -> Reply {
 
 // The bench with this reader.
 fn with_reader(bench: Bench, reader: LinkReader) -> Bench {
+    let path = bench.path;
     let answer = bench.answer;
     let message = bench.message;
     Bench {
         reader,
+        is_remembering: bench.is_remembering,
+        path,
         answer,
         room: bench.room,
         message,
@@ -60,7 +65,7 @@ fn with_reader(bench: Bench, reader: LinkReader) -> Bench {
 }
 
 // What comes of a call or a row: the bits that the reader sends stand at the front of sent, a whole answer in the answer buffer.
-fn turned(bench: Bench, t: LinkTurn, sent: &[u8]) -> Reply {
+pub fn turned(bench: Bench, t: LinkTurn, sent: &[u8]) -> Reply {
     let reader = t.reader;
     let a = t.answer;
     let r = reader.reader;
@@ -72,8 +77,10 @@ fn turned(bench: Bench, t: LinkTurn, sent: &[u8]) -> Reply {
 }
 
 fn new(bench: Bench) -> Reply {
+    let mut after = bench;
+    after.is_remembering = false;
     Reply {
-        bench: with_reader(bench, whole::new_reader()),
+        bench: with_reader(after, whole::new_reader()),
         answer: answers::plain(answers::NEW),
     }
 }
@@ -173,6 +180,9 @@ fn frame(bench: Bench, name: &[u8], value: &[u8]) -> Reply {
 
 // The reader hears a row, the empty one for silence.
 fn hear(bench: Bench, heard: &[u8]) -> Reply {
+    if bench.is_remembering {
+        return remembering::hear(bench, heard);
+    }
     let mut sent = [0u8; 2304];
     let mut answer = bench.answer;
     let host = bench.message;

@@ -1,15 +1,19 @@
 // One reader played from text: BENCH.md's language, one answer for each line.
 mod answers;
 mod lines;
+mod remembering;
 
 use bench_talk::Answer;
 use bench_talk::Talk;
+use memory::Path;
 use reader_link::LinkReader;
 
 // The reader; the answer buffer and its room; and the host's message, so many bytes at the front. A line holds fewer than 8,192 bytes: a
-// message that is too long for the core reaches it all the same.
+// message that is too long for the core reaches it all the same. In a sweep that remembers (T-14) rows are heard with the path.
 pub struct Bench {
     pub reader: LinkReader,
+    pub is_remembering: bool,
+    pub path: Path,
     pub answer: [u8; 4096],
     pub room: usize,
     pub message: [u8; 8192],
@@ -42,6 +46,8 @@ fn main() {
 fn start() -> Bench {
     Bench {
         reader: reader_link::whole::new_reader(),
+        is_remembering: false,
+        path: remembering::nothing(),
         answer: [0; 4096],
         room: 4096,
         message: [0; 8192],

@@ -117,7 +117,7 @@ place-most One = omega arith
 place-most Two = omega arith
 place-most Three = omega arith
 
-drop-take : (n m : ℕ) (l : List ℕ) → drop n (take m l) ≡ take (m - n) (drop n l)
+pub drop-take : (n m : ℕ) (l : List ℕ) → drop n (take m l) ≡ take (m - n) (drop n l)
 drop-take zero m l = let e : m - 0 ≡ m = omega arith in rw e
 drop-take (suc n) zero l = let e : 0 - suc n ≡ 0 = omega arith in rw e
 drop-take (suc n) (suc m) [] = let e : suc m - suc n ≡ m - n = omega arith in rw e (nils (m - n))

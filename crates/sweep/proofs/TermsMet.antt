@@ -1,8 +1,8 @@
 -- The terms of demand 3 hold exactly where the call of a sweep declines nothing, and a field of the full number of cards meets them.
 -- Assumes nothing.
-use mathlib.Core.Path.{_≡_, refl, ap, _∙_}
-use Prim.Native.Nat.{ℕ, zero, suc, _≤_, _<_}
-use mathlib.Core.Bool.{Bool, true, false, cond, not, _||_, true≢false}
+use mathlib.Core.Path.{_≡_, refl, ap}
+use Prim.Native.Nat.{ℕ, zero, suc, _≤_}
+use mathlib.Core.Bool.{Bool, true, false, not, _||_, true≢false}
 use mathlib.Core.List.{List, [], _∷_}
 use lib.Dec.{ltb}
 use lib.ListN.{length, take, replicate, length-replicate}
@@ -13,7 +13,7 @@ use Rattle.rows.specs.Rows.{All, any, same}
 use Rattle.uid.specs.Uid.{valid, uidBytes}
 use Rattle.reader.specs.Calls.{turnSays}
 use Rattle.reader.specs.Reader.{blank, isNew}
-use Rattle.refusal.specs.Refusal.{Said, declining, declineIf}
+use Rattle.refusal.specs.Refusal.{Said, declineIf}
 use Rattle.sweep_rules.specs.Demand.{Typed, Demand3}
 use Rattle.sweep_rules.specs.Run.{sweep}
 use Rattle.sweep_rules.specs.Terms.{cardFits, allFit, apart, within}
@@ -39,10 +39,11 @@ module _ (s₀ : Start) (cards : List Card) (n : ℕ) (log list : List ℕ) wher
   tests-passed false false true s e = absurd (omega arith)
   tests-passed false false false s e = (refl, refl, refl)
 
-  -- where nothing is declined the terms hold
-  pub terms-if : sweepSays s₀ cards n log list .number ≡ 0 → Terms s₀ cards n log list
-  terms-if e =
-      let p = tests-passed (not (isNew (s₀ .reader .phase))) (ltb (length log) logRoom || ltb (length list) listRoom) (ltb mostCards n || not (within (take n cards))) (turnSays (sweep (take n cards) .last)) e in
+  -- where the tests of a call decline nothing the terms hold, whatever it says then
+  pub terms-passed : (s : Said) → declineIf (not (isNew (s₀ .reader .phase))) 11 (declineIf (ltb (length log) logRoom || ltb (length list) listRoom) 1
+      (declineIf (ltb mostCards n || not (within (take n cards))) 6 s)) .number ≡ 0 → Terms s₀ cards n log list
+  terms-passed s e =
+      let p = tests-passed (not (isNew (s₀ .reader .phase))) (ltb (length log) logRoom || ltb (length list) listRoom) (ltb mostCards n || not (within (take n cards))) s e in
       let room = or-false (ltb (length log) logRoom) (ltb (length list) listRoom) (p .1) in
       let field = or-false (ltb mostCards n) (not (within (take n cards))) (p .2) in
       record {
@@ -52,6 +53,9 @@ module _ (s₀ : Start) (cards : List Card) (n : ℕ) (log list : List ℕ) wher
         few = ltb-false mostCards n (field .0);
         field = not-false (within (take n cards)) (field .1);
       }
+
+  pub terms-if : sweepSays s₀ cards n log list .number ≡ 0 → Terms s₀ cards n log list
+  terms-if e = terms-passed (turnSays (sweep (take n cards) .last)) e
 
   -- .. and where they hold nothing is
   pub terms-then : All Typed (take n cards) → Terms s₀ cards n log list → sweepSays s₀ cards n log list .number ≡ 0

@@ -50,23 +50,23 @@ apart-rows (u ∷ us) s d = (
 
 -- ---- falling order over UIDs
 
-rows-falling : (us : List Uid) → sort (map rowOf us) ≡ map rowOf (falling us)
+pub rows-falling : (us : List Uid) → sort (map rowOf us) ≡ map rowOf (falling us)
 unfolding falling
 rows-falling us = sym (map-sort rowOf us)
 
-all-falling : (G : Uid → Type 0) (us : List Uid) → All G us → All G (falling us)
+pub all-falling : (G : Uid → Type 0) (us : List Uid) → All G us → All G (falling us)
 unfolding falling
 all-falling G us h = all-sort rowOf G us h
 
-length-falling : (us : List Uid) → length (falling us) ≡ length us
+pub length-falling : (us : List Uid) → length (falling us) ≡ length us
 unfolding falling
 length-falling us = length-sort rowOf us
 
-names : (us : List Uid) → All Sound us → map name (map rowOf us) ≡ map uidBytes us
+pub names : (us : List Uid) → All Sound us → map name (map rowOf us) ≡ map uidBytes us
 names [] s = refl
 names (u ∷ us) s = ap₂ _∷_ (name-row u (s .0)) (names us (s .1))
 
-frames-sum : (us : List Uid) → All Sound us → frames (map rowOf us) ≡ frameSum us
+pub frames-sum : (us : List Uid) → All Sound us → frames (map rowOf us) ≡ frameSum us
 unfolding frames frameSum Abstract.levels wide
 frames-sum [] s = refl
 frames-sum (u ∷ us) s = let e : 40 * length (levels u) / 40 ≡ length (levels u) = omega arith in rw (length-row u (s .0), e, frames-sum us (s .1))
@@ -77,27 +77,27 @@ module _ (cs : List Card) (s : All Fits cs) (few : length cs ≤ mostCards) (d :
   found : List Uid
   found = falling (idle cs)
 
-  sound-idle : All Sound (idle cs)
+  pub sound-idle : All Sound (idle cs)
   sound-idle = rw (idle-uids cs) (all-map {F = Fits} Sound (λ c. c .uid) (idlers cs) (λ c h. h .sound) (all-idle Fits cs s))
 
   sound-found : All Sound found
   unfolding found
   sound-found = all-falling Sound (idle cs) sound-idle
 
-  rows-are : idles cs ≡ map rowOf (idle cs)
+  pub rows-are : idles cs ≡ map rowOf (idle cs)
   unfolding idles
   rows-are = rw (idle-uids cs) (sym (map-map rowOf (λ c. c .uid) (idlers cs)))
 
-  apart-idles : Apart (idles cs)
+  pub apart-idles : Apart (idles cs)
   apart-idles = rw rows-are (apart-rows (idle cs) sound-idle (rw (idle-uids cs) d))
 
   whole : All (InLevels 3) (idles cs)
   whole = whole-idles cs s
 
-  length-idles : length (idles cs) ≡ length (idle cs)
+  pub length-idles : length (idles cs) ≡ length (idle cs)
   length-idles = rw rows-are (length-map (idle cs) rowOf)
 
-  few-idles : length (idle cs) ≤ mostCards
+  pub few-idles : length (idle cs) ≤ mostCards
   few-idles = rw (idle-uids cs) (rw length-map (omega (arith, few-idle cs)))
 
   is-found : sort (idles cs) ≡ map rowOf found

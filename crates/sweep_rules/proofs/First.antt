@@ -70,7 +70,7 @@ parts-here x P (r ∷ S) = rw diff-cons (ap₂ _||_ (go (lead x r)) (parts-here 
     go (some t) = go₂ (diff P t)
     go none = refl
 
-parts-later : (x : ℕ) (P : List ℕ) (q : ℕ) (S : List (List ℕ)) → any (λ r. partsAt (suc q) (diff (x ∷ P) r)) S ≡ any (λ r. partsAt q (diff P r)) (pull x S)
+pub parts-later : (x : ℕ) (P : List ℕ) (q : ℕ) (S : List (List ℕ)) → any (λ r. partsAt (suc q) (diff (x ∷ P) r)) S ≡ any (λ r. partsAt q (diff P r)) (pull x S)
 unfolding any pull partsAt later from put
 parts-later x P q [] = refl
 parts-later x P q (r ∷ S) = rw diff-cons (go (lead x r) (parts-later x P q S))

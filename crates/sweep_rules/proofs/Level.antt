@@ -37,7 +37,7 @@ unfolding OnUp later
 onup-later (on t) Q h = h
 onup-later (off p x) Q h = tt
 
-up-unlater : (D : Diff) → Up (later D) → Up D
+pub up-unlater : (D : Diff) → Up (later D) → Up D
 unfolding later
 up-unlater (on t) u = tt
 up-unlater (off p x) u = u

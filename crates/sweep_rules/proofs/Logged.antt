@@ -47,7 +47,7 @@ heard-least x h = go (clean h) refl
     go true e = omega (arith, length-heard-clean x h e)
     go false e = omega (arith, length-heard-collided x h e)
 
-loggable : (e : Exchange) → Bits (e .sent) → (0 < length (e .sent)) × (exchangeSize e ≤ 27) → Loggable e
+pub loggable : (e : Exchange) → Bits (e .sent) → (0 < length (e .sent)) × (exchangeSize e ≤ 27) → Loggable e
 unfolding exchangeSize exchangeBytes
 loggable e b h =
     let s : List ℕ = sentRecord (tickBytes 0) (e .sent) in

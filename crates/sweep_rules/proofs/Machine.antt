@@ -81,13 +81,13 @@ pub record Machine : Type 1 where
   pub law-hlt : (f : ℕ) (B : Base) (P : List ℕ) (v : View Item End) → Good B → strips P (idles B) ≡ [] ∷ []
       → go f (asking (shut P B)) ≡ v → go (suc f) (closing B P) ≡ (name P ∷ v .0, suc (v .1), v .2)
 
-none-nil : (T : List (List ℕ)) → any isNil T ≡ false → All (λ t. isNil t ≡ false) T
+pub none-nil : (T : List (List ℕ)) → any isNil T ≡ false → All (λ t. isNil t ≡ false) T
 unfolding any isNil
 none-nil [] e = tt
 none-nil ([] ∷ T) e = absurd (true≢false e)
 none-nil ((x ∷ t) ∷ T) e = (refl, none-nil T e)
 
-whole-some : (L : ℕ) (T : List (List ℕ)) → 1 ≤ length T → All (InLevels L) T → 1 ≤ L
+pub whole-some : (L : ℕ) (T : List (List ℕ)) → 1 ≤ length T → All (InLevels L) T → 1 ≤ L
 whole-some zero [] h w = absurd (not-suc-le-zero h)
 whole-some zero (r ∷ T) h w = absurd (omega (arith, w .0 .one-level, w .0 .at-most))
 whole-some (suc L) T h w = omega arith

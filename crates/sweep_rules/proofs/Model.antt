@@ -75,17 +75,17 @@ unfolding goes run before finding view allSmall finds
 tick-found f r t F F′ h v e₁ e₂ e₃ e₄ e₅ = rw (e₁, e₂, e₃, e₄) (ap (λ w. (uidBytes (r .uid) ∷ w .0, suc (w .1), w .2)) e₅)
 
 -- SELECT and a clean SAK
-small-sak : (l : Level) (five : List ℕ) (b : ℕ) → length five ≡ 5 → clean (sakFrame b) ≡ true → small (sentHeard (select l five) (sakFrame b)) ≡ true
+pub small-sak : (l : Level) (five : List ℕ) (b : ℕ) → length five ≡ 5 → clean (sakFrame b) ≡ true → small (sentHeard (select l five) (sakFrame b)) ≡ true
 small-sak l five b h c = small-clean (select l five) (sakFrame b) (rw (length-select l five h) (omega arith)) c (rw (length-select l five h, length-sak b) (omega arith))
 
-map-nil : (cs : List Card) → map rowIn cs ≡ [] → cs ≡ []
+pub map-nil : (cs : List Card) → map rowIn cs ≡ [] → cs ≡ []
 map-nil [] e = refl
 map-nil (c ∷ cs) e = absurd (cons≢nil e)
 
 -- ---- the laws
 
 -- the last SAK of the round that finds P
-abbrev lastSak : List ℕ → List Card → ℕ
+abbrev pub lastSak : List ℕ → List Card → ℕ
 lastSak P F = cond (speaks P (idlers F)) 0x20 0x00
 
 module _ (f : ℕ) (F : List Card) (hF : All Fits F) (v : Vw) where

@@ -72,11 +72,11 @@ whole-right L Q t e w h = record {
   at-most = omega (arith, w .at-most, length-append Q t);
 }
 
-levels-append : (Q P : List ℕ) → length Q ≡ wide → levels (Q ++ P) ≡ suc (levels P)
+pub levels-append : (Q P : List ℕ) → length Q ≡ wide → levels (Q ++ P) ≡ suc (levels P)
 unfolding levels wide
 levels-append Q P e = rw length-append (omega arith)
 
-levels-one : (Q : List ℕ) → length Q ≡ wide → levels Q ≡ 1
+pub levels-one : (Q : List ℕ) → length Q ≡ wide → levels Q ≡ 1
 unfolding levels wide
 levels-one Q e = rw e
 

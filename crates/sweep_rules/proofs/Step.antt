@@ -61,7 +61,7 @@ heard-zero (r ∷ S) = heard-zero S
 
 -- ---- where no first bit is another than x, all go on
 
-pull-all : (x : ℕ) (S : List (List ℕ)) → miss x S ≡ false → pull x S ≡ map tail S
+pub pull-all : (x : ℕ) (S : List (List ℕ)) → miss x S ≡ false → pull x S ≡ map tail S
 unfolding miss any pull put out
 pull-all x [] e = refl
 pull-all x (r ∷ S) e = go (lead x r) refl (pull-all x S) e
@@ -105,7 +105,7 @@ up-later (on t) u = tt
 up-later (off p x) u = u
 
 -- a first bit that is 1, or that all have
-top-cons : (x : ℕ) (P : List ℕ) (S : List (List ℕ)) → (miss x S ≡ true → x ≡ 1) → Top P (pull x S) → Top (x ∷ P) S
+pub top-cons : (x : ℕ) (P : List ℕ) (S : List (List ℕ)) → (miss x S ≡ true → x ≡ 1) → Top P (pull x S) → Top (x ∷ P) S
 unfolding miss any pull put out from
 top-cons x P [] h t = tt
 top-cons x P (r ∷ S) h t = rw diff-cons (go (lead x r) (top-cons x P S) h t)
@@ -116,7 +116,7 @@ top-cons x P (r ∷ S) h t = rw diff-cons (go (lead x r) (top-cons x P S) h t)
     go none ih h t = (h refl, ih (λ e. h refl) t)
 
 -- the first bits differ: the reader goes on with a 1
-miss-one : (x : ℕ) (r : List ℕ) (S : List (List ℕ)) → x < 2 → miss x S ≡ true → miss 1 ((x ∷ r) ∷ S) ≡ true
+pub miss-one : (x : ℕ) (r : List ℕ) (S : List (List ℕ)) → x < 2 → miss x S ≡ true → miss 1 ((x ∷ r) ∷ S) ≡ true
 unfolding miss any lead out
 miss-one zero r S h e = refl
 miss-one (suc zero) r S h e = e
@@ -151,7 +151,7 @@ agree n x T R c e s = record {
   left = rw (strips-cons, pull-all x T e) (s .left);
 }
 
-miss-same : (x : ℕ) (r : List ℕ) (S : List (List ℕ)) → miss x S ≡ false → miss x ((x ∷ r) ∷ S) ≡ false
+pub miss-same : (x : ℕ) (r : List ℕ) (S : List (List ℕ)) → miss x S ≡ false → miss x ((x ∷ r) ∷ S) ≡ false
 unfolding miss any out
 miss-same x r S e = rw lead-same e
 

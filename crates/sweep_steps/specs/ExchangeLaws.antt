@@ -4,9 +4,10 @@ use Prim.Native.Nat.{ℕ, _+_, _≤_}
 use native.Mathlib.Omega.{arith}
 use mathlib.Core.Bool.{true}
 use mathlib.Core.List.{List, [], _∷_, _++_}
-use lib.ListN.{length, take, drop, length-append}
+use lib.ListN.{length, take, drop, replicate, length-append}
 use Rattle.rows.specs.Rows.{overlay, clean}
 use Rattle.rows.specs.RowLaws.{overlay-front, overlay-next}
+use Rattle.reader.specs.Reader.{frame}
 use Rattle.field.specs.Calls.{together}
 use Rattle.field.specs.Field.{heardFrom}
 use Rattle.field.specs.TakeLaws.{front-fits}
@@ -14,6 +15,9 @@ use Rattle.field.specs.declared.within.Together.{Together}
 use Rattle.log.specs.Log.{sentHeard, tickBytes, exchangeBytes, exchangeSize, sentRecord, heardRecord}
 use Rattle.log.specs.RecordLaws.{exchange-size}
 use Rattle.card.specs.declared.Card.{Card}
+use Rattle.reader.specs.declared.Reader.{Reader}
+use Rattle.sweep_steps.specs.Steps.{aired}
+use Rattle.sweep_steps.specs.declared.within.Aired.{Aired}
 
 -- the first n bits of the row r are s
 pub record Front (s : List ℕ) (n : ℕ) (r : List ℕ) : Type 0 where
@@ -36,6 +40,10 @@ heard-front f n r u cards k t e d h o =
     front-of d (heardFrom f (take k cards)) (t .bits) h
     (ap (λ x. x .bits) e ∙ ap (λ x. length (heardFrom x (take k cards))) (u .bits))
     (o ∙ ap (λ x. overlay d 0 (heardFrom x (take k cards))) (u .bits))
+
+pub heard-aired : (r : Reader) (cards : List Card) (k : ℕ) (x : Aired) → x ≡ aired r cards k → Front (heardFrom (frame r) (take k cards)) (x .bits) (x .heard)
+unfolding aired
+heard-aired r cards k x e = front-of (replicate 45 0) (heardFrom (frame r) (take k cards)) (x .bits) (x .heard) (ap (λ y. y .bits) e) (ap (λ y. y .heard) e)
 
 -- the two records one behind the other
 pub length-exchange : (t : ℕ) (f h : List ℕ) → exchangeSize (sentHeard f h) ≡ length (sentRecord (tickBytes t) f) + length (heardRecord (tickBytes (t + 1)) h)

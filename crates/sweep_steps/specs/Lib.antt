@@ -1,5 +1,6 @@
 pub mod Steps
 pub mod FoundLaws
 pub mod ExchangeLaws
+pub mod LeftLaws
 pub mod RunLaws
 pub mod TermLaws

@@ -3,7 +3,7 @@ use Prim.Native.Nat.{ℕ, _+_, _*_, _≤_, _<_}
 use mathlib.Core.Bool.{Bool, true, false, _&&_}
 use mathlib.Core.List.{List, [], _∷_, _++_}
 use mathlib.Core.Path.{_≡_}
-use lib.ListN.{length, take, drop}
+use lib.ListN.{length, take, drop, replicate}
 use lib.Dec.{ltb}
 use Rattle.rows.specs.Rows.{overlay}
 use Rattle.uid.specs.Uid.{uidBytes}
@@ -19,6 +19,7 @@ use Rattle.reader.specs.declared.Turn.{Turn}
 use Rattle.reader.specs.declared.Phase.the-variants.{ReqaSent}
 use Rattle.reader.specs.declared.Answer.{Answer}
 use Rattle.reader.specs.declared.Answer.the-variants.{Sends, Finds, Selects, Finishes, Declines}
+use Rattle.sweep_steps.specs.declared.within.Aired.{Aired}
 use Rattle.sweep_steps.specs.declared.within.Exchanged.{Exchanged}
 use Rattle.sweep_steps.specs.declared.within.Progress.{Progress}
 
@@ -45,7 +46,17 @@ foundBy t = foundIn (t .answer) (uidBytes (t .reader .uid))
 unfoldable pub exchangeOf : Reader → List Card → Exchange
 exchangeOf r cs = sentHeard (frame r) (heardFrom (frame r) cs)
 
--- after it, over an array of which the first n cards are the field
+-- after its frame, over an array of which the first n cards are the field
+unfoldable pub aired : Reader → List Card → ℕ → Aired
+aired r cards n =
+    record {
+      cards = cardsAfter cards n (frame r);
+      heard = overlay (replicate 45 0) 0 (heardFrom (frame r) (take n cards));
+      bits = length (heardFrom (frame r) (take n cards));
+      bytes = exchangeSize (exchangeOf r (take n cards));
+    }
+
+-- .. and after the exchange
 unfoldable pub exchanged : Reader → List Card → ℕ → Exchanged
 exchanged r cards n =
     record {
@@ -63,10 +74,22 @@ stepped p n =
     let x : Exchanged = exchanged (p .turn .reader) (p .cards) n in
     record { turn = x .turn; cards = x .cards; logged = p .logged + x .bytes; frames = p .frames + 1; found = p .found + length (foundBy (x .turn)) }
 
--- the exchange that comes next, and the reader's turn after it
+-- the exchange that comes next
 abbrev pub nextExchange : Progress → ℕ → Exchange
 nextExchange p n = exchangeOf (p .turn .reader) (take n (p .cards))
 
+-- how far a sweep is after it, whatever its reader does: its turn is then t
+unfoldable pub onto : Progress → ℕ → Turn → Progress
+onto p n t =
+    record {
+      turn = t;
+      cards = cardsAfter (p .cards) n (frame (p .turn .reader));
+      logged = p .logged + exchangeSize (nextExchange p n);
+      frames = p .frames + 1;
+      found = p .found + length (foundBy t);
+    }
+
+-- the plain reader's turn after it
 abbrev pub nextTurn : Progress → ℕ → Turn
 nextTurn p n = exchanged (p .turn .reader) (p .cards) n .turn
 

@@ -10,7 +10,7 @@ ghost use Rattle.limits.specs.Limits.{mostCards};
 ghost use Rattle.sweep_rules.specs.Run.{sweep};
 ghost use Rattle.sweep_rules.specs.Terms.{within};
 ghost use Rattle.sweep_rules.specs.Demand.{Typed};
-ghost use Rattle.sweep_steps.specs.Steps.{goes, foundBy, exchangeOf, exchanged, stepped, goesOn, ends, tickBound, Roomy, Written};
+ghost use Rattle.sweep_steps.specs.Steps.{goes, foundBy, exchangeOf, aired, exchanged, stepped, goesOn, ends, tickBound, Roomy, Written};
 use card::Card;
 use limits::MOST_CARDS;
 use reader::Answer;
@@ -25,6 +25,14 @@ pub fn is_within(cards: [Card; MOST_CARDS], n: usize) -> bool
     ensures { λ r. ⌜ (r ≡ true → All Typed (take n cards)) ⌝ }
 {
     crate::terms::is_within(cards, n)
+}
+
+// A frame was on the air: the cards after it, the bits heard, at the front of a row with room for the longest answer, and the bytes of log that both took.
+pub struct Aired {
+    pub cards: [Card; MOST_CARDS],
+    pub heard: [u8; 45],
+    pub bits: usize,
+    pub bytes: usize,
 }
 
 // After an exchange: the reader's turn, the cards, and the bytes of log that it took.
@@ -54,7 +62,36 @@ pub fn put_exchange(log: &mut [u8], at: usize, tick: usize, frame: &[u8], heard:
     first + second
 }
 
-// The reader's frame, taken by the first n cards; its records in the log; and the reader's turn on what it heard.
+// The reader's frame, taken by the first n cards, and its records and those of what was heard in the log.
+pub fn air(
+    r: Reader,
+    cards: [Card; MOST_CARDS],
+    n: usize,
+    log: &mut [u8],
+    at: usize,
+    tick: usize,
+) -> Aired
+    requires { ⌜ (n ≤ mostCards) × (at + exchangeSize (exchangeOf r (take n cards)) ≤ length (now log)) × (tick < tickBound) ⌝ }
+    ensures { λ x. ⌜ x ≡ aired r cards n ⌝ }
+    ensures { λ x. ⌜ now (log .exit) ≡ overlay (now (log .entry)) at (exchangeBytes tick (exchangeOf r (take n cards))) ⌝ }
+{
+    let mut frame = [0u8; 81];
+    reader::within::put_frame(r, &mut frame);
+    let bits = reader::within::frame_bits(r);
+    let mut heard = [0u8; 45];
+    let t = field::within::take_all(cards, n, &frame[..bits], &mut heard);
+    let m = t.bits;
+    let bytes = put_exchange(log, at, tick, &frame[..bits], &heard[..m]);
+    let after = t.cards;
+    Aired {
+        cards: after,
+        heard: heard,
+        bits: m,
+        bytes: bytes,
+    }
+}
+
+// The reader's frame on the air, and the reader's turn on what it heard.
 fn exchange(
     r: Reader,
     cards: [Card; MOST_CARDS],
@@ -67,19 +104,15 @@ fn exchange(
     ensures { λ x. ⌜ x ≡ exchanged r cards n ⌝ }
     ensures { λ x. ⌜ now (log .exit) ≡ overlay (now (log .entry)) at (exchangeBytes tick (exchangeOf r (take n cards))) ⌝ }
 {
-    let mut frame = [0u8; 81];
-    reader::within::put_frame(r, &mut frame);
-    let bits = reader::within::frame_bits(r);
-    let mut heard = [0u8; 45];
-    let t = field::within::take_all(cards, n, &frame[..bits], &mut heard);
-    let m = t.bits;
-    let bytes = put_exchange(log, at, tick, &frame[..bits], &heard[..m]);
+    let a = air(r, cards, n, log, at, tick);
+    let heard = a.heard;
+    let m = a.bits;
     let next = reader::within::hear_rules(r, &heard[..m]);
-    let after = t.cards;
+    let left = a.cards;
     Exchanged {
         turn: next,
-        cards: after,
-        bytes: bytes,
+        cards: left,
+        bytes: a.bytes,
     }
 }
 

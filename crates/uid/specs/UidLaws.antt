@@ -213,23 +213,26 @@ lev-bit r p =
     let e : 40 * (p / 40) + p % 40 ≡ p = omega arith in
     getD-take 40 (drop (40 * (p / 40)) r) (p % 40) 0 (omega arith) ∙ getD-drop (40 * (p / 40)) r (p % 40) 0 ∙ ap (λ i. getD r i 0) e
 
--- two different valid UIDs never first differ in a check byte
-pub never-in-check : (u v : Uid) → Sound u → Sound v → uidBytes u ≢ uidBytes v → (p x : ℕ) → diff (rowOf u) (rowOf v) ≡ off p x → p % 40 < 32
-never-in-check u v s t n p x e = go (ltb (p % 40) 32) refl
+-- rows of checked levels never first differ in a check byte
+pub rows-never-in-check : (r s : List ℕ) (p x : ℕ) → Checked r → Checked s → length r % 40 ≡ 0 → length s % 40 ≡ 0 → Off (diff s r) → diff r s ≡ off p x → p % 40 < 32
+rows-never-in-check r s p x c d hr hs o e = go (ltb (p % 40) 32) refl
   where
-    a : Parted (rowOf u) (rowOf v) p
-    a = parted (rowOf u) (rowOf v) p x e
+    a : Parted r s p
+    a = parted r s p x e
 
-    k : p < length (rowOf v)
-    k = in-second (rowOf u) (rowOf v) p x e (rows-off v u t s (λ z. n (sym z)))
+    k : p < length s
+    k = in-second r s p x e o
 
     go : (b : Bool) → ltb (p % 40) 32 ≡ b → p % 40 < 32
     go true h = ltb-true (p % 40) 32 h
     go false h =
         let m : 32 ≤ p % 40 = ltb-false (p % 40) 32 h in
-        let front : take (40 * (p / 40) + 32) (rowOf u) ≡ take (40 * (p / 40) + 32) (rowOf v) =
-        sym (take-take (40 * (p / 40) + 32) p (rowOf u) (omega arith)) ∙ ap (take (40 * (p / 40) + 32)) (a .before) ∙ take-take (40 * (p / 40) + 32) p (rowOf v) (omega arith) in
-        let l : lev (p / 40) (rowOf u) ≡ lev (p / 40) (rowOf v) =
-        level-agrees (rowOf u) (rowOf v) (p / 40) (checked-row u s) (checked-row v t)
-        (omega (arith, a .in-first, length-row u s)) (omega (arith, k, length-row v t)) front in
-        absurd (a .differ k (sym (lev-bit (rowOf u) p) ∙ ap (λ r. getD r (p % 40) 0) l ∙ lev-bit (rowOf v) p))
+        let front : take (40 * (p / 40) + 32) r ≡ take (40 * (p / 40) + 32) s =
+        sym (take-take (40 * (p / 40) + 32) p r (omega arith)) ∙ ap (take (40 * (p / 40) + 32)) (a .before) ∙ take-take (40 * (p / 40) + 32) p s (omega arith) in
+        let l : lev (p / 40) r ≡ lev (p / 40) s = level-agrees r s (p / 40) c d (omega (arith, a .in-first)) (omega (arith, k)) front in
+        absurd (a .differ k (sym (lev-bit r p) ∙ ap (λ t. getD t (p % 40) 0) l ∙ lev-bit s p))
+
+-- two different valid UIDs never first differ in a check byte
+pub never-in-check : (u v : Uid) → Sound u → Sound v → uidBytes u ≢ uidBytes v → (p x : ℕ) → diff (rowOf u) (rowOf v) ≡ off p x → p % 40 < 32
+never-in-check u v s t n p x e =
+    rows-never-in-check (rowOf u) (rowOf v) p x (checked-row u s) (checked-row v t) (omega (arith, length-row u s)) (omega (arith, length-row v t)) (rows-off v u t s (λ z. n (sym z))) e

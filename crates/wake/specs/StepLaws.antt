@@ -13,7 +13,8 @@ use Rattle.uid.specs.Uid.{levels}
 use Rattle.reader.specs.Reader.{frame, sends}
 use Rattle.sweep_rules.specs.Run.{Out, before, ended}
 use Rattle.sweep_steps.specs.Steps.{goes, exchangeOf, foundBy}
-use Rattle.sweep_steps.specs.RunLaws.{rest, after, with-found, rest-step, rest-stops, rest-spent, take-after, drop-after, length-after}
+use Rattle.sweep_steps.specs.LeftLaws.{with-found, take-after, drop-after, length-after}
+use Rattle.sweep_steps.specs.RunLaws.{rest, after, rest-step, rest-stops, rest-spent}
 use Rattle.wake_rules.specs.Wake.{wake}
 use Rattle.uid.specs.declared.Uid.{Uid}
 use Rattle.card.specs.declared.Card.{Card}

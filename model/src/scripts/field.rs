@@ -140,14 +140,18 @@ pub fn script(seed: u64) -> Script<VectorsSweep> {
     refused_fields(&mut s);
     rooms(&mut s);
     ticks(&mut s);
+    remembered(&mut s, &mut random);
     woken_fields(&mut s, &mut random);
     s.remark("random fields");
     let mut fields = 0;
-    while fields < 260 && s.output.len() < 390_000 {
+    while fields < 260 && s.output.len() < 430_000 {
         let mut lines = random_field(&mut random);
         if random.chance(25) {
             let tick = if random.chance(50) { random.word() } else { u32::MAX - random.below(40) as u32 };
             lines.insert(random.below(lines.len() + 1), format!("tick {tick}"));
+        }
+        if random.chance(35) {
+            lines.insert(random.below(lines.len() + 1), "remember".to_string());
         }
         // Large fields are rare: their logs take most of the room.
         if lines.len() > 5 && random.chance(if lines.len() > 12 { 95 } else { 70 }) {
@@ -156,7 +160,7 @@ pub fn script(seed: u64) -> Script<VectorsSweep> {
         nth(&mut s, fields, &lines);
         fields += 1;
     }
-    assert!(fields >= 200, "only {fields} random fields fit");
+    assert!(fields >= 150, "only {fields} random fields fit");
     s
 }
 
@@ -421,6 +425,57 @@ fn ticks(s: &mut Script<VectorsSweep>) {
     assert_eq!(both(s, &texts(&["tick 5", "room 40959 352"])), "refused 1");
     assert_eq!(both(s, &texts(&["tick 5", "01020304 off"])), "refused 6");
     assert!(both(s, &texts(&["tick 5", "01020304", "wake 01020304"])).starts_with("selected 01020304 20\nframes 2\n"));
+}
+
+/// T-14: the sweep that remembers, beside the plain one.
+fn remembered(s: &mut Script<VectorsSweep>, random: &mut Random) {
+    s.remark("the sweep that remembers: the example, no cards, halted cards, one card of each size");
+    let four = ["01020304 idle 00", "80122821", "04112233445566", "04112233445567"];
+    assert!(both(s, &texts(&[&four[..], &["remember"]].concat()))
+        .starts_with("frames 23\nfound 01020304\nfound 04112233445567\nfound 04112233445566\nfound 80122821\n"));
+    assert!(both(s, &texts(&four)).starts_with("frames 25\n"));
+    assert_eq!(both(s, &texts(&["remember"])), "frames 1\nlog 00070000000064C00000000001");
+    assert_eq!(both(s, &texts(&["remember", "tick 4294967295"])), "frames 1\nlog 0007FFFFFFFF64C00000000000");
+    both(s, &texts(&["01020304 halt", "remember", "01020305 halt"]));
+    for uid in ["80122821", "80122821441020", "56341280122821440010"] {
+        both(s, &texts(&[uid, "remember"]));
+    }
+    s.remark("cards that part at the last bit of each byte of each level: the branch is asked for with k = p + 1");
+    let base = [0x31, 0x42, 0x53, 0x64, 0x75, 0x06, 0x17, 0x28, 0x39, 0x4A];
+    for length in [4, 7, 10] {
+        let mut lines = vec![show_hex(&base[..length]), "remember".to_string()];
+        for byte in 0..length {
+            let mut other = base[..length].to_vec();
+            other[byte] ^= 0x80;
+            lines.push(show_hex(&other));
+        }
+        field(s, &lines);
+    }
+    s.remark("cards of one maker; the comb, which the plain sweep needs 753 frames for");
+    let one_maker: Vec<String> = (0..12).map(|i: u8| format!("04A1B2C3D4{:02X}80", i.wrapping_mul(37))).chain(["remember".to_string()]).collect();
+    field(s, &one_maker);
+    // Each card parts from each later one at one of the last 31 places of its row.
+    let mut uids = vec![vec![0xFF; 10]];
+    for place in 49..80 {
+        let mut uid = vec![0xFF; 10];
+        uid[place / 8] ^= 1 << (place % 8);
+        uids.push(uid);
+    }
+    shuffle(random, &mut uids);
+    let lines: Vec<String> = uids.iter().map(|u| show_hex(u)).chain(["remember".to_string()]).collect();
+    assert!(field(s, &lines).starts_with("frames 226\n"));
+    s.remark("refused as the plain one; the line needs no more words; with a card to wake it has no effect");
+    assert_eq!(both(s, &texts(&["remember", "01020304", "room 40959 352"])), "refused 1");
+    assert_eq!(both(s, &texts(&["remember", "01020304", "room 40960 351"])), "refused 1");
+    assert_eq!(both(s, &texts(&["remember", "01020304", "01020304 halt"])), "refused 6");
+    assert_eq!(both(s, &texts(&["remember", "01020304 off"])), "refused 6");
+    assert_eq!(both(s, &texts(&["remember", "88020304"])), "refused 6");
+    let many: Vec<String> = (0..33).map(|i: u8| format!("0102{:02X}04 halt", i * 5)).chain(["remember".to_string()]).collect();
+    assert_eq!(both(s, &many), "refused 6");
+    for line in ["remember 1", "Remember", "remembers"] {
+        assert!(both(s, &texts(&[&four[..], &[line]].concat())).starts_with("frames 25\n"));
+    }
+    assert!(both(s, &texts(&["remember", "01020304", "wake 01020304"])).starts_with("selected 01020304 20\nframes 2\n"));
 }
 
 /// A locker field of four wristbands that part at the last bit of a byte.

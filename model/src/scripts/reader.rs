@@ -26,6 +26,7 @@ pub fn script(seed: u64) -> S {
     wake(&mut s);
     sweep_by_hand(&mut s);
     fields_by_hand(&mut s);
+    remember_by_hand(&mut s);
     s.remark("random scripts");
     for _ in 0..36 {
         random_script(&mut s, &mut random, false);
@@ -119,7 +120,7 @@ pub fn not_due(s: &mut S, phases: &[&[&str]], blocks: bool) {
     for lines in phases.iter().chain([&SELECTED]) {
         say_all(s, lines);
         for call in
-            ["select", "sweep", "wake 05060708", "wake 88060708", "rats 8", "rats 9", "rats 255", "send 0102", "send -", "deselect", "row -", "bytes 0400", "row x"]
+            ["select", "sweep", "remember", "wake 05060708", "wake 88060708", "rats 8", "rats 9", "rats 255", "send 0102", "send -", "deselect", "row -", "bytes 0400", "row x"]
         {
             let before = s.program.reader.clone();
             // RATS where it is due belongs to the other half of the script.
@@ -662,8 +663,11 @@ fn fields_by_hand(s: &mut S) {
         &["80122821", "80122C21", "80100821"],
         &["21440010", "21C40010", "21440090"],
         &["08112233", "11223344556677", "11223308556677", "11223344556677889900"],
+        &["01020304", "80122821", "04112233445566", "04112233445567"],
+        &["01020304050607080910", "01020304050607080911", "01020304050607080990", "01020304050607"],
+        &["31425364750617", "31425364750697", "3142536475061728394A", "3142536475061728394B", "B1425364"],
     ] {
-        for call in ["select", "sweep"] {
+        for call in ["select", "sweep", "remember"] {
             let mut partner = Partner::new(uids.iter().map(|u| hex(u)).collect());
             s.say("new");
             let mut answer = s.say(call);
@@ -673,6 +677,44 @@ fn fields_by_hand(s: &mut S) {
             }
         }
     }
+}
+
+/// T-14: a sweep that remembers, stepped by hand. Two cards of one maker part in their second level, two in their third.
+fn remember_by_hand(s: &mut S) {
+    s.remark("a sweep that remembers, by hand: a branch at the first level, and one at the second behind a SELECT sent straight");
+    let maker = ["88041122BF", "3344556644", "3344556745"];
+    let to_branch = |s: &mut S| {
+        say_all(s, &["new", "remember", "bytes 4400", &format!("bytes {}", maker[0]), "crc 04"]);
+        let both = frames::merge(&[frames::standard(&hex(maker[1])), frames::standard(&hex(maker[2]))]);
+        s.say(&plain_row(&both));
+        // The card that goes on with the 1 at position 24: the rest of its level.
+        let rest = frames::standard(&hex(maker[2]))[28..].to_vec();
+        s.say(&plain_row(&rest));
+        say_all(s, &["crc 20", "silence"])
+    };
+    to_branch(s);
+    say_all(s, &["bytes 4400", "crc 04"]);
+    let rest = frames::standard(&hex(maker[1]))[28..].to_vec();
+    s.say(&plain_row(&rest));
+    say_all(s, &["crc 00", "silence", "silence", "remember"]);
+    s.remark("silence after REQA ends it, also with a branch kept; nobody at the SELECT sent straight, or at the branch, is 7; b3 clear at the first is 9");
+    for lines in [
+        &["silence", "silence"][..],
+        &["bytes 4400", "silence", "silence"],
+        &["bytes 4400", "crc 04", "silence", "silence"],
+        &["bytes 4400", "crc 00", "silence"],
+        &["bytes 4400", "crc 20", "silence"],
+        &["bytes 4400", "crc 04", "bytes 3344556644", "silence"],
+        &["bytes 4400", "row x", "silence"],
+        &["row 0", "silence"],
+        &["bytes 0000", "silence"],
+        &["remember", "select", "sweep", "bytes 4400", "rats 8", "send 00", "crc 04"],
+    ] {
+        to_branch(s);
+        say_all(s, lines);
+    }
+    s.remark("after each of these the reader keeps nothing: a new one starts anew");
+    say_all(s, &["new", "remember", "bytes 4400", "new", "remember", "bytes 0400", "bytes 0102030404", "crc 00", "silence", "bytes 0400"]);
 }
 
 /// The frame in an answer of the reader, if it sends one.
@@ -751,7 +793,7 @@ pub fn random_script(s: &mut S, random: &mut Random, blocks: bool) {
         let room = random.pick(&[4096, 4096, 4096, 60, 20, 5]);
         s.say(&format!("room {room}"));
     }
-    let mut answer = s.say(if blocks || random.chance(60) { "select" } else { "sweep" });
+    let mut answer = s.say(if blocks || random.chance(50) { "select" } else { random.pick(&["sweep", "remember"]) });
     let mut wrong = if random.chance(40) { 0 } else { 10 };
     for _ in 0..60 {
         let phase = s.program.reader.phase.clone();

@@ -1,0 +1,12 @@
+use borrow.Author.Needs.{needs}
+use Rattle.memory_row.proofs.pass.stopped.Statement.{statement}
+use Rattle.memory_row.proofs.pass.stopped.Tie as tie
+
+no-cards-requires : tie.Need-no-cards-requires
+no-cards-requires c κs = search needs
+
+returns : tie.Need-returns
+returns c = rw (c .no-cards .ensures)
+
+pub stopped-spec : {M : Type 1} → statement M
+stopped-spec = tie.close (tie.spec no-cards-requires returns)

@@ -1,0 +1,15 @@
+pub mod Marks
+pub mod Branches
+pub mod From
+pub mod Past
+pub mod Frames
+pub mod Stages
+pub mod Straight
+pub mod Rounds
+pub mod Sweeps
+pub mod Shared
+pub mod Collisions
+pub mod Totals
+pub mod Logged
+pub mod Remembers
+pub mod Example

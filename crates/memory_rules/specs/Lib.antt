@@ -1,0 +1,4 @@
+pub mod Run
+pub mod Count
+pub mod CountTable
+pub mod Promise

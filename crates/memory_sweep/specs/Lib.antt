@@ -1,0 +1,5 @@
+pub mod Recalled
+pub mod Promise
+pub mod Steps
+pub mod RunLaws
+pub mod CallLaws
