@@ -45,8 +45,11 @@ remember: toolchain
 	@target/bin/bench_sweep <$(MAKER) >target/plain.txt
 	@{ cat $(MAKER); echo remember; } | target/bin/bench_sweep >target/remembers.txt
 	@cat $(MAKER)
-	@grep -v '^log' target/plain.txt | cut -c1-74 >target/plain.cut; grep -v '^log' target/remembers.txt | cut -c1-74 | paste -d '|' target/plain.cut - \
-	| awk -F '|' 'BEGIN { printf "%-76s%s\n", "the plain sweep", "the sweep that remembers" } { printf "%-76s%s\n", $$1, $$2 }'
+	@printf '%-76s%s\n' "the plain sweep" "the sweep that remembers"
+	@for lines in '^[<>]' '^[fc]'; do \
+	    grep "$$lines" target/plain.txt | cut -c1-74 >target/left.txt; grep "$$lines" target/remembers.txt | cut -c1-74 >target/right.txt; \
+	    paste -d '|' target/left.txt target/right.txt | awk -F '|' '{ printf "%-76s%s\n", $$1, $$2 }'; \
+	done
 
 # Frames of both sweeps over fields drawn by a fixed generator: README's table.
 frames: toolchain
