@@ -41,6 +41,7 @@ sweep: toolchain
 
 # Both sweeps of one field, side by side: the plain one on the left, the one that remembers on the right.
 remember: toolchain
+	@echo "proving bench_sweep and what it stands on; the first time this takes some minutes"
 	@rt check bench_sweep >/dev/null 2>&1 || { echo "bench_sweep is not proved: 'make sweep' says more"; exit 1; }
 	@target/bin/bench_sweep <$(MAKER) >target/plain.txt
 	@{ cat $(MAKER); echo remember; } | target/bin/bench_sweep >target/remembers.txt
@@ -53,6 +54,7 @@ remember: toolchain
 
 # Frames of both sweeps over fields drawn by a fixed generator: README's table.
 frames: toolchain
+	@echo "proving bench_sweep and what it stands on; the first time this takes some minutes"
 	@rt check bench_sweep >/dev/null 2>&1 || { echo "bench_sweep is not proved: 'make sweep' says more"; exit 1; }
 	@tools/frames target/bin/bench_sweep
 
