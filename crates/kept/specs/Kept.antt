@@ -18,6 +18,10 @@ use Rattle.uid.specs.declared.UidSize.the-variants.{Single, Double, Triple}
 abbrev pub stateSize : ℕ
 stateSize = 64
 
+-- .. and the room for the longest UID
+abbrev pub uidRoom : ℕ
+uidRoom = 10
+
 -- k bytes of a row from a place on
 unfoldable pub bytesAt : ℕ → List ℕ → ℕ → List ℕ
 bytesAt zero b p = []

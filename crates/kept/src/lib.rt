@@ -1,4 +1,6 @@
-// A state kept in lent bytes: what the reader's and the card's bytes share.
+// A state kept in lent bytes: what the reader's bytes are made of, and a card's will be.
+pub mod within;
+
 ghost use mathlib.Core.Path.{_≡_};
 ghost use Prim.Native.Nat.{_+_, _%_, _*_};
 ghost use lib.ListN.{getD};
@@ -11,6 +13,9 @@ use uid::UidSize;
 
 // The bytes that a state asks for, a reader's now and a card's later.
 pub const STATE_SIZE: usize = 64;
+
+// .. and the room for a UID.
+pub const UID_ROOM: usize = 10;
 
 // The byte at a place, 0 past the end.
 pub fn at(b: &[u8], i: usize) -> u8

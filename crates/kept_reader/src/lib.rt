@@ -363,6 +363,14 @@ pub fn reader_of(b: &[u8]) -> LinkReader
     LinkReader { reader, link }
 }
 
+// The UID of the reader that lent bytes say.
+pub fn uid_of(b: &[u8]) -> Uid
+    ensures { λ r. ⌜ r ≡ readerOf (now (b .entry)) .reader .uid ⌝ }
+{
+    let reader = selection_of(b);
+    reader.uid
+}
+
 fn selection_number(a: Answer) -> usize
     ensures { λ r. ⌜ r ≡ selectionNumber a ⌝ }
 {
