@@ -14,11 +14,10 @@
  * A row holds one air bit a byte: 0, 1, and anything else is a collided bit. An empty row is silence.
  *
  * Each lac_reader_ call that begins something or hears gives one number. 0 or more: so many air bits of the reader's next frame stand at
- * the front of `out` (0: no frame), and lac_event says what else happened. Less than 0: refused, minus one of the LAC_ numbers, and
- * nothing is written into `out`. By LAC_NOT_DUE, LAC_ROOM and LAC_ARGUMENT, and by LAC_TOO_LONG of a message to be sent, the reader
- * stays what it was: its bytes are written anew, in the form that each call leaves them, so that those of a reader which a call has left
- * stay the same but for what lac_event and lac_length tell. By any other refusal the reader has stopped. A state under LAC_STATE_SIZE
- * bytes is refused by LAC_ROOM, and nothing at all is written. */
+ * the front of `out` (0: no frame), and lac_event says what else happened. Less than 0: refused, minus one of the LAC_ numbers below, and
+ * nothing is written into `out`. A refusal that leaves the reader what it was writes nothing into the state either, so lac_event still
+ * tells of the call before it: so it is with LAC_NOT_DUE, LAC_ROOM and LAC_ARGUMENT, and with LAC_TOO_LONG of a message to be sent. By any
+ * other refusal the reader has stopped. A state under LAC_STATE_SIZE bytes is refused by LAC_ROOM, and nothing at all is written. */
 #ifndef LACRIVOSUM_H
 #define LACRIVOSUM_H
 
@@ -90,8 +89,8 @@ int64_t lac_reader_deselect(uint8_t *state, size_t state_len, uint8_t *out, size
 int64_t lac_reader_hear(uint8_t *state, size_t state_len, const uint8_t *row, size_t row_len, const uint8_t *message, size_t message_len,
                         uint8_t *buffer, size_t buffer_len, uint8_t *out, size_t out_len);
 
-/* What the last call on this state told, one of enum lac_event_number, and what came with it: a length, a size index, the byte of
- * LAC_PARITY, or 0. Bytes past the end of a short state count as 0. */
+/* What the last call told, one of enum lac_event_number, and what came with it: a length, a size index, the byte of LAC_PARITY, or 0. A call
+ * that was refused without the reader being stopped told nothing. Bytes past the end of a short state count as 0. */
 uint8_t lac_event(const uint8_t *state, size_t state_len);
 uint64_t lac_length(const uint8_t *state, size_t state_len);
 

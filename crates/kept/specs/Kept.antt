@@ -1,7 +1,7 @@
 -- A state kept in lent bytes: what each small part of it is as bytes, and what any bytes say. A byte that stands for no value is read as the
 -- last one, so every byte pattern is one state.
 use Prim.Native.Nat.{ℕ, zero, suc, _+_, _-_, _*_, _/_, _%_}
-use mathlib.Core.Bool.{Bool, cond}
+use mathlib.Core.Bool.{Bool, true, false, cond}
 use mathlib.Core.List.{List, [], _∷_}
 use lib.ListN.{getD}
 use lib.Dec.{eqb}
@@ -71,6 +71,13 @@ toldNumber bits (Message n) = bits
 toldNumber bits Granted = bits
 toldNumber bits Deselected = bits
 toldNumber bits (Refused e) = refused e
+
+abbrev pub toldRefuses : Told → Bool
+toldRefuses Quiet = false
+toldRefuses (Message n) = false
+toldRefuses Granted = false
+toldRefuses Deselected = false
+toldRefuses (Refused e) = true
 
 -- ---- what else a host is told: the event's number, and what comes with it: a message's length, or the byte index of a refusal (T-07)
 

@@ -5,7 +5,7 @@ ghost use mathlib.Core.Path.{_≡_};
 ghost use Prim.Native.Nat.{_+_, _%_, _*_};
 ghost use lib.ListN.{getD};
 ghost use Rattle.refusal.specs.Refusal.{placeOf};
-ghost use Rattle.kept.specs.Kept.{flag, levelTag, levelOf, sizeTag, sizeOf, word, number, refused, toldNumber, toldEvent, toldLength};
+ghost use Rattle.kept.specs.Kept.{flag, levelTag, levelOf, sizeTag, sizeOf, word, number, refused, toldNumber, toldRefuses, toldEvent, toldLength};
 use block::Told;
 use refusal::Refusal;
 use uid::Level;
@@ -169,6 +169,19 @@ pub fn told_number(bits: usize, t: Told) -> usize
         Told::Granted => bits,
         Told::Deselected => bits,
         Told::Refused(e) => refused(e),
+    }
+}
+
+// Is it a refusal?
+pub fn told_refuses(t: Told) -> bool
+    ensures { λ r. ⌜ r ≡ toldRefuses t ⌝ }
+{
+    match t {
+        Told::Quiet => false,
+        Told::Message(_) => false,
+        Told::Granted => false,
+        Told::Deselected => false,
+        Told::Refused(_) => true,
     }
 }
 

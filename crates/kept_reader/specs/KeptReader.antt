@@ -4,11 +4,13 @@
 --     29 place in the message, 37 bytes joined (eight bytes each, the low byte first), 45 the last answer's event, 46 its length (eight bytes).
 -- Of the 64 bytes that a call asks for these are the first 54; no call looks at those behind them.
 use Prim.Native.Nat.{ℕ, _<_}
-use mathlib.Core.Bool.{cond}
+use mathlib.Core.Bool.{Bool, true, false, cond, _&&_}
 use mathlib.Core.List.{List, [], _∷_, _++_}
-use lib.ListN.{getD, replicate}
+use lib.ListN.{length, getD, replicate}
+use mathlib.Core.Path.{_≡_}
 use lib.Dec.{eqb}
 use Rattle.refusal.specs.Refusal.{placeOf}
+use Rattle.rows.specs.Rows.{overlay, same}
 use Rattle.reader.specs.declared.Phase.{Phase}
 use Rattle.reader.specs.declared.Phase.the-variants as phase
 use Rattle.reader.specs.declared.Reader.{Reader}
@@ -25,7 +27,7 @@ use Rattle.reader_link.specs.declared.LinkReader.{LinkReader}
 use Rattle.reader_link.specs.declared.LinkAnswer.{LinkAnswer}
 use Rattle.reader_link.specs.declared.LinkAnswer.the-variants.{Selection, Opens, Blocks}
 use Rattle.reader_link.specs.declared.LinkTurn.{LinkTurn}
-use Rattle.kept.specs.Kept.{bytesAt, word, number, flag, flagOf, levelTag, levelOf, sizeTag, sizeOf, refused, toldNumber, toldEvent, toldLength}
+use Rattle.kept.specs.Kept.{bytesAt, word, number, flag, flagOf, levelTag, levelOf, sizeTag, sizeOf, refused, toldNumber, toldRefuses, toldEvent, toldLength}
 
 -- ---- the selection
 
@@ -151,6 +153,10 @@ Sized NoLink = Unit {0}
 Sized (RatsSent i) = Unit {0}
 Sized (Linked l) = (l .at < 18446744073709551616) × (l .joined < 18446744073709551616)
 
+-- .. and every reader: arrays of their length
+abbrev pub Fits : LinkReader → Type 0
+Fits x = (length (x .reader .five) ≡ 5) × ((length (x .reader .uid .bytes) ≡ 10) × Sized (x .link))
+
 -- ---- what a call answers: so many bits to send, or minus the refusal's number
 
 abbrev pub selectionNumber : Answer → ℕ
@@ -164,6 +170,18 @@ abbrev pub answerNumber : LinkAnswer → ℕ
 answerNumber (Selection a) = selectionNumber a
 answerNumber (Opens i) = 0
 answerNumber (Blocks n t) = toldNumber n t
+
+abbrev pub selectionRefuses : Answer → Bool
+selectionRefuses (Sends n) = false
+selectionRefuses (Finds n) = false
+selectionRefuses Selects = false
+selectionRefuses Finishes = false
+selectionRefuses (Declines e) = true
+
+abbrev pub answerRefuses : LinkAnswer → Bool
+answerRefuses (Selection a) = selectionRefuses a
+answerRefuses (Opens i) = false
+answerRefuses (Blocks n t) = toldRefuses t
 
 -- the event: 1 a UID found in a sweep, 2 a card selected, 3 the sweep over, 4 a link opened, 5 a message, 7 deselected; none: 0
 abbrev pub selectionEvent : Answer → ℕ
@@ -191,7 +209,8 @@ answerLength (Selection a) = selectionLength a
 answerLength (Opens i) = i
 answerLength (Blocks n t) = toldLength t
 
--- ---- what a call leaves in the lent bytes: the reader, then what was answered
+-- ---- what a call leaves in the lent bytes: the reader, then what was answered. Nothing is written where a call is refused and the reader stays
+-- what it was
 
 abbrev pub answerBytes : LinkAnswer → List ℕ
 answerBytes a = answerEvent a ∷ word 8 (answerLength a)
@@ -199,7 +218,19 @@ answerBytes a = answerEvent a ∷ word 8 (answerLength a)
 abbrev pub turnBytes : LinkTurn → List ℕ
 turnBytes t = readerBytes (t .reader) ++ answerBytes (t .answer)
 
--- what lent bytes say: the reader, and of the last call the event and what came with it
+-- two readers are one: they are kept as the same bytes (law `same-reader`)
+abbrev pub sameReader : LinkReader → LinkReader → Bool
+sameReader x y = same (selectionBytes (x .reader)) (selectionBytes (y .reader)) && same (linkBytes (x .link)) (linkBytes (y .link))
+
+-- a call on the reader x is refused, and x stays
+unfoldable pub stays : LinkReader → LinkTurn → Bool
+stays x t = answerRefuses (t .answer) && sameReader x (t .reader)
+
+unfoldable pub turnLeft : List ℕ → LinkTurn → List ℕ
+turnLeft b t = cond (stays (readerOf b) t) b (overlay b 0 (turnBytes t))
+
+-- ---- what lent bytes say: the reader, and of the last call that wrote them the event and what came with it
+
 pub record Kept : Type 0 where
   pub reader : LinkReader
   pub event : ℕ
@@ -214,6 +245,14 @@ lengthOf b = number 8 b 46
 abbrev pub keptIn : List ℕ → Kept
 keptIn b = record { reader = readerOf b; event = eventOf b; length = lengthOf b }
 
--- .. and what they are to say after a call
+-- .. what they say where a turn was written into them
 abbrev pub keptOf : LinkTurn → Kept
 keptOf t = record { reader = t .reader; event = answerEvent (t .answer); length = answerLength (t .answer) }
+
+-- .. and what the bytes b are to say after a call that gives t
+unfoldable pub keptAfter : List ℕ → LinkTurn → Kept
+keptAfter b t = record {
+  reader = t .reader;
+  event = cond (stays (readerOf b) t) (eventOf b) (answerEvent (t .answer));
+  length = cond (stays (readerOf b) t) (lengthOf b) (answerLength (t .answer));
+}

@@ -2,11 +2,12 @@
 pub mod within;
 
 ghost use mathlib.Core.Path.{_≡_};
+ghost use mathlib.Core.Bool.{_&&_};
 ghost use Prim.Native.Nat.{_<_};
 ghost use lib.ListN.{length};
 ghost use Rattle.reader_link.specs.declared.Link.the-variants.{Linked};
 ghost use Rattle.kept.specs.Kept.{bytesAt};
-ghost use Rattle.kept_reader.specs.KeptReader.{Sized, phaseTag, phaseLevel, phaseOf, selectionBytes, selectionOf, turnTag, turnOf, linkPhaseTag, linkPhaseTurn, linkPhaseOf, linkedBytes, linkBytes, linkedOf, linkIn, linkOf, readerOf, selectionNumber, answerNumber, selectionEvent, answerEvent, selectionLength, answerLength, answerBytes};
+ghost use Rattle.kept_reader.specs.KeptReader.{Sized, Fits, phaseTag, phaseLevel, phaseOf, selectionBytes, selectionOf, turnTag, turnOf, linkPhaseTag, linkPhaseTurn, linkPhaseOf, linkedBytes, linkBytes, linkedOf, linkIn, linkOf, readerOf, selectionNumber, answerNumber, selectionRefuses, answerRefuses, selectionEvent, answerEvent, selectionLength, answerLength, answerBytes, stays};
 use reader::Answer;
 use reader::Phase;
 use reader::Reader;
@@ -16,6 +17,7 @@ use reader_blocks::Turn;
 use reader_link::Link;
 use reader_link::LinkAnswer;
 use reader_link::LinkReader;
+use reader_link::LinkTurn;
 use uid::Uid;
 
 fn phase_tag(p: Phase) -> u8
@@ -394,6 +396,28 @@ pub fn answer_number(a: LinkAnswer) -> usize
     }
 }
 
+fn selection_refuses(a: Answer) -> bool
+    ensures { λ r. ⌜ r ≡ selectionRefuses a ⌝ }
+{
+    match a {
+        Answer::Sends(_) => false,
+        Answer::Finds(_) => false,
+        Answer::Selects => false,
+        Answer::Finishes => false,
+        Answer::Declines(_) => true,
+    }
+}
+
+fn answer_refuses(a: LinkAnswer) -> bool
+    ensures { λ r. ⌜ r ≡ answerRefuses a ⌝ }
+{
+    match a {
+        LinkAnswer::Selection(s) => selection_refuses(s),
+        LinkAnswer::Opens(_) => false,
+        LinkAnswer::Blocks(_, t) => kept::told_refuses(t),
+    }
+}
+
 fn selection_event(a: Answer) -> u8
     ensures { λ r. ⌜ r ≡ selectionEvent a ⌝ }
 {
@@ -445,4 +469,31 @@ fn answer_bytes(a: LinkAnswer) -> [u8; 9]
     let e = answer_event(a);
     let w = kept::word(answer_length(a));
     [e, w[0], w[1], w[2], w[3], w[4], w[5], w[6], w[7]]
+}
+
+fn all_three(a: bool, b: bool, c: bool) -> bool
+    ensures { λ r. ⌜ r ≡ (a && (b && c)) ⌝ }
+{
+    if a { if b { c } else { false } } else { false }
+}
+
+// Was a call on the reader x refused, and does x stay what it was?
+fn stays(x: LinkReader, t: LinkTurn) -> bool
+    ensures { λ r. ⌜ r ≡ stays x t ⌝ }
+    ensures { λ _. ⌜ Fits x × Fits (t .reader) ⌝ }
+{
+    let a = t.answer;
+    let y = t.reader;
+    let r = x.reader;
+    let s = y.reader;
+    let k = x.link;
+    let l = y.link;
+    let refuses = answer_refuses(a);
+    let selection_was = selection_bytes(r);
+    let selection_is = selection_bytes(s);
+    let link_was = link_bytes(k);
+    let link_is = link_bytes(l);
+    let selection_stays = rows::is_same(&selection_was, &selection_is);
+    let link_stays = rows::is_same(&link_was, &link_is);
+    all_three(refuses, selection_stays, link_stays)
 }

@@ -12,7 +12,7 @@ use Rattle.reader_link.specs.ReaderCalls.{Called, newReader}
 use Rattle.uid.specs.Uid.{byteCount, uidBytes}
 use Rattle.uid.specs.declared.Uid.{Uid}
 use Rattle.kept.specs.Kept.{refused, bytesAt}
-use Rattle.kept_reader.specs.KeptReader.{answerNumber, turnBytes, readerOf, selectionOf, linkOf, keptIn, keptOf}
+use Rattle.kept_reader.specs.KeptReader.{answerNumber, turnLeft, readerOf, selectionOf, linkOf, keptIn, keptAfter}
 use Rattle.lacrivosum.specs.Library.{done, left, readerDone, uidDone}
 
 pub left-short : (s x y : List ℕ) → length s < 64 → x ≡ left s x y
@@ -29,20 +29,20 @@ unfolding readerDone
 reader-short s o t n h e = rw (lt-ltb _ _ h, e)
 
 pub reader-kept : (s o s′ o′ : List ℕ) (t : Called) (u : LinkTurn) (n : ℕ) → 64 ≤ length s → u ≡ t .turn
-    → n ≡ answerNumber (u .answer) → s′ ≡ overlay s 0 (turnBytes u) → o′ ≡ overlay o 0 (t .sent)
+    → n ≡ answerNumber (u .answer) → s′ ≡ turnLeft s u → o′ ≡ overlay o 0 (t .sent)
     → readerDone s o t ≡ done n s′ o′
 unfolding readerDone
 reader-kept s o s′ o′ t u n h e a c f = rw (le-ltb _ _ h, a, c, f, e)
 
 -- a call by value, f, on the reader that the bytes say
 pub reader-called : (s o s′ o′ : List ℕ) (f : LinkReader → Called) (x : LinkReader) (u : LinkTurn) (n : ℕ) → 64 ≤ length s → x ≡ readerOf s
-    → u ≡ f x .turn → o′ ≡ overlay o 0 (f x .sent) → n ≡ answerNumber (u .answer) → s′ ≡ overlay s 0 (turnBytes u)
+    → u ≡ f x .turn → o′ ≡ overlay o 0 (f x .sent) → n ≡ answerNumber (u .answer) → s′ ≡ turnLeft s u
     → readerDone s o (f (readerOf s)) ≡ done n s′ o′
 reader-called s o s′ o′ f x u n h e t w a b = rw (← e) (reader-kept s o s′ o′ (f x) u n h t a b w)
 
-pub reader-says : (s s′ : List ℕ) (f : LinkReader → Called) (x : LinkReader) (u : LinkTurn) → x ≡ readerOf s → u ≡ f x .turn → keptIn s′ ≡ keptOf u
-    → keptIn s′ ≡ keptOf (f (readerOf s) .turn)
-reader-says s s′ f x u e t b = rw (← e) (b ∙ ap keptOf t)
+pub reader-says : (s s′ : List ℕ) (f : LinkReader → Called) (x : LinkReader) (u : LinkTurn) → x ≡ readerOf s → u ≡ f x .turn → keptIn s′ ≡ keptAfter s u
+    → keptIn s′ ≡ keptAfter s (f (readerOf s) .turn)
+reader-says s s′ f x u e t b = b ∙ ap (keptAfter s) (t ∙ ap (λ (y : LinkReader). f y .turn) e)
 
 -- ---- the UID
 

@@ -1,65 +1,49 @@
--- `kept_reader::within::settle` meets its contract, by the law `settled`. Assumes nothing.
+-- `kept_reader::within::settle` meets its contract, by the laws `stayed` and `moved`. Assumes nothing.
+use mathlib.Core.Path.{_≡_, sym, _∙_}
 use denote.Ref.{now}
-use Rattle.kept_reader.specs.KeptReaderLaws.{settled}
 use borrow.Author.Needs.{needs}
+use Rattle.kept_reader.specs.KeptReader.{readerOf}
+use Rattle.kept_reader.specs.StayLaws.{stayed, moved}
 use Rattle.kept_reader.proofs.within.settle.Statement.{statement}
 use Rattle.kept_reader.proofs.within.settle.Tie as tie
 
-selection-bytes-requires : tie.Need-selection-bytes-requires
-selection-bytes-requires c κs = search needs
-
-link-bytes-requires : tie.Need-link-bytes-requires
-link-bytes-requires c κs = search needs
-
-answer-bytes-requires : tie.Need-answer-bytes-requires
-answer-bytes-requires c κs = search needs
-
-slice-aggregate-put : tie.Need-slice-aggregate-put
-slice-aggregate-put c = search needs
-
-put-requires : tie.Need-put-requires
-put-requires c κs = search needs
-
-slice-aggregate-put-2 : tie.Need-slice-aggregate-put-2
-slice-aggregate-put-2 c = search needs
-
-put-requires-2 : tie.Need-put-requires-2
-put-requires-2 c κs = search needs
-
-slice-aggregate-put-3 : tie.Need-slice-aggregate-put-3
-slice-aggregate-put-3 c = search needs
-
-put-requires-3 : tie.Need-put-requires-3
-put-requires-3 c κs = search needs
+stays-requires : tie.Need-stays-requires
+stays-requires c κs = search needs
 
 answer-number-requires : tie.Need-answer-number-requires
 answer-number-requires c κs = search needs
 
+returns : tie.Need-returns
+returns c =
+    let a = c .before .before .before .before .args in
+    let e : a .x ≡ readerOf (now (a .state)) = search needs in
+    let s = c .before .before .stays .ensures in
+    (c .answer-number .ensures, stayed (now (a .state)) (a .x) (a .t) e (s .1 .0) (s .1 .1) (sym (s .0) ∙ c .before .if1 .taken))
+
+keep-requires : tie.Need-keep-requires
+keep-requires c κs = search needs
+
+answer-number-requires-2 : tie.Need-answer-number-requires-2
+answer-number-requires-2 c κs = search needs
+
 same-length : tie.Need-same-length
 same-length c = search needs
 
-returns : tie.Need-returns
-returns c =
-    let p = c .before .before .before .before .before .before .before .before in
-    let q = p .before .before .before .before .before in
-    let b = q .before .before .before in
-    let a = b .before .before .before .before .before .before in
-    let s = settled (a .args .t) (now (a .args .state)) _ _ _ _ _ _ (search needs) (b .before .before .selection-bytes .ensures .0) (b .before .before .selection-bytes .ensures .1) (b .before .link-bytes .ensures .0) (b .before .link-bytes .ensures .1) (b .answer-bytes .ensures .0) (b .answer-bytes .ensures .1) (q .put .ensures) (p .put2 .ensures) (c .before .before .before .put3 .ensures) in
-    (c .answer-number .ensures, s)
+returns-2 : tie.Need-returns-2
+returns-2 c =
+    let a = c .before .before .before .before .before .before .before .before .args in
+    let e : a .x ≡ readerOf (now (a .state)) = search needs in
+    let k = c .before .before .before .keep .ensures in
+    (c .answer-number2 .ensures, moved (now (a .state)) _ (a .x) (a .t) e (sym (c .before .before .before .before .before .before .stays .ensures .0) ∙ c .before .before .before .before .before .if1 .left) (k .0) (k .1))
 
 pub settle-spec : {M : Type 1} → statement M
 settle-spec =
     tie.close
     (tie.spec
-    selection-bytes-requires
-    link-bytes-requires
-    answer-bytes-requires
-    slice-aggregate-put
-    put-requires
-    slice-aggregate-put-2
-    put-requires-2
-    slice-aggregate-put-3
-    put-requires-3
+    stays-requires
     answer-number-requires
+    returns
+    keep-requires
+    answer-number-requires-2
     same-length
-    returns)
+    returns-2)
