@@ -90,7 +90,8 @@ int64_t lac_reader_hear(uint8_t *state, size_t state_len, const uint8_t *row, si
                         uint8_t *buffer, size_t buffer_len, uint8_t *out, size_t out_len);
 
 /* What the last call told, one of enum lac_event_number, and what came with it: a length, a size index, the byte of LAC_PARITY, or 0. A call
- * that was refused without the reader being stopped told nothing. Bytes past the end of a short state count as 0. */
+ * that was refused without the reader being stopped told nothing. Of a state that no call has written they are what its bytes say; bytes
+ * past the end of a short state count as 0. */
 uint8_t lac_event(const uint8_t *state, size_t state_len);
 uint64_t lac_length(const uint8_t *state, size_t state_len);
 
