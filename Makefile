@@ -2,8 +2,9 @@
 # `make sweep FIELD=..`, `make card`, `make reader`, `make front`, `make type_b` prove a program, then run it on a file of samples/.
 # `make remember` shows both sweeps of one field side by side; `make frames` counts their frames over many fields.
 # `make speed` measures the core's CRC against Rust programs of our own.
+# `make lib` proves the library for C and archives it, `make examples` compiles the programs of examples/ with it and runs them.
 # `make vectors` writes the programs' scripts and expected output anew, from the independent model.
-.PHONY: run sweep remember frames card reader front type_b speed test toolchain vectors vectors-check model-check pages impostors
+.PHONY: run sweep remember frames card reader front type_b speed lib examples test toolchain vectors vectors-check model-check pages impostors
 
 CARGO = --quiet --release --offline --locked --manifest-path model/Cargo.toml
 MODEL = cargo run $(CARGO) --
@@ -77,6 +78,16 @@ speed: toolchain
 	rustc --edition 2021 -C opt-level=3 speed/crc.rs -o target/speed-crc -L target/staticlib -l static=crc_speed
 	@target/speed-crc
 
+# The core's reader for C: target/staticlib/liblacrivosum.a, to be linked with include/lacrivosum.h.
+lib: toolchain
+	rt staticlib lacrivosum
+
+examples: lib
+	@if command -v gcc >/dev/null 2>&1; then for c in examples/*.c; do \
+	    p=target/example-$$(basename $$c .c); \
+	    gcc -std=c99 -Wall -Wextra -Werror -pedantic -Iinclude $$c target/staticlib/liblacrivosum.a -o $$p && echo "$$c:" && $$p || exit 1; done; \
+	else echo "no gcc: the programs of examples/ are not compiled"; fi
+
 vectors:
 	$(MODEL) write crates
 
@@ -90,10 +101,11 @@ model-check:
 	printf '%s\n' "$$said" | tail -n 2; }; \
 	else echo "no cargo: the model's own tests are not run"; fi
 
-# docs/RULES.md names only what the code declares; contracts cite definitions only.
+# docs/RULES.md names only what the code declares; contracts cite definitions only; the header for C declares what the library exports.
 pages:
 	@tools/rules-check
 	@tools/contract-check
+	@tools/header-check
 
 # Every must-fail edit, those of crates/*/impostors too, in a copy of the repository. This takes an hour or two.
 impostors: toolchain

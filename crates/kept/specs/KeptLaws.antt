@@ -1,0 +1,79 @@
+-- What is kept is read back. Assumes nothing.
+use mathlib.Core.Path.{_≡_, refl, ap, _∙_}
+use mathlib.Core.Bool.{Bool, true, false}
+use mathlib.Core.List.{List, [], _∷_}
+use Prim.Native.Nat.{ℕ, zero, suc, _+_, _*_, _/_, _%_, _<_, _≤_}
+use native.Mathlib.Numerals.{add-one}
+use native.Mathlib.Omega.{arith}
+use lib.ListN.{length, getD}
+use Rattle.refusal.specs.Refusal.{numberOf}
+use Rattle.refusal.specs.declared.Refusal.{Refusal}
+use Rattle.refusal.specs.declared.Refusal.the-variants.{Room, Length, Parity, Crc, Check, Argument, Silence, Collision, Forbidden, TooLong, NotDue, Repeats}
+use Rattle.uid.specs.declared.Level.{Level}
+use Rattle.uid.specs.declared.Level.the-variants.{One, Two, Three}
+use Rattle.uid.specs.declared.UidSize.{UidSize}
+use Rattle.uid.specs.declared.UidSize.the-variants.{Single, Double, Triple}
+use Rattle.kept.specs.Kept.{bytesAt, word, number, flag, flagOf, levelTag, levelOf, sizeTag, sizeOf}
+
+pub flag-back : (x : Bool) → flagOf (flag x) ≡ x
+flag-back true = refl
+flag-back false = refl
+
+pub level-back : (l : Level) → levelOf (levelTag l) ≡ l
+level-back One = refl
+level-back Two = refl
+level-back Three = refl
+
+pub size-back : (z : UidSize) → sizeOf (sizeTag z) ≡ z
+size-back Single = refl
+size-back Double = refl
+size-back Triple = refl
+
+-- the bytes of a row from its second on are those of its tail
+bytes-tail : (k : ℕ) (x : ℕ) (b : List ℕ) (p : ℕ) → bytesAt k (x ∷ b) (suc p) ≡ bytesAt k b p
+unfolding bytesAt
+bytes-tail zero x b p = refl
+bytes-tail (suc k) x b p = rw (add-one, add-one, bytes-tail k x b (suc p))
+
+-- as many bytes as a row has are the row
+pub bytes-whole : (k : ℕ) (b : List ℕ) → length b ≡ k → bytesAt k b 0 ≡ b
+unfolding bytesAt
+bytes-whole zero [] h = refl
+bytes-whole zero (x ∷ b) h = absurd (omega arith)
+bytes-whole (suc k) [] h = absurd (omega arith)
+bytes-whole (suc k) (x ∷ b) h = ap (λ (l : List ℕ). x ∷ l) (bytes-tail k x b 0 ∙ bytes-whole k b (omega arith))
+
+-- what k bytes hold
+unfoldable pub room : ℕ → ℕ
+room zero = 1
+room (suc k) = 256 * room k
+
+head-same : (x y : ℕ) (a b : List ℕ) → x ∷ a ≡ y ∷ b → x ≡ y
+head-same x y a b e = cc
+
+tail-same : (x y : ℕ) (a b : List ℕ) → x ∷ a ≡ y ∷ b → a ≡ b
+tail-same x y a b e = cc
+
+-- a number that k bytes hold is read back from them, wherever they stand
+pub word-back : (k n : ℕ) (b : List ℕ) (p : ℕ) → n < room k → bytesAt k b p ≡ word k n → number k b p ≡ n
+unfolding room bytesAt word number
+word-back zero n b p h e = omega arith
+word-back (suc k) n b p h e =
+    let r : number k b (p + 1) ≡ n / 256 = word-back k (n / 256) b (p + 1) (omega arith) (tail-same _ _ _ _ e) in
+    let d : getD b p 0 ≡ n % 256 = head-same _ _ _ _ e in
+    omega arith
+
+-- no refusal has the number 0
+pub number-some : (e : Refusal) → 1 ≤ numberOf e
+number-some Room = omega arith
+number-some Length = omega arith
+number-some (Parity b) = omega arith
+number-some Crc = omega arith
+number-some Check = omega arith
+number-some Argument = omega arith
+number-some Silence = omega arith
+number-some Collision = omega arith
+number-some Forbidden = omega arith
+number-some TooLong = omega arith
+number-some NotDue = omega arith
+number-some Repeats = omega arith
