@@ -13,11 +13,12 @@ use Rattle.refusal.specs.Refusal.{Said, declineIf}
 use Rattle.reader.specs.Calls.{turnSays}
 use Rattle.reader.specs.Reader.{isNew, blank, sends, frame}
 use Rattle.field.specs.Field.{allTake, heardFrom}
-use Rattle.sweep_rules.specs.Run.{Out, before, finding, ended, follow, sweep}
+use Rattle.sweep_rules.specs.Run.{Out, sweep}
+use Rattle.sweep_rules.specs.RunLaws.{run-cards}
 use Rattle.sweep_rules.specs.Terms.{within}
-use Rattle.memory.specs.Memory.{Recall, recall, hear}
+use Rattle.memory.specs.Memory.{recall}
 use Rattle.memory_rules.specs.Promise.{Remembers}
-use Rattle.memory_rules.specs.Run.{run, recalled}
+use Rattle.memory_rules.specs.Run.{remembering, run, recalled}
 use Rattle.sweep.specs.Promise.{Terms}
 use Rattle.sweep.specs.Sweep.{Call, call, refused, done}
 use Rattle.sweep_row.specs.PadLaws.{take-row, drop-row}
@@ -34,27 +35,10 @@ use Rattle.sweep.specs.declared.Start.{Start}
 use Rattle.sweep.specs.declared.Swept.{Swept}
 use Rattle.memory_row.specs.Row.{rowOf, Promises}
 
--- ---- a run has as many cards at its end as at its start
-
-follow-cards : (a : Answer) (t : Turn) (cs : List Card) (o : Out) → length (o .cards) ≡ length cs → length (follow a t cs o .cards) ≡ length cs
-unfolding finding ended
-follow-cards (Sends n) t cs o e = e
-follow-cards (Finds n) t cs o e = e
-follow-cards Selects t cs o e = refl
-follow-cards Finishes t cs o e = refl
-follow-cards (Declines x) t cs o e = refl
-
-run-cards : (fuel : ℕ) (m : Recall) (cs : List Card) → length (run fuel m cs .cards) ≡ length cs
-unfolding run before ended allTake
-run-cards zero m cs = refl
-run-cards (suc fuel) m cs =
-    let f : List ℕ = frame (m .turn .reader) in
-    let m′ : Recall = hear (m .turn .reader) (m .path) (heardFrom f cs) in
-    follow-cards (m′ .turn .answer) (m′ .turn) (allTake f cs) (run fuel m′ (allTake f cs)) (run-cards fuel m′ (allTake f cs)) ∙ length-map cs _
-
+-- a run has as many cards at its end as at its start
 recalled-cards : (cs : List Card) → length (recalled cs .cards) ≡ length cs
-unfolding recalled
-recalled-cards cs = run-cards mostFrames (recall (sends (blank ReqaSent true)) []) cs
+unfolding recalled run
+recalled-cards cs = run-cards remembering mostFrames (recall (sends (blank ReqaSent true)) []) cs
 
 -- what the call gave, with other cards
 abbrev pub over : (Swept → List Card) → Call → Call
