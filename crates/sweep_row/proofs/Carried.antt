@@ -4,6 +4,7 @@ use Prim.Native.Nat.{ℕ, _≤_}
 use mathlib.Core.Bool.{true}
 use mathlib.Core.List.{List, append-nil}
 use lib.ListN.{length, take}
+use native.Mathlib.Omega.{arith}
 use Rattle.rows.specs.Rows.{All, overlay}
 use Rattle.log.specs.Log.{logBytes, logSize, listBytes}
 use Rattle.log.specs.RecordLaws.{log-size}
@@ -11,8 +12,9 @@ use Rattle.sweep_rules.specs.Demand.{Typed}
 use Rattle.sweep_rules.specs.Run.{sweep}
 use Rattle.sweep_rules.specs.Terms.{within}
 use Rattle.sweep.specs.CallLaws.{Promised, runs}
+use Rattle.sweep.specs.Promise.{Terms}
 use Rattle.sweep.specs.Sweep.{call, done}
-use Rattle.sweep.proofs.Kept.{log-fits, list-fits, kept}
+use Rattle.sweep.proofs.Kept.{fits-room, promised}
 use Rattle.card.specs.declared.Card.{Card}
 use Rattle.sweep.specs.declared.Start.{Start}
 use Rattle.sweep_row.specs.declared.RowSwept.{RowSwept}
@@ -34,10 +36,10 @@ module _ (start : Start) (cards : List Card) (log list : List ℕ) (b : Begun st
   field-row = ap within row ∙ field
 
   pub row-log-fits : logSize (sweep cards .exchanges) ≤ length log
-  row-log-fits = subst (λ k. logSize (sweep k .exchanges) ≤ length log) row (log-fits cards n typed-row field-row log (b .log-room))
+  row-log-fits = omega (arith, b .log-room, fits-room cards typed field .0)
 
   pub row-list-fits : length (listBytes (sweep cards .found)) ≤ length list
-  row-list-fits = subst (λ k. length (listBytes (sweep k .found)) ≤ length list) row (list-fits cards n typed-row field-row list (b .list-room))
+  row-list-fits = omega (arith, b .list-room, fits-room cards typed field .1)
 
   pub carried : (s : RowSwept) (after : List Card) (log₁ list₁ : List ℕ) → s ≡ endRow (sweep cards) → after ≡ sweep cards .cards
       → log₁ ≡ overlay log 0 (logBytes (start .tick) (sweep cards .exchanges)) → list₁ ≡ overlay list 0 (listBytes (sweep cards .found))
@@ -45,4 +47,5 @@ module _ (start : Start) (cards : List Card) (log list : List ℕ) (b : Begun st
   unfolding done
   carried s after log₁ list₁ es ec el ef =
       let e : call (sweptRow s after) log₁ list₁ ≡ done (start .tick) cards n log list (sweep (take n cards)) = rw (es, ec, el, ef, row, drop-row n cards refl, append-nil, log-size (start .tick) (sweep cards .exchanges)) in
-      kept cards n typed-row field-row start log list (sweptRow s after) log₁ list₁ e (runs start cards n log list (b .new) (b .log-room) (b .list-room) (b .few) field-row)
+      let t : Terms start cards n log list = record { new = b .new; log-room = b .log-room; list-room = b .list-room; few = b .few; field = field-row } in
+      promised start cards n log list (sweptRow s after) log₁ list₁ (e ∙ sym (runs sweep start cards n log list t)) (λ t. typed-row)

@@ -6,16 +6,18 @@ use mathlib.Core.Bool.{Bool, true, false, cond, false≢true}
 use mathlib.Core.List.{List}
 use lib.ListN.{length, take, getD, set}
 use borrow.Author.Tests.{le-leb}
-use Rattle.reader.specs.Reader.{frame, sends}
+use Rattle.reader.specs.Reader.{blank, frame, sends}
 use Rattle.field.specs.TakeLaws as take-laws
 use Rattle.sweep_rules.specs.Demand.{Typed}
 use Rattle.limits.specs.Limits.{mostCards}
-use Rattle.sweep_rules.specs.Run.{sweep}
+use Rattle.sweep_rules.specs.Run.{plain, run, sweep}
 use Rattle.sweep_rules.specs.Terms.{within}
-use Rattle.sweep.specs.CallLaws.{Promised, no-field}
+use Rattle.sweep.specs.CallLaws.{Promised, declined, no-field}
 use Rattle.sweep_steps.specs.RunLaws as run-laws
 use Rattle.sweep_steps.specs.Steps as steps
 use Rattle.card.specs.declared.Card.{Card}
+use Rattle.reader.specs.declared.Phase.the-variants.{ReqaSent}
+use Rattle.reader.specs.declared.Turn.{Turn}
 use Rattle.sweep.specs.declared.Start.{Start}
 use Rattle.sweep_row.specs.declared.pass.Progress.{Progress}
 use Rattle.sweep_row.specs.declared.seen.Seen.{Seen}
@@ -103,15 +105,16 @@ module _ (start : Start) (cards₀ : List Card) (log₀ list₀ : List ℕ) (p :
       is-within = rw (le-leb N mostCards (L .begun .few)) (sym (all .fits))
 
       starts : s .fits ≡ true → Taking start cards₀ log₀ list₀ (again p firstRow) (set ws (p .at) c) log list
-      unfolding firstRow steps.started
+      unfolding firstRow sweep run sends
       starts g =
           let e : N ≡ suc (p .cards - 1) = omega (arith, L .count, L .at) in
           let k : take N (padded N cards₀) ≡ cards₀ = take-padded N cards₀ refl in
           let f : List ℕ = frame (firstRow .reader) in
-          let u : run-laws.Under (start .tick) (sweep cards₀) (padded N cards₀) N log₀ list₀ (steps.started (padded N cards₀)) log₀ list₀ =
-          subst (λ w. run-laws.Under (start .tick) (sweep w) (padded N cards₀) N log₀ list₀ (steps.started (padded N cards₀)) log₀ list₀) k (run-laws.under-none (start .tick) (padded N cards₀) N log₀ list₀ (length-padded N cards₀ refl (L .begun .few))) in
-          let v : run-laws.Under (start .tick) (sweep cards₀) (padded N cards₀) N log₀ list₀ (steps.started (padded N cards₀)) log list =
-          subst (λ x. run-laws.Under (start .tick) (sweep cards₀) (padded N cards₀) N log₀ list₀ (steps.started (padded N cards₀)) x list) (sym (L .log-row)) (subst (λ x. run-laws.Under (start .tick) (sweep cards₀) (padded N cards₀) N log₀ list₀ (steps.started (padded N cards₀)) log₀ x) (sym (L .list-row)) u) in
+          let first : Turn = sends (blank ReqaSent true) in
+          let u : run-laws.Under plain (start .tick) (sweep cards₀) (padded N cards₀) N log₀ list₀ first (steps.atFirst first (padded N cards₀)) log₀ list₀ =
+          subst (λ w. run-laws.Under plain (start .tick) (sweep w) (padded N cards₀) N log₀ list₀ first (steps.atFirst first (padded N cards₀)) log₀ list₀) k (run-laws.under-none plain (start .tick) first (padded N cards₀) N log₀ list₀ refl (length-padded N cards₀ refl (L .begun .few))) in
+          let v : run-laws.Under plain (start .tick) (sweep cards₀) (padded N cards₀) N log₀ list₀ first (steps.atFirst first (padded N cards₀)) log list =
+          subst (λ x. run-laws.Under plain (start .tick) (sweep cards₀) (padded N cards₀) N log₀ list₀ first (steps.atFirst first (padded N cards₀)) x list) (sym (L .log-row)) (subst (λ x. run-laws.Under plain (start .tick) (sweep cards₀) (padded N cards₀) N log₀ list₀ first (steps.atFirst first (padded N cards₀)) log₀ x) (sym (L .list-row)) u) in
           record {
             begun = L .begun;
             field = is-within ∙ g;
@@ -123,7 +126,7 @@ module _ (start : Start) (cards₀ : List Card) (log₀ list₀ : List ℕ) (p :
             at = omega (arith, L .count, L .at);
             goes = first-goes;
             tick = L .tick;
-            sweep-at = subst (λ m. run-laws.Under (start .tick) (sweep cards₀) (padded N cards₀) N log₀ list₀ (steps.started (padded m cards₀)) log list) (sym (L .count)) v;
+            sweep-at = subst (λ m. run-laws.Under plain (start .tick) (sweep cards₀) (padded N cards₀) N log₀ list₀ first (steps.atFirst first (padded m cards₀)) log list) (sym (L .count)) v;
             take-at =
                 subst (λ w. take-laws.Under (silence .heard) cards₀ N f (silence .heard) w 0 (suc (p .cards - 1))) (sym same)
                 (subst (take-laws.Under (silence .heard) cards₀ N f (silence .heard) cards₀ 0) e (take-start f (silence .heard) cards₀));
@@ -133,7 +136,8 @@ module _ (start : Start) (cards₀ : List Card) (log₀ list₀ : List ℕ) (p :
       declines g =
           subst (λ x. Promised start cards₀ N log₀ list₀ (sweptRow (p .swept) (set ws (p .at) c)) x list) (sym (L .log-row))
           (subst (λ x. Promised start cards₀ N log₀ list₀ (sweptRow (p .swept) (set ws (p .at) c)) log₀ x) (sym (L .list-row))
-          (no-field start cards₀ N log₀ list₀ (L .begun .new) (L .begun .log-room) (L .begun .list-room) (L .begun .few) (sweptRow (p .swept) (set ws (p .at) c)) (ap₂ sweptRow (L .refused) same) (ap within (take-row N cards₀ refl) ∙ is-within ∙ g)))
+          (declined start cards₀ N log₀ list₀ (sweptRow (p .swept) (set ws (p .at) c))
+          (no-field sweep start cards₀ N log₀ list₀ (L .begun .new) (L .begun .log-room) (L .begun .list-room) (L .begun .few) (sweptRow (p .swept) (set ws (p .at) c)) (ap₂ sweptRow (L .refused) same) (ap within (take-row N cards₀ refl) ∙ is-within ∙ g))))
 
       pub looked-last : Under start cards₀ log₀ list₀ (decided p s) (set ws (p .at) c) log list
       unfolding decided

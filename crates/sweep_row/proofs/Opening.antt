@@ -12,7 +12,7 @@ use Rattle.limits.specs.Limits.{mostCards, logRoom, listRoom}
 use Rattle.sweep_rules.specs.Run.{sweep}
 use Rattle.sweep_rules.specs.Terms.{allFit, apart, within}
 use Rattle.sweep_rules.proofs.Demand3.{demand3}
-use Rattle.sweep.specs.CallLaws.{Promised, not-due, no-log, no-list, too-many}
+use Rattle.sweep.specs.CallLaws.{Promised, Declined, declined, not-due, no-log, no-list, too-many}
 use Rattle.card.specs.declared.Card.{Card}
 use Rattle.sweep.specs.declared.Start.{Start}
 use Rattle.refusal.specs.declared.Refusal.{Refusal}
@@ -34,23 +34,23 @@ module _ (start : Start) (n : ℕ) (log list : List ℕ) where
   stops p s e log₁ list₁ k = record { begins = λ cards h. subst (λ q. Under start cards log list q cards log₁ list₁) (sym e) (k cards h) }
 
   module _ (p : Progress) (s : RowSwept) (e : p ≡ stopped s) where
-    declines : (x : Refusal) → s ≡ refusedRow (start .reader) x → ((cards : List Card) → length cards ≡ n → Promised start cards (length cards) log list (sweptRow (refusedRow (start .reader) x) cards) log list) → Opened start n log list p log list
-    declines x is k = stops p (refusedRow (start .reader) x) (e ∙ ap stopped is) log list k
+    declines : (x : Refusal) → s ≡ refusedRow (start .reader) x → ((cards : List Card) → length cards ≡ n → Declined sweep start cards (length cards) log list (sweptRow (refusedRow (start .reader) x) cards)) → Opened start n log list p log list
+    declines x is k = stops p (refusedRow (start .reader) x) (e ∙ ap stopped is) log list (λ cards h. declined start cards (length cards) log list (sweptRow (refusedRow (start .reader) x) cards) (k cards h))
 
     pub opens-not-due : s ≡ refusedRow (start .reader) NotDue → isNew (start .reader .phase) ≡ false → Opened start n log list p log list
-    opens-not-due is new = declines NotDue is (λ cards h. not-due start cards (length cards) log list (sweptRow (refusedRow (start .reader) NotDue) cards) refl new)
+    opens-not-due is new = declines NotDue is (λ cards h. not-due sweep start cards (length cards) log list (sweptRow (refusedRow (start .reader) NotDue) cards) refl new)
 
     module _ (new : isNew (start .reader .phase) ≡ true) where
       pub opens-no-log : s ≡ refusedRow (start .reader) Room → length log < logRoom → Opened start n log list p log list
-      opens-no-log is k = declines Room is (λ cards h. no-log start cards (length cards) log list new (sweptRow (refusedRow (start .reader) Room) cards) refl k)
+      opens-no-log is k = declines Room is (λ cards h. no-log sweep start cards (length cards) log list new (sweptRow (refusedRow (start .reader) Room) cards) refl k)
 
       module _ (hlog : logRoom ≤ length log) where
         pub opens-no-list : s ≡ refusedRow (start .reader) Room → length list < listRoom → Opened start n log list p log list
-        opens-no-list is k = declines Room is (λ cards h. no-list start cards (length cards) log list new hlog (sweptRow (refusedRow (start .reader) Room) cards) refl k)
+        opens-no-list is k = declines Room is (λ cards h. no-list sweep start cards (length cards) log list new hlog (sweptRow (refusedRow (start .reader) Room) cards) refl k)
 
         pub opens-too-many : listRoom ≤ length list → s ≡ refusedRow (start .reader) Argument → mostCards < n → Opened start n log list p log list
         opens-too-many hlist is k =
-            declines Argument is (λ cards h. too-many start cards (length cards) log list new hlog hlist (sweptRow (refusedRow (start .reader) Argument) cards) refl (subst (λ m. mostCards < m) (sym h) k))
+            declines Argument is (λ cards h. too-many sweep start cards (length cards) log list new hlog hlist (sweptRow (refusedRow (start .reader) Argument) cards) refl (subst (λ m. mostCards < m) (sym h) k))
 
   module _ (new : isNew (start .reader .phase) ≡ true) (hlog : logRoom ≤ length log) (hlist : listRoom ≤ length list) where
     none : Begun start [] log list

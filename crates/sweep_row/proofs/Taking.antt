@@ -22,11 +22,10 @@ use Rattle.field.specs.Field.{allTake, heardFrom}
 use Rattle.field.specs.TakeLaws as take-laws
 use Rattle.log.specs.Log.{Exchange, exchangeBytes, exchangeSize, logSize, listBytes, entryBytes, sentHeard}
 use Rattle.limits.specs.Limits.{mostCards}
-use Rattle.sweep_rules.specs.Run.{sweep}
+use Rattle.sweep_rules.specs.Run.{plain, sweep}
 use Rattle.sweep.specs.CallLaws.{Promised}
 use Rattle.sweep_steps.specs.RunLaws as run-laws
 use Rattle.sweep_steps.specs.Steps as steps
-use Rattle.sweep_steps.specs.declared.within.Progress as plain
 use Rattle.card.specs.declared.Card.{Card}
 use Rattle.sweep.specs.declared.Start.{Start}
 use Rattle.sweep_row.specs.declared.air.Air.{Air}
@@ -69,7 +68,7 @@ module _ (start : Start) (cards₀ : List Card) (log₀ list₀ : List ℕ) (p :
   abbrev cs : List Card
   cs = T .cs
 
-  abbrev P : plain.Progress
+  abbrev P : steps.Reached
   P = plainAt p cs
 
   abbrev c : Card
@@ -110,13 +109,16 @@ module _ (start : Start) (cards₀ : List Card) (log₀ list₀ : List ℕ) (p :
     unfolding steps.exchangeOf exchangeWith
     exchange = ap (sentHeard f) heard
 
-    turn : steps.nextTurn P N ≡ turnWith (p .swept .reader) a
-    unfolding steps.exchanged turnWith
+    abbrev after : Turn
+    after = hear (p .swept .reader) (steps.nextHeard P N)
+
+    turn : after ≡ turnWith (p .swept .reader) a
+    unfolding turnWith
     turn = ap (hear (p .swept .reader)) heard
 
     room : Roomy (p .swept) a log list
     room =
-        let R : steps.Roomy P N log list = run-laws.under-room (start .tick) (sweep cards₀) (padded N cards₀) N log₀ list₀ P log list (T .sweep-at) (T .begun .few) goes-plain log-fits list-fits in
+        let R : steps.Roomy P N after log list = run-laws.under-room plain (start .tick) (sweep cards₀) (padded N cards₀) N log₀ list₀ (P .turn) P refl log list (T .sweep-at) (T .begun .few) goes-plain log-fits list-fits in
         record {
           bits = bits-after;
           log-room = subst (λ x. p .swept .logged + exchangeSize x ≤ length log) exchange (R .log-room);
@@ -145,7 +147,7 @@ module _ (start : Start) (cards₀ : List Card) (log₀ list₀ : List ℕ) (p :
     plain-after : cardsAfter (P .cards) N f ≡ padded (p .cards) ws₁
     plain-after = subst (λ m. cardsAfter (padded m cs) N f ≡ padded m ws₁) (sym (T .count)) (padded-after N cs (T .size) f ∙ ap (padded N) (sym row))
 
-    abbrev made : Turn → Exchange → List Card → plain.Progress
+    abbrev made : Turn → Exchange → List Card → steps.Reached
     made t x k =
         record {
           turn = t;
@@ -155,18 +157,19 @@ module _ (start : Start) (cards₀ : List Card) (log₀ list₀ : List ℕ) (p :
           found = p .swept .found + length (steps.foundBy t);
         }
 
-    stepped : steps.stepped P N ≡ plainAt q ws₁
-    unfolding steps.stepped steps.exchanged finished
+    stepped : steps.onto P N after ≡ plainAt q ws₁
+    unfolding steps.onto finished
     stepped = ap₂ (λ t x. made t x (cardsAfter (P .cards) N f)) turn exchange ∙ ap (made (turnWith (p .swept .reader) a) (exchangeWith (p .swept .reader) a)) plain-after
 
-    under : run-laws.Under (start .tick) (sweep cards₀) (padded N cards₀) N log₀ list₀ (plainAt q ws₁) log₁ list₁
+    under : run-laws.Under plain (start .tick) (sweep cards₀) (padded N cards₀) N log₀ list₀ (plainAt q ws₁ .turn) (plainAt q ws₁) log₁ list₁
+    unfolding steps.onto
     under =
-        subst (λ s. run-laws.Under (start .tick) (sweep cards₀) (padded N cards₀) N log₀ list₀ s log₁ list₁) stepped
-        (run-laws.under-turn (start .tick) (sweep cards₀) (padded N cards₀) N log₀ list₀ P log list (T .sweep-at) (T .begun .few) goes-plain log-fits list-fits log₁ list₁
+        subst (λ s. run-laws.Under plain (start .tick) (sweep cards₀) (padded N cards₀) N log₀ list₀ (s .turn) s log₁ list₁) stepped
+        (run-laws.under-turn plain (start .tick) (sweep cards₀) (padded N cards₀) N log₀ list₀ (P .turn) P refl log list (T .sweep-at) (T .begun .few) goes-plain log-fits list-fits log₁ list₁
         (record {
           log-row = ap₂ (λ t x. overlay log (p .swept .logged) (exchangeBytes (rowTick t (p .swept)) x)) (T .tick) (sym exchange);
           list-row = ap (λ t. overlay list (11 * p .swept .found) (listBytes (steps.foundBy t))) (sym turn);
-          entries = entries (steps.nextTurn P N);
+          entries = entries after;
         }))
 
     -- the next pass begins
@@ -191,7 +194,7 @@ module _ (start : Start) (cards₀ : List Card) (log₀ list₀ : List ℕ) (p :
     -- it is over
     module _ (g : goesOn (finished (p .swept) a) ≡ false) where
       ends : plainAt q ws₁ ≡ steps.ends (padded N cards₀) N (sweep cards₀)
-      ends = run-laws.under-ends (start .tick) (sweep cards₀) (padded N cards₀) N log₀ list₀ (plainAt q ws₁) log₁ list₁ under (T .begun .few) (same-goes q ws₁ ∙ g)
+      ends = run-laws.under-ends plain (start .tick) (sweep cards₀) (padded N cards₀) N log₀ list₀ (plainAt q ws₁ .turn) (plainAt q ws₁) refl log₁ list₁ under (T .begun .few) (same-goes q ws₁ ∙ g)
 
       abbrev rest : List Card
       rest = replicate (mostCards - N) noCard
@@ -209,8 +212,8 @@ module _ (start : Start) (cards₀ : List Card) (log₀ list₀ : List ℕ) (p :
           carried start cards₀ log₀ list₀ (T .begun) (T .typed) (T .field) (q .swept) ws₁ log₁ list₁
           (ap (λ s. record { reader = s .turn .reader; answer = s .turn .answer; frames = s .frames; logged = s .logged; found = s .found }) ends)
           cards-last
-          (run-laws.under-log (start .tick) (sweep cards₀) (padded N cards₀) N log₀ list₀ (plainAt q ws₁) log₁ list₁ under (T .begun .few) (same-goes q ws₁ ∙ g))
-          (run-laws.under-list (start .tick) (sweep cards₀) (padded N cards₀) N log₀ list₀ (plainAt q ws₁) log₁ list₁ under (T .begun .few) (same-goes q ws₁ ∙ g))
+          (run-laws.under-log plain (start .tick) (sweep cards₀) (padded N cards₀) N log₀ list₀ (plainAt q ws₁ .turn) (plainAt q ws₁) refl log₁ list₁ under (T .begun .few) (same-goes q ws₁ ∙ g))
+          (run-laws.under-list plain (start .tick) (sweep cards₀) (padded N cards₀) N log₀ list₀ (plainAt q ws₁ .turn) (plainAt q ws₁) refl log₁ list₁ under (T .begun .few) (same-goes q ws₁ ∙ g))
 
     pub taken-last : Under start cards₀ log₀ list₀ q ws₁ log₁ list₁
     taken-last = go (goesOn (finished (p .swept) a)) refl

@@ -14,7 +14,7 @@ use Rattle.sweep_rules.specs.Run.{Out, sweep}
 use Rattle.sweep_rules.specs.Terms.{within}
 use Rattle.sweep.specs.CallLaws.{Promised}
 use Rattle.sweep.specs.Promise.{Terms, sweptSays, Sweeps}
-use Rattle.sweep.specs.Sweep.{Call, call, refused, done, sweepOf}
+use Rattle.sweep.specs.Sweep.{Call, call, refused, done, callOf, sweepOf}
 use Rattle.card.specs.declared.Card.{Card}
 use Rattle.sweep.specs.declared.Start.{Start}
 use Rattle.refusal.specs.declared.Refusal.the-variants.{Room, Argument, NotDue}
@@ -69,7 +69,7 @@ module _ (start : Start) (cards : List Card) (n : ℕ) (log list : List ℕ) (lo
   same-tests false false false d d′ e = e
 
   same-call : with rest (sweepOf start front n log list) ≡ sweepOf start cards n log list
-  unfolding sweepOf
+  unfolding callOf
   same-call =
       rw again (same-tests (not (isNew (start .reader .phase))) (ltb (length log) logRoom || ltb (length list) listRoom) (ltb mostCards n || not (within front))
       (done (start .tick) front n log list (sweep front)) (done (start .tick) cards n log list (sweep front)) (runs-on (sweep front)))

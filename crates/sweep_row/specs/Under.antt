@@ -9,11 +9,11 @@ use Rattle.reader.specs.Reader.{isNew, frame}
 use Rattle.field.specs.TakeLaws as take-laws
 use Rattle.sweep_rules.specs.Demand.{Typed}
 use Rattle.limits.specs.Limits.{mostCards, logRoom, listRoom, mostFrames}
-use Rattle.sweep_rules.specs.Run.{sweep}
+use Rattle.sweep_rules.specs.Run.{plain, sweep}
 use Rattle.sweep_rules.specs.Terms.{within}
 use Rattle.sweep.specs.CallLaws.{Promised}
 use Rattle.sweep_steps.specs.RunLaws as run-laws
-use Rattle.sweep_steps.specs.declared.within.Progress as plain
+use Rattle.sweep_steps.specs.Steps.{Reached}
 use Rattle.card.specs.declared.Card.{Card}
 use Rattle.sweep.specs.declared.Start.{Start}
 use Rattle.refusal.specs.declared.Refusal.the-variants.{Argument}
@@ -46,7 +46,7 @@ pub record Looking (start : Start) (cards₀ : List Card) (log₀ list₀ : List
   pub seen : SeenFrom cards₀ (suc (p .at)) (p .seen)
 
 -- how far the plain sweep is where the cards cs have not taken the frame yet
-abbrev pub plainAt : Progress → List Card → plain.Progress
+abbrev pub plainAt : Progress → List Card → Reached
 plainAt p cs =
     record {
       turn = record { reader = p .swept .reader; answer = p .swept .answer };
@@ -68,7 +68,7 @@ pub record Taking (start : Start) (cards₀ : List Card) (log₀ list₀ : List 
   pub at : p .at < length cards₀
   pub goes : goesOn (p .swept) ≡ true
   pub tick : p .tick ≡ start .tick
-  pub sweep-at : run-laws.Under (start .tick) (sweep cards₀) (padded (length cards₀) cards₀) (length cards₀) log₀ list₀ (plainAt p cs) log list
+  pub sweep-at : run-laws.Under plain (start .tick) (sweep cards₀) (padded (length cards₀) cards₀) (length cards₀) log₀ list₀ (plainAt p cs .turn) (plainAt p cs) log list
   pub take-at : take-laws.Under heard₀ cs (length cs) (frame (p .swept .reader)) (p .air .heard) cards (p .air .bits) (suc (p .at))
 
 -- going and looking say which

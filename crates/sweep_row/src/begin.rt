@@ -64,8 +64,9 @@ pub fn empty(tick: u32, log: &mut [u8], list: &mut [u8]) -> RowSwept
         index: 0,
         state: CardState::Off,
     };
-    let p = sweep_steps::within::run([c; MOST_CARDS], 0, tick, log, list);
-    let t = p.turn;
+    let p = sweep_steps::within::run(false, [c; MOST_CARDS], 0, tick, log, list);
+    let m = p.memory;
+    let t = m.turn;
     let r = t.reader;
     let a = t.answer;
     RowSwept {
