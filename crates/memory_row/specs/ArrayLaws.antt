@@ -11,7 +11,7 @@ use Rattle.sweep_rules.specs.Terms.{within}
 use Rattle.memory_rules.specs.Promise.{Remembers}
 use Rattle.memory_rules.specs.Run.{recalled}
 use Rattle.sweep.specs.Promise.{Terms}
-use Rattle.sweep.specs.Sweep.{Call, done}
+use Rattle.sweep.specs.Sweep.{Call, done, callOf}
 use Rattle.sweep_row.specs.PadLaws.{take-row, drop-row}
 use Rattle.sweep_row.specs.Row.{sweptRow}
 use Rattle.memory_sweep.specs.Recalled.{recallOf}
@@ -45,7 +45,7 @@ module _ (start : Start) (cards : List Card) (n : ℕ) (log list : List ℕ) (si
   runs-on o = rw (drop-row n front size, append-nil)
 
   same-call : over with-rest (recallOf start front n log list) ≡ recallOf start cards n log list
-  unfolding recallOf
+  unfolding callOf
   same-call =
       rw again (same-tests start log list with-rest front cards (of-row (recalled front)) (of-array (recalled front)) (λ e. take-append-drop n cards) (runs-on (recalled front))
       (early start log list) (short start log list) (ltb mostCards n || not (within front)))

@@ -20,7 +20,7 @@ use Rattle.memory.specs.Memory.{recall}
 use Rattle.memory_rules.specs.Promise.{Remembers}
 use Rattle.memory_rules.specs.Run.{remembering, run, recalled}
 use Rattle.sweep.specs.Promise.{Terms}
-use Rattle.sweep.specs.Sweep.{Call, call, refused, done}
+use Rattle.sweep.specs.Sweep.{Call, call, refused, done, callOf}
 use Rattle.sweep_row.specs.PadLaws.{take-row, drop-row}
 use Rattle.sweep_row.specs.Row.{sweptRow}
 use Rattle.memory_sweep.specs.Recalled.{recallOf}
@@ -70,7 +70,7 @@ module _ (start : Start) (log list : List ℕ) where
 
   -- the sweep leaves as many cards as there were
   pub swept-cards : (h : List Card) (n : ℕ) → length (recallOf start h n log list .swept .cards) ≡ length h
-  unfolding recallOf done
+  unfolding callOf done
   swept-cards h n = go early short (ltb mostCards n || not (within (take n h)))
     where
       go : (a b d : Bool) → length (byTests a b d h (done (start .tick) h n log list (recalled (take n h))) .swept .cards) ≡ length h
@@ -84,7 +84,7 @@ module _ (start : Start) (log list : List ℕ) where
   module _ (h ys : List Card) (n : ℕ) (size : length ys ≡ n) (s : Swept) (log₁ list₁ : List ℕ) (m : Promises start h n log list s log₁ list₁) where
     -- more cards than the limit: the row stays as it was
     pub too-many : mostCards < n → Promises start ys n log list (sweptRow (rowOf s) ys) log₁ list₁
-    unfolding recallOf
+    unfolding callOf
     too-many many =
         let t : ltb mostCards n ≡ true = lt-ltb mostCards n many in (
           ap (over (λ x. ys)) (m .0) ∙ rw t (go early short),
@@ -132,7 +132,7 @@ module _ (start : Start) (log list : List ℕ) where
       as-many = recalled-cards (take n h) ∙ ap length first ∙ size
 
       is-call : over front (recallOf start h n log list) ≡ recallOf start ys n log list
-      unfolding recallOf
+      unfolding callOf
       is-call = rw one (same-tests front h ys (of-array (recalled (take n h))) (of-row (recalled (take n h))) (λ e. first) (done-row (recalled (take n h)) as-many) early short (ltb mostCards n || not (within (take n h))))
 
       terms-too : Terms start ys n log list → Terms start h n log list
