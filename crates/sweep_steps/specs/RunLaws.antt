@@ -33,7 +33,7 @@ module _ {S : Type 0} (R : Runner S) where
   rest k s cs = onward (R .turn s .answer) (runOf R k s cs) (ended cs (R .turn s))
 
   -- one exchange, then the rest
-  unfoldable after : ℕ → S → List Card → Out
+  unfoldable pub after : ℕ → S → List Card → Out
   after k s cs =
       let s′ : S = R .hears s (heardFrom (frame (R .turn s .reader)) cs) in
       before (exchangeOf (R .turn s .reader) cs) (with-found (foundBy (R .turn s′)) (rest k s′ (allTake (frame (R .turn s .reader)) cs)))
@@ -45,15 +45,15 @@ module _ {S : Type 0} (R : Runner S) where
       let s′ : S = R .hears s (heardFrom f cs) in
       ap (before (sentHeard f (heardFrom f cs))) (follow-onward (R .turn s′ .answer) (R .turn s′) (allTake f cs) (runOf R k s′ (allTake f cs)))
 
-  rest-step : (k : ℕ) (s : S) (cs : List Card) → goes (R .turn s .answer) ≡ true → rest (suc k) s cs ≡ after k s cs
+  pub rest-step : (k : ℕ) (s : S) (cs : List Card) → goes (R .turn s .answer) ≡ true → rest (suc k) s cs ≡ after k s cs
   unfolding rest
   rest-step k s cs g = onward-goes (R .turn s .answer) (runOf R (suc k) s cs) (ended cs (R .turn s)) g ∙ run-after k s cs
 
-  rest-stops : (k : ℕ) (s : S) (cs : List Card) → goes (R .turn s .answer) ≡ false → rest k s cs ≡ ended cs (R .turn s)
+  pub rest-stops : (k : ℕ) (s : S) (cs : List Card) → goes (R .turn s .answer) ≡ false → rest k s cs ≡ ended cs (R .turn s)
   unfolding rest
   rest-stops k s cs g = onward-stops (R .turn s .answer) (runOf R k s cs) (ended cs (R .turn s)) g
 
-  rest-spent : (s : S) (cs : List Card) → rest 0 s cs ≡ ended cs (R .turn s)
+  pub rest-spent : (s : S) (cs : List Card) → rest 0 s cs ≡ ended cs (R .turn s)
   unfolding rest runOf
   rest-spent s cs = onward-same (R .turn s .answer) (ended cs (R .turn s))
 
