@@ -1,2 +1,3 @@
 pub mod Recalled
 pub mod Promise
+pub mod CallLaws

@@ -1,5 +1,5 @@
 -- Demand 3 of the call that runs is demand 3 of the rules. Assumes nothing.
-use mathlib.Core.Path.{_≡_, _∙_}
+use mathlib.Core.Path.{_≡_}
 use Prim.Native.Nat.{ℕ, _≤_}
 use mathlib.Core.List.{List}
 use lib.ListN.{take}
@@ -12,7 +12,7 @@ use Rattle.sweep_rules.specs.Demand.{Typed, Demand3}
 use Rattle.sweep_rules.specs.Run.{sweep}
 use Rattle.sweep_rules.proofs.Demand3.{demand3}
 use Rattle.card.specs.declared.Card.{Card}
-use Rattle.sweep.specs.CallLaws.{Promised, call-says, runs}
+use Rattle.sweep.specs.CallLaws.{Promised, promised-by}
 use Rattle.sweep.specs.Promise.{Terms}
 use Rattle.sweep.specs.Shared.{FitsRoom}
 use Rattle.sweep.specs.Sweep.{call, sweepOf}
@@ -29,11 +29,4 @@ fits-room cs typed field =
 -- a call that is the one of the definition
 pub promised : (s₀ : Start) (cards : List Card) (n : ℕ) (log list : List ℕ) (s : code.Swept) (log₁ list₁ : List ℕ) → call s log₁ list₁ ≡ sweepOf s₀ cards n log list
     → (Terms s₀ cards n log list → All Typed (take n cards)) → Promised s₀ cards n log list s log₁ list₁
-promised s₀ cards n log list s log₁ list₁ e typed = (
-  e,
-  record {
-    says = call-says sweep s₀ cards n log list s log₁ list₁ e;
-    run = λ t. e ∙ runs sweep s₀ cards n log list t;
-    demand3 = λ t. demand3 (take n cards) (typed t) (t .field);
-  },
-)
+promised s₀ cards n log list s log₁ list₁ e typed = promised-by s₀ cards n log list s log₁ list₁ e (λ t. demand3 (take n cards) (typed t) (t .field))

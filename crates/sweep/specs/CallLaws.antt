@@ -15,7 +15,7 @@ use Rattle.reader.specs.Reader.{isNew}
 use Rattle.log.specs.Log.{logBytes, listBytes}
 use Rattle.log.specs.RecordLaws.{log-size}
 use Rattle.limits.specs.Limits.{mostCards, logRoom, listRoom}
-use Rattle.sweep_rules.specs.Demand.{Typed}
+use Rattle.sweep_rules.specs.Demand.{Typed, Demand3}
 use Rattle.sweep_rules.specs.Run.{Out, sweep}
 use Rattle.sweep_rules.specs.Terms.{within}
 use Rattle.card.specs.declared.Card.{Card}
@@ -105,6 +105,8 @@ module _ (W : List Card → Out) (s₀ : Start) (cards : List Card) (n : ℕ) (l
   unfolding callOf
   runs t = rw (t .new, le-ltb (length log) logRoom (t .log-room), le-ltb (length list) listRoom (t .list-room), le-ltb mostCards n (t .few), t .field)
 
--- a plain sweep that is not within the terms
-pub declined : (s₀ : Start) (cards : List Card) (n : ℕ) (log list : List ℕ) (s : Swept) → Declined sweep s₀ cards n log list s → Promised s₀ cards n log list s log list
-declined s₀ cards n log list s d = (d .0, record { says = call-says sweep s₀ cards n log list s log list (d .0); run = λ t. absurd (d .1 t); demand3 = λ t. absurd (d .1 t) })
+-- a plain sweep's call that is the one of the definition, demand 3 of its run being known
+pub promised-by : (s₀ : Start) (cards : List Card) (n : ℕ) (log list : List ℕ) (s : Swept) (log₁ list₁ : List ℕ) → call s log₁ list₁ ≡ sweepOf s₀ cards n log list
+    → (Terms s₀ cards n log list → Demand3 (take n cards) (sweep (take n cards))) → Promised s₀ cards n log list s log₁ list₁
+promised-by s₀ cards n log list s log₁ list₁ e claim =
+    (e, record { says = call-says sweep s₀ cards n log list s log₁ list₁ e; run = λ t. e ∙ runs sweep s₀ cards n log list t; demand3 = claim })

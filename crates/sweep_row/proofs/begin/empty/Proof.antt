@@ -1,7 +1,5 @@
 use mathlib.Core.Path.{ap}
-use mathlib.Core.List.{[]}
 use native.Mathlib.Omega.{arith}
-use Rattle.sweep_steps.specs.LoopLaws.{swept-plain}
 use borrow.Author.Needs.{needs}
 use Rattle.sweep_row.proofs.begin.empty.Statement.{statement}
 use Rattle.sweep_row.proofs.begin.empty.Tie as tie
@@ -9,7 +7,7 @@ use Rattle.sweep_row.proofs.begin.empty.Tie as tie
 run-requires : tie.Need-run-requires
 run-requires c κs =
     let p = c .before .before .before .before .pre in
-    rw (swept-plain []) (omega arith, p .0, p .1)
+    (omega arith, p .0, p .1)
 
 same-length : tie.Need-same-length
 same-length c = search needs
@@ -20,7 +18,7 @@ same-length-2 c = search needs
 returns : tie.Need-returns
 returns c =
     let r = c .before .before .before .before .before .before .before .run in
-    (ap (λ p. record { reader = p .turn .reader; answer = p .turn .answer; frames = p .frames; logged = p .logged; found = p .found }) (rw (swept-plain []) at (r .ensures .0)), rw (swept-plain []) at (r .ensures .1))
+    (ap (λ p. record { reader = p .turn .reader; answer = p .turn .answer; frames = p .frames; logged = p .logged; found = p .found }) (r .ensures .0), r .ensures .1)
 
 pub empty-spec : {M : Type 1} → statement M
 empty-spec = tie.close (tie.spec run-requires same-length same-length-2 returns)

@@ -4,8 +4,8 @@ use denote.Ref.{now}
 use Rattle.sweep_row.specs.Row.{Roomy}
 use Rattle.sweep_row.specs.TurnLaws.{turns-look, turns-end, turns-on}
 use borrow.Author.Needs.{needs}
-use Rattle.sweep_row.proofs.pass.turn.Statement.{statement}
-use Rattle.sweep_row.proofs.pass.turn.Tie as tie
+use Rattle.sweep_row.proofs.within.turn.Statement.{statement}
+use Rattle.sweep_row.proofs.within.turn.Tie as tie
 
 look-requires : tie.Need-look-requires
 look-requires c κs = search needs
@@ -21,7 +21,7 @@ hear-card-requires c κs = search needs
 finish-requires : tie.Need-finish-requires
 finish-requires c κs =
     let a = c .before .before .before .before .before .before .before .before .before .before .before .before .before .args in
-    subst (λ h. Roomy (a .p .swept) (h .air) (now (a .log)) (now (a .list))) (sym (c .before .before .before .before .before .before .hear-card .ensures)) (c .before .before .before .before .before .before .before .before .before .before .before .before .before .pre .room (c .before .before .before .before .before .before .before .before .before .before .if1 .left) (c .before .before .if2 .taken))
+    subst (λ h. Roomy (a .p) (h .air) (now (a .log)) (now (a .list))) (sym (c .before .before .before .before .before .before .hear-card .ensures)) (c .before .before .before .before .before .before .before .before .before .before .before .before .before .pre .room (c .before .before .before .before .before .before .before .before .before .before .if1 .left) (c .before .before .if2 .taken))
 
 again-requires : tie.Need-again-requires
 again-requires c κs = omega (arith, c .before .before .before .before .before .before .before .before .before .before .before .before .before .before .before .before .before .before .pre .at)
