@@ -4,7 +4,7 @@
 -- The path is the on-air row of the card under way, or of the one found last, as far as it is known. A 2 in it is a branch not yet taken: a 1
 -- was sent there against a 0.
 use Prim.Native.Nat.{ℕ, _+_, _*_}
-use mathlib.Core.Bool.{cond}
+use mathlib.Core.Bool.{Bool, true, false, cond}
 use mathlib.Core.List.{List, [], _∷_, _++_, map}
 use lib.ListN.{length, take, drop}
 use lib.Dec.{ltb}
@@ -115,3 +115,9 @@ hearIn (UidSelectSent l) r w h = recall (Plain.hear r h) w
 
 unfoldable pub hear : Reader → List ℕ → List ℕ → Recall
 hear r w h = hearIn (r .phase) r w h
+
+-- ---- the reader of any sweep: one that remembers, or the plain one, which has no path
+
+abbrev pub hearIf : Bool → Reader → List ℕ → List ℕ → Recall
+hearIf true r w h = hear r w h
+hearIf false r w h = recall (Plain.hear r h) []

@@ -8,7 +8,7 @@ ghost use Rattle.uid.specs.Uid.{place};
 ghost use Rattle.selection.specs.Heard.{readRest};
 ghost use Rattle.reader.specs.Reader.{blank, sends};
 ghost use Rattle.reader.specs.declared.Phase.the-variants.{ReqaSent};
-ghost use Rattle.memory.specs.Memory.{recall, learnt, entersBy, keeps, higher, comes, stays, hear};
+ghost use Rattle.memory.specs.Memory.{recall, learnt, entersBy, keeps, higher, comes, stays, hear, hearIf};
 ghost use Rattle.memory.specs.Stored.{pathOf, stored, Kept, isSends, isOn, memoryOf};
 use crate::Memory;
 use crate::Path;
@@ -162,4 +162,16 @@ pub fn hear_rules(r: Reader, p: Path, row: &[u8]) -> Memory
 {
     let q = tidy(p);
     hear_kept(r, q, row)
+}
+
+// What the reader of any sweep does with a row: of one that remembers, or of the plain one, which has no path.
+pub fn hear_if(remembers: bool, r: Reader, p: Path, row: &[u8]) -> Memory
+    ensures { λ m. ⌜ m ≡ memoryOf (hearIf remembers r (pathOf p) (now (row .entry))) ⌝ }
+{
+    if remembers {
+        return hear_rules(r, p, row);
+    }
+    let t = reader::within::hear_rules(r, row);
+    let q = empty();
+    Memory { turn: t, path: q }
 }

@@ -1,6 +1,2 @@
 pub mod Row
-pub mod Under
-pub mod RowLaws
-pub mod OpenLaws
-pub mod TurnLaws
 pub mod ArrayLaws

@@ -28,7 +28,7 @@ use Rattle.memory.specs.Memory.{recall, branch, keeping, hear}
 use Rattle.log.specs.Log.{sentHeard}
 use Rattle.memory.specs.MemoryLaws.{entering, recalls-atqa, recalls-end, recalls-whole, recalls-collided, recalls-more, recalls-last, recalls-silence}
 use Rattle.sweep_rules.specs.Demand.{halted}
-use Rattle.sweep_rules.specs.Run.{before, ended, follow, finding}
+use Rattle.sweep_rules.specs.Run.{before, ended, follow, runOf, finding}
 use Rattle.sweep_rules.proofs.Abstract.{strips, heard}
 use Rattle.sweep_rules.proofs.Early.{law-early-32}
 use Rattle.sweep_rules.proofs.Idle.{idles, Fits, idlers, sizes}
@@ -65,13 +65,13 @@ up v = (v .0, suc (v .1), v .2)
 
 tick : (f : ℕ) (r : Reader) (w : List ℕ) (t : Turn) (w′ : List ℕ) (F F′ : List Card) (h : List ℕ) (v : Vw) → heardFrom (frame r) F ≡ h → allTake (frame r) F ≡ F′ → hear r w h ≡ recall t w′
     → small (sentHeard (frame r) h) ≡ true → goes f t w′ F′ ≡ v → goes (suc f) (sends r) w F ≡ up v
-unfolding goes run before view allSmall sends
+unfolding goes run runOf before view allSmall sends
 tick f r w t w′ F F′ h v e₁ e₂ e₃ e₄ e₅ = rw (e₁, e₂, e₃, e₄) (ap up e₅)
 
 -- the same where the turn announces a UID
 tick-found : (f : ℕ) (r : Reader) (w : List ℕ) (t : Turn) (w′ : List ℕ) (F F′ : List Card) (h : List ℕ) (v : Vw) → heardFrom (frame r) F ≡ h → allTake (frame r) F ≡ F′ → hear r w h ≡ recall t w′
     → small (sentHeard (frame r) h) ≡ true → goes f t w′ F′ ≡ v → goes (suc f) (finds r) w F ≡ (uidBytes (r .uid) ∷ v .0, suc (v .1), v .2)
-unfolding goes run before finding view allSmall finds
+unfolding goes run runOf before finding view allSmall finds
 tick-found f r w t w′ F F′ h v e₁ e₂ e₃ e₄ e₅ = rw (e₁, e₂, e₃, e₄) (ap (λ u. (uidBytes (r .uid) ∷ u .0, suc (u .1), u .2)) e₅)
 
 -- ---- the laws
@@ -195,7 +195,7 @@ unfoldable pub final : List Card → List Card × Bool × Turn
 final F = (map halted F, true, turn (blank Finished false) Finishes)
 
 pub stop-law : (f : ℕ) (F : List Card) (w : List ℕ) → All Fits F → idles F ≡ [] → goes (suc f) asking w F ≡ ([], 1, final F)
-unfolding goes asking sends run before ended view allSmall frame isNil merge idles sizes final
+unfolding goes asking sends run runOf before ended view allSmall frame isNil merge idles sizes final
 stop-law f F w hF e =
     let n : idlers F ≡ [] = map-nil (idlers F) e in
     let h : heardFrom reqa F ≡ [] = hear-req F hF ∙ rw n in

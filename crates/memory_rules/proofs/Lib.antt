@@ -10,6 +10,5 @@ pub mod Sweeps
 pub mod Shared
 pub mod Collisions
 pub mod Totals
-pub mod Logged
 pub mod Remembers
 pub mod Example

@@ -26,13 +26,13 @@ use Rattle.sweep_rules.proofs.IdleRows.{whole-idles}
 use Rattle.sweep_rules.proofs.LogSize.{small-all, log-length}
 use Rattle.sweep_rules.proofs.Model.{view}
 use Rattle.sweep_rules.proofs.Sweep.{frames-small}
+use Rattle.sweep_rules.proofs.Logged.{run-loggable}
 use Rattle.sweep_rules.proofs.Within.{Within, within-says}
 use Rattle.memory_rules.specs.Count.{recallSum}
 use Rattle.memory_rules.specs.Promise.{Remembers}
-use Rattle.memory_rules.specs.Run.{recalled}
+use Rattle.memory_rules.specs.Run.{remembering, run, recalled}
 use Rattle.memory_rules.proofs.Collisions.{all-met}
 use Rattle.memory_rules.proofs.Frames.{goes, final}
-use Rattle.memory_rules.proofs.Logged.{run-loggable}
 use Rattle.memory_rules.proofs.Shared.{sum-first}
 use Rattle.memory_rules.proofs.Sweeps.{framesFirst, first-le, first-run}
 use Rattle.memory_rules.proofs.Totals.{total, most}
@@ -100,7 +100,7 @@ module _ (cs : List Card) (t : All Typed cs) (w : within cs ≡ true) where
         found = f;
         cards = ap (λ z. z .2 .0) run-is ∙ sym (plain .cards);
         frames = count;
-        counted = λ t. sent-counted t (recalled cs .exchanges) (unfold recalled in run-loggable mostFrames (recall (sends (blank ReqaSent true)) []) cs (unfold recalled in smalls)) ∙ count;
+        counted = λ t. sent-counted t (recalled cs .exchanges) (unfold recalled run in run-loggable remembering mostFrames (recall (sends (blank ReqaSent true)) []) cs (unfold recalled run in smalls)) ∙ count;
         fewer = omega (arith, count, sum-is, first-le (sort (idles cs)), plain .frames, plain-sum);
         once = rw (← many) (all-met found falls);
         total = λ h. rw count (rw many at (total found falls (rw many h)));

@@ -1,48 +1,42 @@
 -- The claim of T-14 of the call that runs is the claim of the rules. Assumes nothing.
-use mathlib.Core.Path.{_≡_, ap, _∙_}
+use mathlib.Core.Path.{_≡_, refl}
 use Prim.Native.Nat.{ℕ, _≤_}
 use mathlib.Core.Bool.{true}
-use mathlib.Core.List.{List, _++_}
-use lib.ListN.{length, take, drop}
+use mathlib.Core.List.{List}
+use lib.ListN.{take}
 use native.Mathlib.Omega.{arith}
-use Rattle.limits.specs.Limits.{logRoom, listRoom}
-use Rattle.rows.specs.Rows.{All, overlay}
-use Rattle.log.specs.Log.{logSize, listBytes}
+use Rattle.limits.specs.Limits.{logRoom}
+use Rattle.rows.specs.Rows.{All}
+use Rattle.log.specs.Log.{logSize}
 use Rattle.log.specs.RecordLaws.{log-size}
 use Rattle.sweep_rules.specs.Demand.{Typed}
-use Rattle.sweep_rules.specs.Terms.{within}
 use Rattle.memory_rules.specs.Promise.{Remembers}
-use Rattle.memory_rules.specs.Run.{recalled}
+use Rattle.memory_rules.specs.Run.{run, recalled}
 use Rattle.memory_rules.proofs.Remembers.{remembers}
-use Rattle.sweep.specs.Sweep.{call, done}
-use Rattle.memory_sweep.specs.CallLaws.{Promised, call-says}
+use Rattle.sweep.specs.Promise.{Terms}
+use Rattle.sweep.specs.Shared.{FitsRoom}
+use Rattle.sweep.specs.Sweep.{call}
+use Rattle.sweep_steps.specs.Loop.{sweptIf}
+use Rattle.memory_sweep.specs.CallLaws.{promised-by}
+use Rattle.memory_sweep.specs.Promise.{Recalls}
 use Rattle.memory_sweep.specs.Recalled.{recallOf}
 use Rattle.card.specs.declared.Card.{Card}
 use Rattle.sweep.specs.declared.Start.{Start}
 use Rattle.sweep.specs.declared.Swept.{Swept}
 
-module _ (cards : List Card) (n : ℕ) (typed : All Typed (take n cards)) (field : within (take n cards) ≡ true) where
-  whole : Remembers (take n cards) (recalled (take n cards))
-  whole = remembers (take n cards) typed field
+-- the loop, where it remembers, runs the rules of crate memory_rules
+pub swept-recalled : (cs : List Card) → sweptIf true cs ≡ recalled cs
+unfolding sweptIf recalled run
+swept-recalled cs = refl
 
-  -- log and list have room
-  pub log-fits : (log : List ℕ) → logRoom ≤ length log → logSize (recalled (take n cards) .exchanges) ≤ length log
-  log-fits log h = omega (arith, whole .log-fits 0, log-size 0 (recalled (take n cards) .exchanges))
+-- log and list have room
+pub fits-room : (cs : List Card) → FitsRoom recalled cs
+fits-room cs typed field =
+    let r : Remembers cs (recalled cs) = remembers cs typed field in
+    let l : logSize (recalled cs .exchanges) ≤ logRoom = omega (arith, r .log-fits 0, log-size 0 (recalled cs .exchanges)) in
+    (l, r .list-fits)
 
-  pub list-fits : (list : List ℕ) → listRoom ≤ length list → length (listBytes (recalled (take n cards) .found)) ≤ length list
-  list-fits list h = omega (arith, whole .list-fits)
-
-  -- a call that gives the run
-  pub kept : (s₀ : Start) (log list : List ℕ) (s : Swept) (log₁ list₁ : List ℕ) → call s log₁ list₁ ≡ done (s₀ .tick) cards n log list (recalled (take n cards))
-      → done (s₀ .tick) cards n log list (recalled (take n cards)) ≡ recallOf s₀ cards n log list → Promised s₀ cards n log list s log₁ list₁
-  unfolding done
-  kept s₀ log list s log₁ list₁ e k = (
-    e ∙ k,
-    record {
-      says = call-says s₀ cards n log list s log₁ list₁ (e ∙ k);
-      run = λ t. e;
-      remembers = λ t. whole;
-      list = λ t. ap (λ c. c .list) e ∙ ap (λ us. overlay list 0 (listBytes us)) (whole .found);
-      cards = λ t. ap (λ c. c .swept .cards) e ∙ ap (λ cs. cs ++ drop n cards) (whole .cards);
-    },
-  )
+-- a call that is the one of the definition
+pub promised : (s₀ : Start) (cards : List Card) (n : ℕ) (log list : List ℕ) (s : Swept) (log₁ list₁ : List ℕ) → call s log₁ list₁ ≡ recallOf s₀ cards n log list
+    → (Terms s₀ cards n log list → All Typed (take n cards)) → (call s log₁ list₁ ≡ recallOf s₀ cards n log list) × Recalls s₀ cards n log list s log₁ list₁
+promised s₀ cards n log list s log₁ list₁ e typed = promised-by s₀ cards n log list s log₁ list₁ e (λ t. remembers (take n cards) (typed t) (t .field))

@@ -2,31 +2,21 @@
 -- stated on the rules, in crate memory_rules.
 use mathlib.Core.Path.{_≡_}
 use Prim.Native.Nat.{ℕ}
-use mathlib.Core.Bool.{not, _||_}
 use mathlib.Core.List.{List}
-use lib.ListN.{length, take}
-use lib.Dec.{ltb}
-use Rattle.limits.specs.Limits.{mostCards, logRoom, listRoom}
-use Rattle.refusal.specs.Refusal.{Said, declineIf}
-use Rattle.reader.specs.Reader.{isNew}
-use Rattle.reader.specs.Calls.{turnSays}
+use lib.ListN.{take}
+use Rattle.refusal.specs.Refusal.{Said}
 use Rattle.sweep_rules.specs.Run.{sweep}
-use Rattle.sweep_rules.specs.Terms.{within}
 use Rattle.memory_rules.specs.Promise.{Remembers}
 use Rattle.memory_rules.specs.Run.{recalled}
-use Rattle.sweep.specs.Promise.{Terms, sweptSays}
+use Rattle.sweep.specs.Promise.{Terms, sweptSays, saysOf}
 use Rattle.sweep.specs.Sweep.{call, done}
 use Rattle.card.specs.declared.Card.{Card}
 use Rattle.sweep.specs.declared.Start.{Start}
 use Rattle.sweep.specs.declared.Swept.{Swept}
 
--- "A call tests 11, 1, 6": else as the run of the rules ends
+-- the call's numbers, as of any sweep
 abbrev pub recallSays : Start → List Card → ℕ → List ℕ → List ℕ → Said
-recallSays start cards n log list =
-    declineIf (not (isNew (start .reader .phase))) 11
-    (declineIf (ltb (length log) logRoom || ltb (length list) listRoom) 1
-    (declineIf (ltb mostCards n || not (within (take n cards))) 6
-    (turnSays (recalled (take n cards) .last))))
+recallSays start cards n log list = saysOf recalled start cards n log list
 
 -- s is what the call gives, log₁ and list₁ the lent log and list afterwards
 pub record Recalls (start : Start) (cs : List Card) (n : ℕ) (log₀ list₀ : List ℕ) (s : Swept) (log₁ list₁ : List ℕ) : Type 0 where

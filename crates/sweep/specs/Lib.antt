@@ -1,3 +1,4 @@
 pub mod Sweep
 pub mod Promise
+pub mod Shared
 pub mod CallLaws

@@ -10,7 +10,7 @@ use Rattle.refusal.specs.Refusal.{Said, declineIf}
 use Rattle.reader.specs.Reader.{isNew}
 use Rattle.reader.specs.Calls.{answerSays, turnSays}
 use Rattle.sweep_rules.specs.Demand.{Demand3}
-use Rattle.sweep_rules.specs.Run.{sweep}
+use Rattle.sweep_rules.specs.Run.{Out, sweep}
 use Rattle.sweep_rules.specs.Terms.{within}
 use Rattle.card.specs.declared.Card.{Card}
 use Rattle.sweep.specs.Sweep.{call, done}
@@ -31,13 +31,16 @@ pub record Terms (start : Start) (cards : List Card) (n : ℕ) (log list : List 
 abbrev pub sweptSays : Swept → Said
 sweptSays s = answerSays (s .answer) (s .reader)
 
--- "A call tests 11, 1, 6": else as the run of the rules ends
-abbrev pub sweepSays : Start → List Card → ℕ → List ℕ → List ℕ → Said
-sweepSays start cards n log list =
+-- "A call tests 11, 1, 6": else as the run W of the rules ends
+abbrev pub saysOf : (List Card → Out) → Start → List Card → ℕ → List ℕ → List ℕ → Said
+saysOf W start cards n log list =
     declineIf (not (isNew (start .reader .phase))) 11
     (declineIf (ltb (length log) logRoom || ltb (length list) listRoom) 1
     (declineIf (ltb mostCards n || not (within (take n cards))) 6
-    (turnSays (sweep (take n cards) .last))))
+    (turnSays (W (take n cards) .last))))
+
+abbrev pub sweepSays : Start → List Card → ℕ → List ℕ → List ℕ → Said
+sweepSays start cards n log list = saysOf sweep start cards n log list
 
 -- ---- what the call promises: s is what it gives, log₁ and list₁ the lent log and list afterwards
 pub record Sweeps (start : Start) (cs : List Card) (n : ℕ) (log₀ list₀ : List ℕ) (s : Swept) (log₁ list₁ : List ℕ) : Type 0 where

@@ -48,10 +48,14 @@ done t cards n log list o =
       list = overlay list 0 (listBytes (o .found));
     }
 
--- 11, 1 and 6 are tested in this order
-unfoldable pub sweepOf : Start → List Card → ℕ → List ℕ → List ℕ → Call
-sweepOf s cards n log list =
+-- the call of a sweep, W being its run over a field: 11, 1 and 6 are tested in this order
+unfoldable pub callOf : (List Card → Out) → Start → List Card → ℕ → List ℕ → List ℕ → Call
+callOf W s cards n log list =
     cond (not (isNew (s .reader .phase))) (call (refused (s .reader) cards NotDue) log list)
     (cond (ltb (length log) logRoom || ltb (length list) listRoom) (call (refused (s .reader) cards Room) log list)
     (cond (ltb mostCards n || not (within (take n cards))) (call (refused (s .reader) cards Argument) log list)
-    (done (s .tick) cards n log list (sweep (take n cards)))))
+    (done (s .tick) cards n log list (W (take n cards)))))
+
+-- the plain sweep's
+abbrev pub sweepOf : Start → List Card → ℕ → List ℕ → List ℕ → Call
+sweepOf s cards n log list = callOf sweep s cards n log list

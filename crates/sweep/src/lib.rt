@@ -1,12 +1,14 @@
 // Document 01, "The reader and the sweep": the plain sweep, over values.
+// What it shares with the sweep that remembers (T-14).
+pub mod within;
+
 ghost use mathlib.Core.Path.{_≡_};
-ghost use Rattle.sweep.specs.Sweep.{call, refused, sweepOf};
+ghost use Rattle.sweep.specs.Sweep.{call, sweepOf};
 ghost use Rattle.sweep.specs.Promise.{Sweeps};
 use card::Card;
 use limits::MOST_CARDS;
 use reader::Answer;
 use reader::Reader;
-use refusal::Refusal;
 
 // What a sweep begins with: a new reader, and the tick of the log's first record (T-09). Each record after it has the next tick; ticks wrap.
 pub struct Start {
@@ -25,20 +27,6 @@ pub struct Swept {
     pub found: usize,
 }
 
-// Declined before a frame is sent.
-fn refused(r: Reader, cards: [Card; MOST_CARDS], e: Refusal) -> Swept
-    ensures { λ s. ⌜ s ≡ refused r cards e ⌝ }
-{
-    Swept {
-        reader: r,
-        answer: Answer::Declines(e),
-        cards: cards,
-        frames: 0,
-        logged: 0,
-        found: 0,
-    }
-}
-
 // The reader finds every idle card of a field, the first n cards, and halts it. Each frame and what was heard after it goes into the lent log,
 // each UID into the lent list, from their fronts on. Declined, with all unchanged: 11, the reader is not new; 1, log or list is too short; 6,
 // the field is not one that a sweep takes.
@@ -52,34 +40,5 @@ pub fn sweep(
     ensures { λ s. ⌜ call s (now (log .exit)) (now (list .exit)) ≡ sweepOf start cards n (now (log .entry)) (now (list .entry)) ⌝ }
     ensures { λ s. ⌜ Sweeps start cards n (now (log .entry)) (now (list .entry)) s (now (log .exit)) (now (list .exit)) ⌝ }
 {
-    let r = start.reader;
-    let phase = r.phase;
-    if !reader::within::is_new(phase) {
-        return refused(r, cards, Refusal::NotDue);
-    }
-    if log.len() < limits::LOG_ROOM {
-        return refused(r, cards, Refusal::Room);
-    }
-    if list.len() < limits::LIST_ROOM {
-        return refused(r, cards, Refusal::Room);
-    }
-    if n > MOST_CARDS {
-        return refused(r, cards, Refusal::Argument);
-    }
-    if !sweep_steps::within::is_within(cards, n) {
-        return refused(r, cards, Refusal::Argument);
-    }
-    let p = sweep_steps::within::run(cards, n, start.tick, log, list);
-    let turn = p.turn;
-    let last = turn.reader;
-    let answer = turn.answer;
-    let after = p.cards;
-    Swept {
-        reader: last,
-        answer: answer,
-        cards: after,
-        frames: p.frames,
-        logged: p.logged,
-        found: p.found,
-    }
+    within::call(false, start, cards, n, log, list)
 }

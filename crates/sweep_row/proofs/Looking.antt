@@ -10,26 +10,29 @@ use Rattle.reader.specs.Reader.{frame, sends}
 use Rattle.field.specs.TakeLaws as take-laws
 use Rattle.sweep_rules.specs.Demand.{Typed}
 use Rattle.limits.specs.Limits.{mostCards}
-use Rattle.sweep_rules.specs.Run.{sweep}
 use Rattle.sweep_rules.specs.Terms.{within}
-use Rattle.sweep.specs.CallLaws.{Promised, no-field}
+use Rattle.memory.specs.Stored.{pathOf}
+use Rattle.sweep.specs.CallLaws.{ruled-out, no-field}
+use Rattle.sweep_steps.specs.Loop.{sweeper, firstRecall, sweptIf}
 use Rattle.sweep_steps.specs.RunLaws as run-laws
 use Rattle.sweep_steps.specs.Steps as steps
 use Rattle.card.specs.declared.Card.{Card}
+use Rattle.reader.specs.declared.Turn.{Turn}
 use Rattle.sweep.specs.declared.Start.{Start}
-use Rattle.sweep_row.specs.declared.pass.Progress.{Progress}
+use Rattle.sweep.specs.declared.Swept.{Swept}
+use Rattle.sweep_row.specs.declared.within.Progress.{Progress}
 use Rattle.sweep_row.specs.declared.seen.Seen.{Seen}
 use Rattle.sweep_row.specs.PadLaws.{take-padded, length-padded, take-row, take-start}
 use Rattle.sweep_row.specs.Row.{sweptRow, noCard, silence, noneSeen, seenWith, firstRow, goesOn, looks, again, back, stopped, decided, Ready}
 use Rattle.sweep_row.specs.SeenLaws.{SeenFrom, seen-none, seen-next, set-own}
-use Rattle.sweep_row.specs.Under.{padded, Begun, Looking, Taking, UnderIf, Under}
+use Rattle.sweep_row.specs.Under.{padded, Begun, Looking, Taking, Called, UnderIf, Under}
 
 -- it begins
-pub looking-first : (start : Start) (cards : List Card) (log list : List ℕ) → Begun start cards log list → 0 < length cards → Looking start cards log list (looks start (length cards)) cards log list
-looking-first start cards log list b h =
+pub looking-first : (b : Bool) (start : Start) (cards : List Card) (log list : List ℕ) → Begun start cards log list → 0 < length cards → Looking b start cards log list (looks b start (length cards)) cards log list
+looking-first b start cards log list begun h =
     let e : length cards ≡ suc (length cards - 1) = omega arith in
     record {
-      begun = b;
+      begun = begun;
       row = refl;
       log-row = refl;
       list-row = refl;
@@ -37,15 +40,16 @@ looking-first start cards log list b h =
       at = omega arith;
       bits = omega arith;
       tick = refl;
+      kind = refl;
       refused = refl;
-      seen = subst (λ i. SeenFrom cards i noneSeen) e (seen-none cards (b .few));
+      seen = subst (λ i. SeenFrom cards i noneSeen) e (seen-none cards (begun .few));
     }
 
-first-goes : goesOn firstRow ≡ true
+first-goes : goesOn (firstRow .swept) ≡ true
 unfolding goesOn firstRow sends
 first-goes = refl
 
-module _ (start : Start) (cards₀ : List Card) (log₀ list₀ : List ℕ) (p : Progress) (ws : List Card) (log list : List ℕ) (L : Looking start cards₀ log₀ list₀ p ws log list) where
+module _ (b : Bool) (start : Start) (cards₀ : List Card) (log₀ list₀ : List ℕ) (p : Progress) (ws : List Card) (log list : List ℕ) (L : Looking b start cards₀ log₀ list₀ p ws log list) where
   abbrev N : ℕ
   N = length cards₀
 
@@ -77,7 +81,7 @@ module _ (start : Start) (cards₀ : List Card) (log₀ list₀ : List ℕ) (p :
         (subst (λ k. (At N k .fits ≡ true → Typed (getD k (p .at) noCard)) → SeenFrom cards₀ (p .at) (At N k)) (sym (L .row)) (seen-next cards₀ (L .begun .few) (p .at) (L .at) (p .seen) (L .seen))) t
 
     -- the next card
-    pub looked-next : (p .at ≡ 0 → ⊥) → Looking start cards₀ log₀ list₀ (back p s) (set ws (p .at) c) log list
+    pub looked-next : (p .at ≡ 0 → ⊥) → Looking b start cards₀ log₀ list₀ (back p s) (set ws (p .at) c) log list
     looked-next z =
         let e : p .at ≡ suc (p .at - 1) = omega (arith, z) in
         record {
@@ -89,6 +93,7 @@ module _ (start : Start) (cards₀ : List Card) (log₀ list₀ : List ℕ) (p :
           at = omega (arith, L .at);
           bits = L .bits;
           tick = L .tick;
+          kind = L .kind;
           refused = L .refused;
           seen = subst (λ i. SeenFrom cards₀ i s) e seen;
         }
@@ -102,16 +107,17 @@ module _ (start : Start) (cards₀ : List Card) (log₀ list₀ : List ℕ) (p :
       unfolding within
       is-within = rw (le-leb N mostCards (L .begun .few)) (sym (all .fits))
 
-      starts : s .fits ≡ true → Taking start cards₀ log₀ list₀ (again p firstRow) (set ws (p .at) c) log list
-      unfolding firstRow steps.started
+      starts : s .fits ≡ true → Taking b start cards₀ log₀ list₀ (again p firstRow) (set ws (p .at) c) log list
+      unfolding firstRow sweptIf sends pathOf
       starts g =
           let e : N ≡ suc (p .cards - 1) = omega (arith, L .count, L .at) in
           let k : take N (padded N cards₀) ≡ cards₀ = take-padded N cards₀ refl in
-          let f : List ℕ = frame (firstRow .reader) in
-          let u : run-laws.Under (start .tick) (sweep cards₀) (padded N cards₀) N log₀ list₀ (steps.started (padded N cards₀)) log₀ list₀ =
-          subst (λ w. run-laws.Under (start .tick) (sweep w) (padded N cards₀) N log₀ list₀ (steps.started (padded N cards₀)) log₀ list₀) k (run-laws.under-none (start .tick) (padded N cards₀) N log₀ list₀ (length-padded N cards₀ refl (L .begun .few))) in
-          let v : run-laws.Under (start .tick) (sweep cards₀) (padded N cards₀) N log₀ list₀ (steps.started (padded N cards₀)) log list =
-          subst (λ x. run-laws.Under (start .tick) (sweep cards₀) (padded N cards₀) N log₀ list₀ (steps.started (padded N cards₀)) x list) (sym (L .log-row)) (subst (λ x. run-laws.Under (start .tick) (sweep cards₀) (padded N cards₀) N log₀ list₀ (steps.started (padded N cards₀)) log₀ x) (sym (L .list-row)) u) in
+          let f : List ℕ = frame (firstRow .swept .reader) in
+          let first : Turn = firstRecall .turn in
+          let U : List Card → List Card → List ℕ → List ℕ → Type 0 = λ w k x y. run-laws.Under (sweeper b) (start .tick) (sweptIf b w) (padded N cards₀) N log₀ list₀ firstRecall (steps.atFirst first k) x y in
+          let u : U cards₀ (padded N cards₀) log₀ list₀ =
+          subst (λ w. U w (padded N cards₀) log₀ list₀) k (run-laws.under-none (sweeper b) (start .tick) firstRecall (padded N cards₀) N log₀ list₀ refl (length-padded N cards₀ refl (L .begun .few))) in
+          let v : U cards₀ (padded N cards₀) log list = subst (λ x. U cards₀ (padded N cards₀) x list) (sym (L .log-row)) (subst (λ x. U cards₀ (padded N cards₀) log₀ x) (sym (L .list-row)) u) in
           record {
             begun = L .begun;
             field = is-within ∙ g;
@@ -123,22 +129,25 @@ module _ (start : Start) (cards₀ : List Card) (log₀ list₀ : List ℕ) (p :
             at = omega (arith, L .count, L .at);
             goes = first-goes;
             tick = L .tick;
-            sweep-at = subst (λ m. run-laws.Under (start .tick) (sweep cards₀) (padded N cards₀) N log₀ list₀ (steps.started (padded m cards₀)) log list) (sym (L .count)) v;
+            kind = L .kind;
+            sweep-at = subst (λ m. U cards₀ (padded m cards₀) log list) (sym (L .count)) v;
             take-at =
                 subst (λ w. take-laws.Under (silence .heard) cards₀ N f (silence .heard) w 0 (suc (p .cards - 1))) (sym same)
                 (subst (take-laws.Under (silence .heard) cards₀ N f (silence .heard) cards₀ 0) e (take-start f (silence .heard) cards₀));
           }
 
-      declines : s .fits ≡ false → Promised start cards₀ N log₀ list₀ (sweptRow (p .swept) (set ws (p .at) c)) log list
+      declines : s .fits ≡ false → Called b start cards₀ N log₀ list₀ (sweptRow (p .swept) (set ws (p .at) c)) log list
       declines g =
-          subst (λ x. Promised start cards₀ N log₀ list₀ (sweptRow (p .swept) (set ws (p .at) c)) x list) (sym (L .log-row))
-          (subst (λ x. Promised start cards₀ N log₀ list₀ (sweptRow (p .swept) (set ws (p .at) c)) log₀ x) (sym (L .list-row))
-          (no-field start cards₀ N log₀ list₀ (L .begun .new) (L .begun .log-room) (L .begun .list-room) (L .begun .few) (sweptRow (p .swept) (set ws (p .at) c)) (ap₂ sweptRow (L .refused) same) (ap within (take-row N cards₀ refl) ∙ is-within ∙ g)))
+          let w : Swept = sweptRow (p .swept) (set ws (p .at) c) in
+          subst (λ x. Called b start cards₀ N log₀ list₀ w x list) (sym (L .log-row))
+          (subst (λ x. Called b start cards₀ N log₀ list₀ w log₀ x) (sym (L .list-row))
+          (ruled-out (sweptIf b) start cards₀ N log₀ list₀ w
+          (no-field (sweptIf b) start cards₀ N log₀ list₀ (L .begun .new) (L .begun .log-room) (L .begun .list-room) (L .begun .few) w (ap₂ sweptRow (L .refused) same) (ap within (take-row N cards₀ refl) ∙ is-within ∙ g))))
 
-      pub looked-last : Under start cards₀ log₀ list₀ (decided p s) (set ws (p .at) c) log list
+      pub looked-last : Under b start cards₀ log₀ list₀ (decided p s) (set ws (p .at) c) log list
       unfolding decided
       looked-last = go (s .fits) refl
         where
-          go : (g : Bool) → s .fits ≡ g → Under start cards₀ log₀ list₀ (cond g (again p firstRow) (stopped (p .swept))) (set ws (p .at) c) log list
-          go true e = subst (λ g. UnderIf g false start cards₀ log₀ list₀ (again p firstRow) (set ws (p .at) c) log list) (sym first-goes) (starts e)
+          go : (g : Bool) → s .fits ≡ g → Under b start cards₀ log₀ list₀ (cond g (again p firstRow) (stopped (p .swept))) (set ws (p .at) c) log list
+          go true e = subst (λ g. UnderIf b g false start cards₀ log₀ list₀ (again p firstRow) (set ws (p .at) c) log list) (sym first-goes) (starts e)
           go false e = declines e

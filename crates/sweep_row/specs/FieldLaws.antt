@@ -9,7 +9,7 @@ use Rattle.reader.specs.Reader.{isNew}
 use Rattle.limits.specs.Limits.{mostCards, logRoom, listRoom}
 use Rattle.sweep_rules.specs.Run.{sweep}
 use Rattle.sweep_rules.specs.Terms.{within}
-use Rattle.sweep.specs.Sweep.{call, refused, done, sweepOf}
+use Rattle.sweep.specs.Sweep.{call, refused, done, callOf, sweepOf}
 use Rattle.card.specs.declared.Card.{Card}
 use Rattle.sweep.specs.declared.Start.{Start}
 use Rattle.refusal.specs.declared.Refusal.the-variants.{Room, Argument, NotDue}
@@ -21,5 +21,5 @@ pub row-is-field : (start : Start) (cards : List Card) (log list : List ℕ)
     (cond (ltb (length log) logRoom || ltb (length list) listRoom) (call (refused (start .reader) cards Room) log list)
     (cond (ltb mostCards (length cards) || not (within cards)) (call (refused (start .reader) cards Argument) log list)
     (done (start .tick) cards (length cards) log list (sweep cards))))
-unfolding sweepOf
+unfolding callOf
 row-is-field start cards log list = rw (take-row (length cards) cards refl)

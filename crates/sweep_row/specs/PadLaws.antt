@@ -1,4 +1,4 @@
--- A row of at most the limit of cards as an array of as many as the limit, so that the laws of the plain sweep tell of it. Assumes nothing.
+-- A row of at most the limit of cards as an array of as many as the limit, so that the laws of a sweep tell of it. Assumes nothing.
 use mathlib.Core.Path.{_≡_, refl, sym, ap, subst, _∙_}
 use Prim.Native.Nat.{ℕ, suc, _-_, _≤_, _<_}
 use native.Mathlib.Omega.{arith}
@@ -16,7 +16,7 @@ use Rattle.field.specs.Merge.{join}
 use Rattle.field.specs.TakeLaws as take-laws
 use Rattle.limits.specs.Limits.{mostCards}
 use Rattle.card.specs.declared.Card.{Card}
-use Rattle.sweep_row.specs.declared.pass.Progress.{Progress}
+use Rattle.sweep_row.specs.declared.within.Progress.{Progress}
 use Rattle.sweep_row.specs.Row.{noCard, heardIn, heardWith, heardCard, airWith}
 use Rattle.sweep_row.specs.Under.{padded}
 

@@ -10,7 +10,9 @@ use lib.Dec.{ltb, eqb}
 use Rattle.rows.specs.Rows.{overlay, any, same}
 use Rattle.uid.specs.Uid.{uidBytes}
 use Rattle.card.specs.Card.{takes, answers}
-use Rattle.reader.specs.Reader.{blank, sends, frame, hear, uid}
+use Rattle.reader.specs.Reader.{blank, sends, frame, uid}
+use Rattle.memory.specs.Memory.{Recall, hearIf}
+use Rattle.memory.specs.Stored.{pathOf, stored, memoryOf}
 use Rattle.field.specs.Merge.{join}
 use Rattle.log.specs.Log.{Exchange, sentHeard, exchangeBytes, exchangeSize, logSize, listBytes}
 use Rattle.sweep_rules.specs.Demand.{Typed}
@@ -22,6 +24,7 @@ use Rattle.sweep.specs.declared.Start.{Start}
 use Rattle.sweep.specs.declared.Swept.{Swept}
 use Rattle.card.specs.declared.Card.{Card}
 use Rattle.card.specs.declared.CardState.the-variants.{Off}
+use Rattle.memory.specs.declared.Path.{Path}
 use Rattle.reader.specs.declared.Reader.{Reader}
 use Rattle.reader.specs.declared.Turn.{Turn}
 use Rattle.reader.specs.declared.Phase.the-variants.{ReqaSent}
@@ -34,8 +37,9 @@ use Rattle.sweep_row.specs.declared.air.Air.{Air}
 use Rattle.sweep_row.specs.declared.air.HeardCard.{HeardCard}
 use Rattle.sweep_row.specs.declared.seen.Seen.{Seen}
 use Rattle.sweep_row.specs.declared.finish.Exchanged.{Exchanged}
-use Rattle.sweep_row.specs.declared.pass.Progress.{Progress}
-use Rattle.sweep_row.specs.declared.pass.Turned.{Turned}
+use Rattle.sweep_row.specs.declared.finish.RowReached.{RowReached}
+use Rattle.sweep_row.specs.declared.within.Progress.{Progress}
+use Rattle.sweep_row.specs.declared.within.Turned.{Turned}
 
 -- what the plain sweep gives, of a row that holds these cards afterwards
 abbrev pub sweptRow : RowSwept → List Card → Swept
@@ -83,33 +87,37 @@ seenWith s at n c =
 unfoldable pub exchangeWith : Reader → Air → Exchange
 exchangeWith r a = sentHeard (frame r) (heardIn a)
 
-unfoldable pub turnWith : Reader → Air → Turn
-turnWith r a = hear r (heardIn a)
+unfoldable pub exchangedWith : Bool → Reader → Path → Air → Exchanged
+exchangedWith b r w a = record { memory = memoryOf (hearIf b r (pathOf w) (heardIn a)); bytes = exchangeSize (exchangeWith r a) }
 
-unfoldable pub exchangedWith : Reader → Air → Exchanged
-exchangedWith r a = record { turn = turnWith r a; bytes = exchangeSize (exchangeWith r a) }
+-- the reader's turn and path after it
+unfoldable pub heardBy : Progress → Air → Recall
+heardBy p a = hearIf (p .remembers) (p .swept .reader) (pathOf (p .path)) (heardIn a)
 
-unfoldable pub finished : RowSwept → Air → RowSwept
-finished s a =
-    let t : Turn = turnWith (s .reader) a in
+unfoldable pub finished : Progress → Air → RowReached
+finished p a =
+    let m : Recall = heardBy p a in
     record {
-      reader = t .reader;
-      answer = t .answer;
-      frames = s .frames + 1;
-      logged = s .logged + exchangeSize (exchangeWith (s .reader) a);
-      found = s .found + length (foundBy t);
+      swept = record {
+        reader = m .turn .reader;
+        answer = m .turn .answer;
+        frames = p .swept .frames + 1;
+        logged = p .swept .logged + exchangeSize (exchangeWith (p .swept .reader) a);
+        found = p .swept .found + length (foundBy (m .turn));
+      };
+      path = stored (m .path);
     }
 
--- T-09: the tick of its first record, of a sweep that began with the tick t
-abbrev pub rowTick : ℕ → RowSwept → ℕ
-rowTick t s = t + 2 * s .frames
+-- T-09: the tick of its first record
+abbrev pub rowTick : Progress → ℕ
+rowTick p = p .tick + 2 * p .swept .frames
 
 -- log and list have room for it
-pub record Roomy (s : RowSwept) (a : Air) (log list : List ℕ) : Type 0 where
+pub record Roomy (p : Progress) (a : Air) (log list : List ℕ) : Type 0 where
   pub bits : a .bits ≤ length (a .heard)
-  pub log-room : s .logged + exchangeSize (exchangeWith (s .reader) a) ≤ length log
-  pub list-room : 11 * s .found + 11 * length (foundBy (turnWith (s .reader) a)) ≤ length list
-  pub more : s .frames < mostFrames
+  pub log-room : p .swept .logged + exchangeSize (exchangeWith (p .swept .reader) a) ≤ length log
+  pub list-room : 11 * p .swept .found + 11 * length (foundBy (heardBy p a .turn)) ≤ length list
+  pub more : p .swept .frames < mostFrames
 
 unfoldable pub goesOn : RowSwept → Bool
 goesOn s = ltb (s .frames) mostFrames && goes (s .answer)
@@ -122,8 +130,12 @@ refusedRow r e = record { reader = r; answer = Declines e; frames = 0; logged = 
 abbrev pub rowOf : Turn → RowSwept
 rowOf t = record { reader = t .reader; answer = t .answer; frames = 0; logged = 0; found = 0 }
 
-unfoldable pub firstRow : RowSwept
-firstRow = rowOf (sends (blank ReqaSent true))
+-- nothing is known
+abbrev pub noPath : Path
+noPath = record { row = replicate 120 0; known = 0 }
+
+unfoldable pub firstRow : RowReached
+firstRow = record { swept = rowOf (sends (blank ReqaSent true)); path = noPath }
 
 abbrev pub endRow : Out → RowSwept
 endRow o =
@@ -138,23 +150,61 @@ endRow o =
 -- ---- how far it is
 
 abbrev pub stopped : RowSwept → Progress
-stopped s = record { going = false; at = 0; swept = s; looking = false; cards = 0; seen = noneSeen; air = silence; tick = 0 }
+stopped s = record { going = false; at = 0; swept = s; looking = false; cards = 0; seen = noneSeen; air = silence; tick = 0; path = noPath; remembers = false }
 
--- the first pass over a row of n cards
-abbrev pub looks : Start → ℕ → Progress
-looks start n =
-    record { going = true; at = n - 1; swept = refusedRow (start .reader) Argument; looking = true; cards = n; seen = noneSeen; air = silence; tick = start .tick }
+-- the first pass over a row of n cards, of a sweep that remembers or of the plain one
+abbrev pub looks : Bool → Start → ℕ → Progress
+looks b start n =
+    record {
+      going = true;
+      at = n - 1;
+      swept = refusedRow (start .reader) Argument;
+      looking = true;
+      cards = n;
+      seen = noneSeen;
+      air = silence;
+      tick = start .tick;
+      path = noPath;
+      remembers = b;
+    }
 
 -- the next pass over the row
-abbrev pub again : Progress → RowSwept → Progress
-again p s = record { going = goesOn s; at = p .cards - 1; swept = s; looking = false; cards = p .cards; seen = p .seen; air = silence; tick = p .tick }
+abbrev pub again : Progress → RowReached → Progress
+again p f =
+    record {
+      going = goesOn (f .swept);
+      at = p .cards - 1;
+      swept = f .swept;
+      looking = false;
+      cards = p .cards;
+      seen = p .seen;
+      air = silence;
+      tick = p .tick;
+      path = f .path;
+      remembers = p .remembers;
+    }
 
 -- the next card of a pass
+abbrev onto : Progress → Seen → Air → Progress
+onto p s a =
+    record {
+      going = p .going;
+      at = p .at - 1;
+      swept = p .swept;
+      looking = p .looking;
+      cards = p .cards;
+      seen = s;
+      air = a;
+      tick = p .tick;
+      path = p .path;
+      remembers = p .remembers;
+    }
+
 abbrev pub onward : Progress → Air → Progress
-onward p a = record { going = p .going; at = p .at - 1; swept = p .swept; looking = p .looking; cards = p .cards; seen = p .seen; air = a; tick = p .tick }
+onward p a = onto p (p .seen) a
 
 abbrev pub back : Progress → Seen → Progress
-back p s = record { going = p .going; at = p .at - 1; swept = p .swept; looking = p .looking; cards = p .cards; seen = s; air = p .air; tick = p .tick }
+back p s = onto p s (p .air)
 
 -- all cards are seen
 unfoldable pub decided : Progress → Seen → Progress
@@ -171,7 +221,7 @@ abbrev pub airWith : Progress → Card → Air
 airWith p c = heardCard (p .air) (p .swept .reader) c .air
 
 unfoldable pub took : Progress → Card → Progress
-took p c = cond (eqb (p .at) 0) (again p (finished (p .swept) (airWith p c))) (onward p (airWith p c))
+took p c = cond (eqb (p .at) 0) (again p (finished p (airWith p c))) (onward p (airWith p c))
 
 unfoldable pub turnOf : Progress → Card → Turned
 turnOf p c =
@@ -180,17 +230,17 @@ turnOf p c =
 
 -- log and list afterwards
 unfoldable pub logOf : Progress → Card → List ℕ → List ℕ
-logOf p c log = cond (p .looking) log (cond (eqb (p .at) 0) (overlay log (p .swept .logged) (exchangeBytes (rowTick (p .tick) (p .swept)) (exchangeWith (p .swept .reader) (airWith p c)))) log)
+logOf p c log = cond (p .looking) log (cond (eqb (p .at) 0) (overlay log (p .swept .logged) (exchangeBytes (rowTick p) (exchangeWith (p .swept .reader) (airWith p c)))) log)
 
 unfoldable pub listOf : Progress → Card → List ℕ → List ℕ
-listOf p c list = cond (p .looking) list (cond (eqb (p .at) 0) (overlay list (11 * p .swept .found) (listBytes (foundBy (turnWith (p .swept .reader) (airWith p c))))) list)
+listOf p c list = cond (p .looking) list (cond (eqb (p .at) 0) (overlay list (11 * p .swept .found) (listBytes (foundBy (heardBy p (airWith p c) .turn)))) list)
 
 -- what a turn asks for: a place in the row, and room where it ends an exchange
 pub record Ready (p : Progress) (c : Card) (log list : List ℕ) : Type 0 where
   pub at : p .at < p .cards
   pub few : p .cards ≤ mostCards
   pub bits : p .air .bits ≤ length (p .air .heard)
-  pub room : p .looking ≡ false → p .at ≡ 0 → Roomy (p .swept) (airWith p c) log list
+  pub room : p .looking ≡ false → p .at ≡ 0 → Roomy p (airWith p c) log list
 
 -- a turn
 pub record Turns (p : Progress) (c : Card) (log list : List ℕ) (t : Turned) (log₁ list₁ : List ℕ) : Type 0 where

@@ -10,11 +10,11 @@ use Rattle.log.specs.Log.{exchangeBytes, listBytes}
 use Rattle.sweep_rules.specs.Demand.{Typed}
 use Rattle.sweep_steps.specs.Steps.{foundBy}
 use Rattle.card.specs.declared.Card.{Card}
-use Rattle.sweep_row.specs.declared.RowSwept.{RowSwept}
 use Rattle.sweep_row.specs.declared.air.HeardCard.{HeardCard}
-use Rattle.sweep_row.specs.declared.pass.Progress.{Progress}
-use Rattle.sweep_row.specs.declared.pass.Turned.{Turned}
-use Rattle.sweep_row.specs.Row.{heardCard, seenWith, finished, rowTick, exchangeWith, turnWith, again, onward, looked, took, turnOf, logOf, listOf, Turns}
+use Rattle.sweep_row.specs.declared.finish.RowReached.{RowReached}
+use Rattle.sweep_row.specs.declared.within.Progress.{Progress}
+use Rattle.sweep_row.specs.declared.within.Turned.{Turned}
+use Rattle.sweep_row.specs.Row.{heardCard, seenWith, finished, rowTick, exchangeWith, heardBy, again, onward, looked, took, turnOf, logOf, listOf, Turns}
 
 abbrev pub turned : Card → Progress → Turned
 turned c p = record { card = c; next = p }
@@ -38,17 +38,17 @@ module _ (p : Progress) (c : Card) (log list : List ℕ) where
       }
 
   module _ (l : p .looking ≡ false) (h : HeardCard) (e : h ≡ heardCard (p .air) (p .swept .reader) c) where
-    pub turns-end : p .at ≡ 0 → (f : RowSwept) → f ≡ finished (p .swept) (h .air) → (q : Progress) → q ≡ again p f
-        → (log₁ list₁ : List ℕ) → log₁ ≡ overlay log (p .swept .logged) (exchangeBytes (rowTick (p .tick) (p .swept)) (exchangeWith (p .swept .reader) (h .air)))
-        → list₁ ≡ overlay list (11 * p .swept .found) (listBytes (foundBy (turnWith (p .swept .reader) (h .air))))
+    pub turns-end : p .at ≡ 0 → (f : RowReached) → f ≡ finished p (h .air) → (q : Progress) → q ≡ again p f
+        → (log₁ list₁ : List ℕ) → log₁ ≡ overlay log (p .swept .logged) (exchangeBytes (rowTick p) (exchangeWith (p .swept .reader) (h .air)))
+        → list₁ ≡ overlay list (11 * p .swept .found) (listBytes (foundBy (heardBy p (h .air) .turn)))
         → Turns p c log list (turned (h .card) q) log₁ list₁
     unfolding turnOf took logOf listOf heardCard
     turns-end z f ef q eq log₁ list₁ a b =
         let t : eqb (p .at) 0 ≡ true = eq-eqb (p .at) 0 z in
         record {
-          is = ap₂ turned (ap (λ k. k .card) e) (eq ∙ ap (again p) (ef ∙ ap (λ k. finished (p .swept) (k .air)) e) ∙ yes (eqb (p .at) 0) _ _ t) ∙ no (p .looking) _ _ l;
-          log-row = a ∙ ap (λ k. overlay log (p .swept .logged) (exchangeBytes (rowTick (p .tick) (p .swept)) (exchangeWith (p .swept .reader) (k .air)))) e ∙ yes (eqb (p .at) 0) _ _ t ∙ no (p .looking) _ _ l;
-          list-row = b ∙ ap (λ k. overlay list (11 * p .swept .found) (listBytes (foundBy (turnWith (p .swept .reader) (k .air))))) e ∙ yes (eqb (p .at) 0) _ _ t ∙ no (p .looking) _ _ l;
+          is = ap₂ turned (ap (λ k. k .card) e) (eq ∙ ap (again p) (ef ∙ ap (λ k. finished p (k .air)) e) ∙ yes (eqb (p .at) 0) _ _ t) ∙ no (p .looking) _ _ l;
+          log-row = a ∙ ap (λ k. overlay log (p .swept .logged) (exchangeBytes (rowTick p) (exchangeWith (p .swept .reader) (k .air)))) e ∙ yes (eqb (p .at) 0) _ _ t ∙ no (p .looking) _ _ l;
+          list-row = b ∙ ap (λ k. overlay list (11 * p .swept .found) (listBytes (foundBy (heardBy p (k .air) .turn)))) e ∙ yes (eqb (p .at) 0) _ _ t ∙ no (p .looking) _ _ l;
           typed = λ f g. absurd (false≢true (sym l ∙ g));
         }
 

@@ -5,12 +5,14 @@ ghost use Prim.Native.Nat.{_≤_};
 ghost use lib.ListN.{length};
 ghost use Rattle.rows.specs.Rows.{overlay};
 ghost use Rattle.log.specs.Log.{logBytes, logSize, listBytes};
-ghost use Rattle.sweep_rules.specs.Run.{sweep};
-ghost use Rattle.sweep_row.specs.Row.{refusedRow, firstRow, endRow};
+ghost use Rattle.sweep_steps.specs.Loop.{sweptIf};
+ghost use Rattle.sweep_row.specs.Row.{refusedRow, noPath, firstRow, endRow};
 use crate::RowSwept;
+use crate::finish::RowReached;
 use card::Card;
 use card::CardState;
 use limits::MOST_CARDS;
+use memory::Path;
 use reader::Answer;
 use reader::Phase;
 use reader::Reader;
@@ -31,28 +33,40 @@ pub fn refused(r: Reader, e: Refusal) -> RowSwept
     }
 }
 
+// Nothing is known.
+pub fn no_path() -> Path
+    ensures { λ w. ⌜ w ≡ noPath ⌝ }
+{
+    Path {
+        row: [0u8; 120],
+        known: 0,
+    }
+}
+
 // REQA is out.
-pub fn first() -> RowSwept
+pub fn first() -> RowReached
     ensures { λ s. ⌜ s ≡ firstRow ⌝ }
 {
     let t = reader::within::sends(reader::within::blank(Phase::ReqaSent, true));
     let r = t.reader;
     let a = t.answer;
-    RowSwept {
+    let s = RowSwept {
         reader: r,
         answer: a,
         frames: 0,
         logged: 0,
         found: 0,
-    }
+    };
+    let w = no_path();
+    RowReached { swept: s, path: w }
 }
 
 // The sweep over an empty row: REQA and silence.
-pub fn empty(tick: u32, log: &mut [u8], list: &mut [u8]) -> RowSwept
-    requires { ⌜ (logSize (sweep [] .exchanges) ≤ length (now log)) × (length (listBytes (sweep [] .found)) ≤ length (now list)) ⌝ }
-    ensures { λ s. ⌜ s ≡ endRow (sweep []) ⌝ }
-    ensures { λ s. ⌜ now (log .exit) ≡ overlay (now (log .entry)) 0 (logBytes tick (sweep [] .exchanges)) ⌝ }
-    ensures { λ s. ⌜ now (list .exit) ≡ overlay (now (list .entry)) 0 (listBytes (sweep [] .found)) ⌝ }
+pub fn empty(remembers: bool, tick: u32, log: &mut [u8], list: &mut [u8]) -> RowSwept
+    requires { ⌜ (logSize (sweptIf remembers [] .exchanges) ≤ length (now log)) × (length (listBytes (sweptIf remembers [] .found)) ≤ length (now list)) ⌝ }
+    ensures { λ s. ⌜ s ≡ endRow (sweptIf remembers []) ⌝ }
+    ensures { λ s. ⌜ now (log .exit) ≡ overlay (now (log .entry)) 0 (logBytes tick (sweptIf remembers [] .exchanges)) ⌝ }
+    ensures { λ s. ⌜ now (list .exit) ≡ overlay (now (list .entry)) 0 (listBytes (sweptIf remembers [] .found)) ⌝ }
 {
     let u = Uid {
         size: UidSize::Single,
@@ -64,8 +78,9 @@ pub fn empty(tick: u32, log: &mut [u8], list: &mut [u8]) -> RowSwept
         index: 0,
         state: CardState::Off,
     };
-    let p = sweep_steps::within::run([c; MOST_CARDS], 0, tick, log, list);
-    let t = p.turn;
+    let p = sweep_steps::within::run(remembers, [c; MOST_CARDS], 0, tick, log, list);
+    let m = p.memory;
+    let t = m.turn;
     let r = t.reader;
     let a = t.answer;
     RowSwept {

@@ -5,22 +5,38 @@ ghost use lib.ListN.{length};
 ghost use Rattle.rows.specs.Rows.{overlay};
 ghost use Rattle.log.specs.Log.{exchangeBytes, exchangeSize, listBytes};
 ghost use Rattle.sweep_steps.specs.Steps.{foundBy, tickBound};
-ghost use Rattle.sweep_row.specs.Row.{goesOn, exchangedWith, finished, Roomy, exchangeWith, turnWith, rowTick};
+ghost use Rattle.sweep_row.specs.Row.{goesOn, exchangedWith, finished, Roomy, exchangeWith, heardBy, rowTick};
 use crate::RowSwept;
 use crate::air::Air;
+use crate::within::Progress;
+use memory::Memory;
+use memory::Path;
 use reader::Reader;
-use reader::Turn;
 
-// The reader's turn after an exchange, and the bytes of log that it took.
+// The reader's turn and path after an exchange, and the bytes of log that it took.
 pub struct Exchanged {
-    pub turn: Turn,
+    pub memory: Memory,
     pub bytes: usize,
 }
 
-// The records of the reader's frame and of what was heard, and the reader's turn on it.
-fn exchange(r: Reader, a: Air, log: &mut [u8], at: usize, tick: usize) -> Exchanged
+// What a sweep gave so far, and the reader's path.
+pub struct RowReached {
+    pub swept: RowSwept,
+    pub path: Path,
+}
+
+// The records of the reader's frame and of what was heard, and what the reader does with it.
+fn exchange(
+    remembers: bool,
+    r: Reader,
+    path: Path,
+    a: Air,
+    log: &mut [u8],
+    at: usize,
+    tick: usize,
+) -> Exchanged
     requires { ⌜ (a .bits ≤ length (a .heard)) × (at + exchangeSize (exchangeWith r a) ≤ length (now log)) × (tick < tickBound) ⌝ }
-    ensures { λ x. ⌜ x ≡ exchangedWith r a ⌝ }
+    ensures { λ x. ⌜ x ≡ exchangedWith remembers r path a ⌝ }
     ensures { λ x. ⌜ now (log .exit) ≡ overlay (now (log .entry)) at (exchangeBytes tick (exchangeWith r a)) ⌝ }
 {
     let mut frame = [0u8; 81];
@@ -29,34 +45,42 @@ fn exchange(r: Reader, a: Air, log: &mut [u8], at: usize, tick: usize) -> Exchan
     let heard = a.heard;
     let m = a.bits;
     let bytes = sweep_steps::within::put_exchange(log, at, tick, &frame[..bits], &heard[..m]);
-    let next = reader::within::hear_rules(r, &heard[..m]);
+    let next = memory::within::hear_if(remembers, r, path, &heard[..m]);
     Exchanged {
-        turn: next,
+        memory: next,
         bytes: bytes,
     }
 }
 
-// One exchange more in the log of a sweep that began with the tick start, and in the list the UID that it found.
-pub fn finish(s: RowSwept, a: Air, start: u32, log: &mut [u8], list: &mut [u8]) -> RowSwept
-    requires { ⌜ Roomy s a (now log) (now list) ⌝ }
-    ensures { λ x. ⌜ x ≡ finished s a ⌝ }
-    ensures { λ x. ⌜ now (log .exit) ≡ overlay (now (log .entry)) (s .logged) (exchangeBytes (rowTick start s) (exchangeWith (s .reader) a)) ⌝ }
-    ensures { λ x. ⌜ now (list .exit) ≡ overlay (now (list .entry)) (11 * s .found) (listBytes (foundBy (turnWith (s .reader) a))) ⌝ }
+// One exchange more in the log, and in the list the UID that it found.
+pub fn finish(p: Progress, a: Air, log: &mut [u8], list: &mut [u8]) -> RowReached
+    requires { ⌜ Roomy p a (now log) (now list) ⌝ }
+    ensures { λ x. ⌜ x ≡ finished p a ⌝ }
+    ensures { λ x. ⌜ now (log .exit) ≡ overlay (now (log .entry)) (p .swept .logged) (exchangeBytes (rowTick p) (exchangeWith (p .swept .reader) a)) ⌝ }
+    ensures { λ x. ⌜ now (list .exit) ≡ overlay (now (list .entry)) (11 * p .swept .found) (listBytes (foundBy (heardBy p a .turn))) ⌝ }
 {
+    let s = p.swept;
     let r = s.reader;
+    let path = p.path;
     let at = s.logged;
-    let tick = start as usize + 2 * s.frames;
-    let x = exchange(r, a, log, at, tick);
-    let t = x.turn;
+    let tick = p.tick as usize + 2 * s.frames;
+    let x = exchange(p.remembers, r, path, a, log, at, tick);
+    let m = x.memory;
+    let t = m.turn;
     let found = sweep_steps::within::put_found(t, list, 11 * s.found);
     let next = t.reader;
     let answer = t.answer;
-    RowSwept {
+    let f = RowSwept {
         reader: next,
         answer: answer,
         frames: s.frames + 1,
         logged: at + x.bytes,
         found: s.found + found,
+    };
+    let after = m.path;
+    RowReached {
+        swept: f,
+        path: after,
     }
 }
 

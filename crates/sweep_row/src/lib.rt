@@ -33,9 +33,9 @@ pub fn sweep_row(start: Start, cards: &mut [Card], log: &mut [u8], list: &mut [u
     ensures { λ s. ⌜ call (sweptRow s (now (cards .exit))) (now (log .exit)) (now (list .exit)) ≡ sweepOf start (now (cards .entry)) (length (now (cards .entry))) (now (log .entry)) (now (list .entry)) ⌝ }
     ensures { λ s. ⌜ Sweeps start (now (cards .entry)) (length (now (cards .entry))) (now (log .entry)) (now (list .entry)) (sweptRow s (now (cards .exit))) (now (log .exit)) (now (list .exit)) ⌝ }
 {
-    let mut p = pass::opening(start, cards.len(), log, list);
+    let mut p = within::opening(false, start, cards.len(), log, list);
     while p.going {
-        let t = pass::turn(p, cards[p.at], log, list);
+        let t = within::turn(p, cards[p.at], log, list);
         cards[p.at] = t.card;
         p = t.next;
     }

@@ -21,7 +21,7 @@ use Rattle.log.specs.Log.{exchangeBytes, logBytes, exchangeSize, logSize}
 use Rattle.log.specs.RecordLaws.{exchange-size, log-size}
 use Rattle.sweep_rules.specs.Demand.{Typed, idle, halted, Descending, Demand3}
 use Rattle.limits.specs.Limits.{mostCards, mostFrames, framesBound}
-use Rattle.sweep_rules.specs.Run.{sweep}
+use Rattle.sweep_rules.specs.Run.{plain, run, sweep}
 use Rattle.sweep_rules.specs.Terms.{within}
 use Rattle.sweep_rules.proofs.Abstract.{sort, frames, Apart}
 use Rattle.sweep_rules.proofs.Falling.{sort-falling}
@@ -153,7 +153,7 @@ module _ (cs : List Card) (s : All Fits cs) (few : length cs ≤ mostCards) (d :
         descending = rows-fall;
         cards = ap (λ w. w .2 .0) swept;
         frames = count;
-        counted = λ t. sent-counted t (sweep cs .exchanges) (unfold sweep in run-loggable mostFrames (sends (blank ReqaSent true)) cs (unfold sweep in smalls)) ∙ count;
+        counted = λ t. sent-counted t (sweep cs .exchanges) (unfold sweep run in run-loggable plain mostFrames (sends (blank ReqaSent true)) cs (unfold sweep run in smalls)) ∙ count;
         bound = rw (count, ← sum-is) (rw length-idles at (sweep-bound (idles cs) whole));
         short = λ t. all-weaken (sweep cs .exchanges) (λ e h. rw (exchange-size t e) (h .1)) smalls;
         log-fits = λ t. rw (log-size t (sweep cs .exchanges)) (omega (arith, log-bound mostCards few-idles));

@@ -1,4 +1,4 @@
--- The records of a run can be read back: each frame is bits, and short. Assumes nothing.
+-- The records of a run, by any reader, can be read back: each frame is bits, and short. Assumes nothing.
 use mathlib.Core.Path.{_≡_, refl}
 use Prim.Native.Nat.{ℕ, zero, suc, _+_, _*_, _≤_, _<_}
 use native.Mathlib.Omega.{arith}
@@ -8,13 +8,13 @@ use lib.ListN.{length, length-append}
 use Rattle.rows.specs.EachLaws.{all-zip}
 use Rattle.rows.specs.Rows.{All, Bits, clean}
 use Rattle.reader.specs.FrameLaws.{frame-bits}
-use Rattle.reader.specs.Reader.{frame, hear}
+use Rattle.reader.specs.Reader.{frame}
 use Rattle.field.specs.Field.{allTake, heardFrom}
 use Rattle.log.specs.Calls.{rowSize}
 use Rattle.log.specs.CountLaws.{Loggable}
 use Rattle.log.specs.Log.{Exchange, tickBytes, sentRecord, heardRecord, exchangeBytes, exchangeSize}
 use Rattle.log.specs.RecordLaws.{length-sent, length-heard-clean, length-heard-collided}
-use Rattle.sweep_rules.specs.Run.{Out, before, ended, follow, run, finding}
+use Rattle.sweep_rules.specs.Run.{Out, before, ended, follow, Runner, runOf, finding}
 use Rattle.card.specs.declared.Card.{Card}
 use Rattle.reader.specs.declared.Answer.{Answer}
 use Rattle.reader.specs.declared.Answer.the-variants.{Sends, Finds, Selects, Finishes, Declines}
@@ -22,14 +22,14 @@ use Rattle.reader.specs.declared.Turn.{Turn}
 
 -- ---- each frame is bits
 
-run-bits : (fuel : ℕ) (t : Turn) (cs : List Card) → All (λ e. Bits (e .sent)) (run fuel t cs .exchanges)
-unfolding run before finding ended
-run-bits zero t cs = tt
-run-bits (suc fuel) t cs =
-    let f : List ℕ = frame (t .reader) in
-    let t′ : Turn = hear (t .reader) (heardFrom f cs) in
+run-bits : {S : Type 0} (R : Runner S) (fuel : ℕ) (s : S) (cs : List Card) → All (λ e. Bits (e .sent)) (runOf R fuel s cs .exchanges)
+unfolding runOf before finding ended
+run-bits R zero s cs = tt
+run-bits {S = S} R (suc fuel) s cs =
+    let f : List ℕ = frame (R .turn s .reader) in
+    let s′ : S = R .hears s (heardFrom f cs) in
     let cs′ : List Card = allTake f cs in
-    (frame-bits (t .reader), on (t′ .answer) t′ cs′ (run fuel t′ cs′) (run-bits fuel t′ cs′))
+    (frame-bits (R .turn s .reader), on (R .turn s′ .answer) (R .turn s′) cs′ (runOf R fuel s′ cs′) (run-bits R fuel s′ cs′))
   where
     on : (a : Answer) (t : Turn) (cs : List Card) (o : Out) → All (λ e. Bits (e .sent)) (o .exchanges) → All (λ e. Bits (e .sent)) (follow a t cs o .exchanges)
     on (Sends n) t cs o h = h
@@ -47,7 +47,7 @@ heard-least x h = go (clean h) refl
     go true e = omega (arith, length-heard-clean x h e)
     go false e = omega (arith, length-heard-collided x h e)
 
-pub loggable : (e : Exchange) → Bits (e .sent) → (0 < length (e .sent)) × (exchangeSize e ≤ 27) → Loggable e
+loggable : (e : Exchange) → Bits (e .sent) → (0 < length (e .sent)) × (exchangeSize e ≤ 27) → Loggable e
 unfolding exchangeSize exchangeBytes
 loggable e b h =
     let s : List ℕ = sentRecord (tickBytes 0) (e .sent) in
@@ -60,6 +60,6 @@ loggable e b h =
       heard-fits = omega (arith, n, heard-least (tickBytes 1) (e .heard));
     }
 
-pub run-loggable : (fuel : ℕ) (t : Turn) (cs : List Card) → All (λ e. (0 < length (e .sent)) × (exchangeSize e ≤ 27)) (run fuel t cs .exchanges)
-    → All Loggable (run fuel t cs .exchanges)
-run-loggable fuel t cs h = all-zip (run fuel t cs .exchanges) loggable (run-bits fuel t cs) h
+pub run-loggable : {S : Type 0} (R : Runner S) (fuel : ℕ) (s : S) (cs : List Card) → All (λ e. (0 < length (e .sent)) × (exchangeSize e ≤ 27)) (runOf R fuel s cs .exchanges)
+    → All Loggable (runOf R fuel s cs .exchanges)
+run-loggable R fuel s cs h = all-zip (runOf R fuel s cs .exchanges) loggable (run-bits R fuel s cs) h

@@ -25,7 +25,7 @@ use Rattle.field.specs.HeardLaws.{reads-atqa, length-atqas, length-answer, read
 use Rattle.field.specs.Merge.{merge}
 use Rattle.log.specs.Log.{sentHeard}
 use Rattle.sweep_rules.specs.Demand.{halted}
-use Rattle.sweep_rules.specs.Run.{Out, before, ended, follow, run, finding}
+use Rattle.sweep_rules.specs.Run.{Out, before, ended, follow, runOf, run, finding}
 use Rattle.sweep_rules.proofs.Abstract.{strips, heard, sort, frames, Apart}
 use Rattle.sweep_rules.proofs.Early.{law-early-32}
 use Rattle.sweep_rules.proofs.Idle.{idles, Fits, idlers, rowIn, sizes}
@@ -65,13 +65,13 @@ goes f t F = view (follow (t .answer) t F (run f t F))
 
 tick : (f : ℕ) (r : Reader) (t : Turn) (F F′ : List Card) (h : List ℕ) (v : Vw) → heardFrom (frame r) F ≡ h → allTake (frame r) F ≡ F′ → hear r h ≡ t → small (sentHeard (frame r) h) ≡ true
     → goes f t F′ ≡ v → goes (suc f) (sends r) F ≡ (v .0, suc (v .1), v .2)
-unfolding goes run before view allSmall sends
+unfolding goes run runOf before view allSmall sends
 tick f r t F F′ h v e₁ e₂ e₃ e₄ e₅ = rw (e₁, e₂, e₃, e₄) (ap (λ w. (w .0, suc (w .1), w .2)) e₅)
 
 -- the same where the turn announces a UID
 tick-found : (f : ℕ) (r : Reader) (t : Turn) (F F′ : List Card) (h : List ℕ) (v : Vw) → heardFrom (frame r) F ≡ h → allTake (frame r) F ≡ F′ → hear r h ≡ t → small (sentHeard (frame r) h) ≡ true
     → goes f t F′ ≡ v → goes (suc f) (finds r) F ≡ (uidBytes (r .uid) ∷ v .0, suc (v .1), v .2)
-unfolding goes run before finding view allSmall finds
+unfolding goes run runOf before finding view allSmall finds
 tick-found f r t F F′ h v e₁ e₂ e₃ e₄ e₅ = rw (e₁, e₂, e₃, e₄) (ap (λ w. (uidBytes (r .uid) ∷ w .0, suc (w .1), w .2)) e₅)
 
 -- SELECT and a clean SAK
@@ -190,7 +190,7 @@ module _ (f : ℕ) (F : List Card) (hF : All Fits F) (v : Vw) where
       ∙ ap (λ u. (u ∷ v .0, suc (v .1), v .2)) (found-closing P (lastSak P F) (whole-found P e))
 
 stop-law : (f : ℕ) (F : List Card) → All Fits F → idles F ≡ [] → goes (suc f) asking F ≡ ([], 1, (map halted F, true, turn (blank Finished false) Finishes))
-unfolding goes asking sends run before ended view allSmall frame hear hearAtqa isNil merge idles sizes
+unfolding goes asking sends run runOf before ended view allSmall frame hear hearAtqa isNil merge idles sizes
 stop-law f F hF e =
     let n : idlers F ≡ [] = map-nil (idlers F) e in
     let h : heardFrom reqa F ≡ [] = hear-req F hF ∙ rw n in

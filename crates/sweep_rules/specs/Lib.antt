@@ -1,4 +1,5 @@
 pub mod Run
+pub mod RunLaws
 pub mod Terms
 pub mod TermTable
 pub mod Demand

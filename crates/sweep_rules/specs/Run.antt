@@ -42,15 +42,27 @@ follow Selects t cs o = ended cs t
 follow Finishes t cs o = ended cs t
 follow (Declines e) t cs o = ended cs t
 
--- a turn t whose reader's frame is out, and the field: what comes of it
-unfoldable pub run : ℕ → Turn → List Card → Out
-run zero t cs = ended cs t
-run (suc fuel) t cs =
-    let f : List ℕ = frame (t .reader) in
+-- a reader as a run sees it, whatever its state: the turn that it is at, and what comes of a row that it hears
+pub record Runner (S : Type 0) : Type 0 where
+  pub turn : S → Turn
+  pub hears : S → List ℕ → S
+
+-- a state s in which the reader's frame is out, and the field: what comes of it
+unfoldable pub runOf : {S : Type 0} → Runner S → ℕ → S → List Card → Out
+runOf R zero s cs = ended cs (R .turn s)
+runOf R (suc fuel) s cs =
+    let f : List ℕ = frame (R .turn s .reader) in
     let h : List ℕ = heardFrom f cs in
     let cs′ : List Card = allTake f cs in
-    let t′ : Turn = hear (t .reader) h in
-    before (sentHeard f h) (follow (t′ .answer) t′ cs′ (run fuel t′ cs′))
+    let s′ = R .hears s h in
+    before (sentHeard f h) (follow (R .turn s′ .answer) (R .turn s′) cs′ (runOf R fuel s′ cs′))
+
+-- the reader of document 01: its turn is all of its state
+abbrev pub plain : Runner Turn
+plain = record { turn = λ t. t; hears = λ t h. hear (t .reader) h }
+
+unfoldable pub run : ℕ → Turn → List Card → Out
+run fuel t cs = runOf plain fuel t cs
 
 -- a sweep
 unfoldable pub sweep : List Card → Out

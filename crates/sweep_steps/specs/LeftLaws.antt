@@ -21,8 +21,7 @@ use Rattle.card.specs.declared.Card.{Card}
 use Rattle.reader.specs.declared.Turn.{Turn}
 use Rattle.reader.specs.declared.Answer.{Answer}
 use Rattle.reader.specs.declared.Answer.the-variants.{Sends, Finds, Selects, Finishes, Declines}
-use Rattle.sweep_steps.specs.Steps.{goes, foundIn, foundBy, onto, ends, nextExchange, nextTick}
-use Rattle.sweep_steps.specs.declared.within.Progress.{Progress}
+use Rattle.sweep_steps.specs.Steps.{goes, foundIn, foundBy, Reached, atFirst, onto, ends, nextExchange, nextTick}
 
 -- ---- after an answer
 
@@ -109,7 +108,7 @@ length-after cards n f h =
 -- ---- how far a sweep is
 
 -- the whole run is W, over the first n of cards₀ with log₀ and list₀, its first tick t; so far it is at p, log and list, and L is left
-pub record Leaves (t : ℕ) (W : Out) (cards₀ : List Card) (n : ℕ) (log₀ list₀ : List ℕ) (L : Out) (p : Progress) (log list : List ℕ) : Type 0 where
+pub record Leaves (t : ℕ) (W : Out) (cards₀ : List Card) (n : ℕ) (log₀ list₀ : List ℕ) (L : Out) (p : Reached) (log list : List ℕ) : Type 0 where
   pub full : length (p .cards) ≡ mostCards
   pub log-size : length log ≡ length log₀
   pub list-size : length list ≡ length list₀
@@ -125,7 +124,7 @@ pub record Leaves (t : ℕ) (W : Out) (cards₀ : List Card) (n : ℕ) (log₀ l
 
 -- before the first exchange all is left
 pub leaves-all : (t : ℕ) (cards : List Card) (n : ℕ) (log list : List ℕ) (v : Turn) (W : Out) → length cards ≡ mostCards
-    → Leaves t W cards n log list W (record { turn = v; cards = cards; logged = 0; frames = 0; found = 0 }) log list
+    → Leaves t W cards n log list W (atFirst v cards) log list
 leaves-all t cards n log list v W h =
     let z : t + 2 * 0 ≡ t = omega arith in
     record {
@@ -143,11 +142,11 @@ leaves-all t cards n log list v W h =
       others = refl;
     }
 
-made : (a : Turn) (b : List Card) (c d e : ℕ) (q : Progress) → a ≡ q .turn → b ≡ q .cards → c ≡ q .logged → d ≡ q .frames → e ≡ q .found
-    → _≡_ {A = Progress} (record { turn = a; cards = b; logged = c; frames = d; found = e }) q
+made : (a : Turn) (b : List Card) (c d e : ℕ) (q : Reached) → a ≡ q .turn → b ≡ q .cards → c ≡ q .logged → d ≡ q .frames → e ≡ q .found
+    → _≡_ {A = Reached} (record { turn = a; cards = b; logged = c; frames = d; found = e }) q
 made a b c d e q ea eb ec ed ee = rw (ea, eb, ec, ed, ee)
 
-module _ (t : ℕ) (W : Out) (cards₀ : List Card) (n : ℕ) (log₀ list₀ : List ℕ) (L : Out) (p : Progress) (log list : List ℕ) (u : Leaves t W cards₀ n log₀ list₀ L p log list) (few : n ≤ mostCards) where
+module _ (t : ℕ) (W : Out) (cards₀ : List Card) (n : ℕ) (log₀ list₀ : List ℕ) (L : Out) (p : Reached) (log list : List ℕ) (u : Leaves t W cards₀ n log₀ list₀ L p log list) (few : n ≤ mostCards) where
   -- the next exchange
   X : List ℕ
   X = exchangeBytes (nextTick t p) (nextExchange p n)

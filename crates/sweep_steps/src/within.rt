@@ -7,14 +7,15 @@ ghost use Rattle.rows.specs.Rows.{All, overlay, clean};
 ghost use Rattle.log.specs.Log.{sentHeard, exchangeBytes, exchangeSize, logBytes, logSize, listBytes};
 ghost use Rattle.log.specs.Calls.{mostBits};
 ghost use Rattle.limits.specs.Limits.{mostCards};
-ghost use Rattle.sweep_rules.specs.Run.{sweep};
 ghost use Rattle.sweep_rules.specs.Terms.{within};
 ghost use Rattle.sweep_rules.specs.Demand.{Typed};
-ghost use Rattle.sweep_steps.specs.Steps.{goes, foundBy, exchangeOf, aired, exchanged, stepped, goesOn, ends, tickBound, Roomy, Written};
+ghost use Rattle.sweep_steps.specs.Steps.{goes, foundBy, exchangeOf, aired, goesOn, ends, tickBound, Roomy, Written};
+ghost use Rattle.sweep_steps.specs.Loop.{sweptIf, reachedAt, exchanged, stepped, nextTurn};
 use card::Card;
 use limits::MOST_CARDS;
+use memory::Memory;
+use memory::Path;
 use reader::Answer;
-use reader::Phase;
 use reader::Reader;
 use reader::Turn;
 
@@ -35,16 +36,17 @@ pub struct Aired {
     pub bytes: usize,
 }
 
-// After an exchange: the reader's turn, the cards, and the bytes of log that it took.
+// After an exchange: the reader's turn and path, the cards, and the bytes of log that it took.
 pub struct Exchanged {
-    pub turn: Turn,
+    pub memory: Memory,
     pub cards: [Card; MOST_CARDS],
     pub bytes: usize,
 }
 
-// How far a sweep is: the reader's turn, the cards, the bytes of log so far, the frames sent and the UIDs found.
+// How far a sweep is: the reader's turn and path (of the plain sweep it is empty), the cards, the bytes of log so far, the frames sent and the UIDs
+// found.
 pub struct Progress {
-    pub turn: Turn,
+    pub memory: Memory,
     pub cards: [Card; MOST_CARDS],
     pub logged: usize,
     pub frames: usize,
@@ -91,9 +93,11 @@ pub fn air(
     }
 }
 
-// The reader's frame on the air, and the reader's turn on what it heard.
+// The reader's frame on the air, and what the reader does with what it heard.
 fn exchange(
+    remembers: bool,
     r: Reader,
+    path: Path,
     cards: [Card; MOST_CARDS],
     n: usize,
     log: &mut [u8],
@@ -101,17 +105,17 @@ fn exchange(
     tick: usize,
 ) -> Exchanged
     requires { ⌜ (n ≤ mostCards) × (at + exchangeSize (exchangeOf r (take n cards)) ≤ length (now log)) × (tick < tickBound) ⌝ }
-    ensures { λ x. ⌜ x ≡ exchanged r cards n ⌝ }
+    ensures { λ x. ⌜ x ≡ exchanged remembers r path cards n ⌝ }
     ensures { λ x. ⌜ now (log .exit) ≡ overlay (now (log .entry)) at (exchangeBytes tick (exchangeOf r (take n cards))) ⌝ }
 {
     let a = air(r, cards, n, log, at, tick);
     let heard = a.heard;
-    let m = a.bits;
-    let next = reader::within::hear_rules(r, &heard[..m]);
-    let left = a.cards;
+    let k = a.bits;
+    let m = memory::within::hear_if(remembers, r, path, &heard[..k]);
+    let after = a.cards;
     Exchanged {
-        turn: next,
-        cards: left,
+        memory: m,
+        cards: after,
         bytes: a.bytes,
     }
 }
@@ -139,22 +143,32 @@ pub fn put_found(t: Turn, list: &mut [u8], at: usize) -> usize
 }
 
 // One exchange more of a sweep that began with the tick start.
-fn step(p: Progress, n: usize, start: u32, log: &mut [u8], list: &mut [u8]) -> Progress
-    requires { ⌜ Roomy p n (now log) (now list) ⌝ }
-    ensures { λ r. ⌜ r ≡ stepped p n ⌝ }
-    ensures { λ r. ⌜ Written start p n (now (log .entry)) (now (list .entry)) (now (log .exit)) (now (list .exit)) ⌝ }
+fn step(
+    remembers: bool,
+    p: Progress,
+    n: usize,
+    start: u32,
+    log: &mut [u8],
+    list: &mut [u8],
+) -> Progress
+    requires { ⌜ Roomy (reachedAt p) n (nextTurn remembers p n) (now log) (now list) ⌝ }
+    ensures { λ r. ⌜ r ≡ stepped remembers p n ⌝ }
+    ensures { λ r. ⌜ Written start (reachedAt p) n (nextTurn remembers p n) (now (log .entry)) (now (list .entry)) (now (log .exit)) (now (list .exit)) ⌝ }
 {
-    let t = p.turn;
+    let m = p.memory;
+    let t = m.turn;
     let r = t.reader;
+    let path = m.path;
     let cards = p.cards;
     let at = p.logged;
     let tick = start as usize + 2 * p.frames;
-    let x = exchange(r, cards, n, log, at, tick);
-    let next = x.turn;
-    let found = put_found(next, list, 11 * p.found);
+    let x = exchange(remembers, r, path, cards, n, log, at, tick);
+    let next = x.memory;
+    let turn = next.turn;
+    let found = put_found(turn, list, 11 * p.found);
     let after = x.cards;
     Progress {
-        turn: next,
+        memory: next,
         cards: after,
         logged: at + x.bytes,
         frames: p.frames + 1,
@@ -177,39 +191,42 @@ pub fn goes(a: Answer) -> bool
 
 // Is a frame out, and may the reader send one more?
 fn goes_on(p: Progress) -> bool
-    ensures { λ r. ⌜ r ≡ goesOn p ⌝ }
+    ensures { λ r. ⌜ r ≡ goesOn (reachedAt p) ⌝ }
 {
     if p.frames < limits::MOST_FRAMES {
-        let t = p.turn;
+        let m = p.memory;
+        let t = m.turn;
         let a = t.answer;
         return goes(a);
     }
     false
 }
 
-// A whole sweep over the first n cards, the tick of its first record start. It is called where log and list have room for what it writes.
+// A whole sweep over the first n cards, plain or one that remembers (T-14), the tick of its first record start. It is called where log and list have
+// room for what it writes.
 pub fn run(
+    remembers: bool,
     cards: [Card; MOST_CARDS],
     n: usize,
     start: u32,
     log: &mut [u8],
     list: &mut [u8],
 ) -> Progress
-    requires { ⌜ (n ≤ mostCards) × (logSize (sweep (take n cards) .exchanges) ≤ length (now log)) × (length (listBytes (sweep (take n cards) .found)) ≤ length (now list)) ⌝ }
-    ensures { λ p. ⌜ p ≡ ends cards n (sweep (take n cards)) ⌝ }
-    ensures { λ p. ⌜ now (log .exit) ≡ overlay (now (log .entry)) 0 (logBytes start (sweep (take n cards) .exchanges)) ⌝ }
-    ensures { λ p. ⌜ now (list .exit) ≡ overlay (now (list .entry)) 0 (listBytes (sweep (take n cards) .found)) ⌝ }
+    requires { ⌜ (n ≤ mostCards) × (logSize (sweptIf remembers (take n cards) .exchanges) ≤ length (now log)) × (length (listBytes (sweptIf remembers (take n cards) .found)) ≤ length (now list)) ⌝ }
+    ensures { λ p. ⌜ reachedAt p ≡ ends cards n (sweptIf remembers (take n cards)) ⌝ }
+    ensures { λ p. ⌜ now (log .exit) ≡ overlay (now (log .entry)) 0 (logBytes start (sweptIf remembers (take n cards) .exchanges)) ⌝ }
+    ensures { λ p. ⌜ now (list .exit) ≡ overlay (now (list .entry)) 0 (listBytes (sweptIf remembers (take n cards) .found)) ⌝ }
 {
-    let t = reader::within::sends(reader::within::blank(Phase::ReqaSent, true));
+    let m = memory::within::fresh();
     let mut p = Progress {
-        turn: t,
+        memory: m,
         cards: cards,
         logged: 0,
         frames: 0,
         found: 0,
     };
     while goes_on(p) {
-        p = step(p, n, start, log, list);
+        p = step(remembers, p, n, start, log, list);
     }
     p
 }

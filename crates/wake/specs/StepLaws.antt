@@ -11,7 +11,7 @@ use Rattle.rows.specs.ListLaws.{both}
 use Rattle.limits.specs.Limits.{mostCards}
 use Rattle.uid.specs.Uid.{levels}
 use Rattle.reader.specs.Reader.{frame, sends}
-use Rattle.sweep_rules.specs.Run.{Out, before, ended}
+use Rattle.sweep_rules.specs.Run.{Out, before, ended, plain, run}
 use Rattle.sweep_steps.specs.Steps.{goes, exchangeOf, foundBy}
 use Rattle.sweep_steps.specs.LeftLaws.{with-found, take-after, drop-after, length-after}
 use Rattle.sweep_steps.specs.RunLaws.{rest, after, rest-step, rest-stops, rest-spent}
@@ -25,7 +25,7 @@ use Rattle.wake.specs.declared.Woken.{Woken}
 
 -- what is left of a run of at most `most` frames
 abbrev left : Woken → ℕ → ℕ → Out
-left w n most = rest (most - w .frames) (turnIn w) (take n (w .cards))
+left w n most = rest plain (most - w .frames) (turnIn w) (take n (w .cards))
 
 -- the whole run is W, over the first n of cards₀; so far it is at w
 pub record Under (W : Out) (cards₀ : List Card) (n most : ℕ) (w : Woken) : Type 0 where
@@ -37,7 +37,7 @@ pub record Under (W : Out) (cards₀ : List Card) (n most : ℕ) (w : Woken) : T
 
 -- before the first exchange all is left
 pub under-none : (w : Woken) (u : Uid) (cards : List Card) (n most : ℕ) → w ≡ started u cards → length cards ≡ mostCards
-    → Under (rest most (turnIn w) (take n (w .cards))) (w .cards) n most w
+    → Under (rest plain most (turnIn w) (take n (w .cards))) (w .cards) n most w
 unfolding started
 under-none w u cards n most e h =
     let z : w .frames ≡ 0 = ap (λ x. x .frames) e in
@@ -45,8 +45,8 @@ under-none w u cards n most e h =
     record { full = ap (λ x. length (x .cards)) e ∙ h; frames = rw k (omega arith); cards = rw k; last = rw k; others = refl }
 
 pub wake-rest : (w : Woken) (u : Uid) (cards : List Card) (n most : ℕ) → w ≡ started u cards → most ≡ suc (length (levels u))
-    → done (w .cards) n (rest most (turnIn w) (take n (w .cards))) ≡ done cards n (wake u (take n cards))
-unfolding started wake rest sends
+    → done (w .cards) n (rest plain most (turnIn w) (take n (w .cards))) ≡ done cards n (wake u (take n cards))
+unfolding started wake rest run sends
 wake-rest w u cards n most e h = rw (e, h)
 
 goes-on : (w : Woken) (most : ℕ) → goesOn w most ≡ true → (w .frames < most) × (goes (w .answer) ≡ true)
@@ -68,7 +68,7 @@ module _ (W : Out) (cards₀ : List Card) (n most : ℕ) (w : Woken) (v : Under 
     unfolding stepped after
     step =
         let e : most - w .frames ≡ suc (most - (w .frames + 1)) = omega (arith, goes-on w most g .0) in
-        rw (e, take-after (w .cards) n (frame (w .reader)) (omega (arith, v .full))) (rest-step (most - (w .frames + 1)) (turnIn w) (take n (w .cards)) (goes-on w most g .1))
+        rw (e, take-after (w .cards) n (frame (w .reader)) (omega (arith, v .full))) (rest-step plain (most - (w .frames + 1)) (turnIn w) (take n (w .cards)) (goes-on w most g .1))
 
     pub under-turn : Under W cards₀ n most (stepped w n)
     unfolding stepped before with-found
@@ -87,8 +87,8 @@ module _ (W : Out) (cards₀ : List Card) (n most : ℕ) (w : Woken) (v : Under 
   none g = go (ltb (w .frames) most) refl g
     where
       go : (b : Bool) → ltb (w .frames) most ≡ b → (b && goes (w .answer)) ≡ false → left w n most ≡ ended (take n (w .cards)) (turnIn w)
-      go true e k = rest-stops (most - w .frames) (turnIn w) (take n (w .cards)) k
-      go false e k = let z : most - w .frames ≡ 0 = omega (arith, ltb-false (w .frames) most e) in rw z (rest-spent (turnIn w) (take n (w .cards)))
+      go true e k = rest-stops plain (most - w .frames) (turnIn w) (take n (w .cards)) k
+      go false e k = let z : most - w .frames ≡ 0 = omega (arith, ltb-false (w .frames) most e) in rw z (rest-spent plain (turnIn w) (take n (w .cards)))
 
   pub under-ends : goesOn w most ≡ false → w ≡ done cards₀ n W
   unfolding done ended

@@ -15,7 +15,8 @@ use Rattle.reader.specs.Calls.{turnSays}
 use Rattle.reader.specs.Reader.{isNew, frame, hear, wakes}
 use Rattle.field.specs.Field.{allTake, heardFrom}
 use Rattle.refusal.specs.Refusal.{Said, declineIf}
-use Rattle.sweep_rules.specs.Run.{Out, before, finding, ended, follow, run}
+use Rattle.sweep_rules.specs.Run.{Out, plain, run}
+use Rattle.sweep_rules.specs.RunLaws.{run-cards}
 use Rattle.sweep_rules.specs.Terms.{within}
 use Rattle.wake_rules.specs.Claim.{Wakes}
 use Rattle.wake_rules.specs.Wake.{wake}
@@ -33,27 +34,9 @@ use Rattle.uid.specs.declared.Uid.{Uid}
 use Rattle.wake_row.specs.declared.pass.Progress.{Progress}
 use Rattle.wake_row.specs.Row.{wokenRow, rowOf, blankCard, noCards, stopped, fetches, heldWith, fetchedOne, wokenIn, fetchedAll, storedOne, turnOf, Turns, Opened}
 
--- ---- a run has as many cards at its end as at its start
-
-follow-cards : (a : Answer) (t : Turn) (cs : List Card) (o : Out) → length (o .cards) ≡ length cs → length (follow a t cs o .cards) ≡ length cs
-unfolding finding ended
-follow-cards (Sends n) t cs o e = e
-follow-cards (Finds n) t cs o e = e
-follow-cards Selects t cs o e = refl
-follow-cards Finishes t cs o e = refl
-follow-cards (Declines x) t cs o e = refl
-
-run-cards : (fuel : ℕ) (t : Turn) (cs : List Card) → length (run fuel t cs .cards) ≡ length cs
-unfolding run before ended allTake
-run-cards zero t cs = refl
-run-cards (suc fuel) t cs =
-    let f : List ℕ = frame (t .reader) in
-    let t′ : Turn = hear (t .reader) (heardFrom f cs) in
-    follow-cards (t′ .answer) t′ (allTake f cs) (run fuel t′ (allTake f cs)) (run-cards fuel t′ (allTake f cs)) ∙ length-map cs _
-
 wake-cards : (u : Uid) (cs : List Card) → length (wake u cs .cards) ≡ length cs
-unfolding wake
-wake-cards u cs = run-cards _ (wakes u) cs
+unfolding wake run
+wake-cards u cs = run-cards plain _ (wakes u) cs
 
 -- the call leaves as many cards as there were
 pub woken-cards : (r : Reader) (l : List ℕ) (h : List Card) (n : ℕ) → length (wakeOf r l h n .cards) ≡ length h

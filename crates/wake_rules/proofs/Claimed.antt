@@ -27,7 +27,7 @@ use Rattle.field.specs.HeardLaws.{reads-atqa}
 use Rattle.field.specs.Merge.{merge}
 use Rattle.log.specs.Log.{sentHeard}
 use Rattle.sweep_rules.specs.Demand.{Typed}
-use Rattle.sweep_rules.specs.Run.{Out, before, ended, follow, run}
+use Rattle.sweep_rules.specs.Run.{Out, before, ended, follow, runOf, run}
 use Rattle.limits.specs.Limits.{mostCards}
 use Rattle.sweep_rules.specs.Terms.{allFit, apart, within}
 use Rattle.sweep_rules.proofs.Idle.{Fits}
@@ -84,7 +84,7 @@ module _ (c : Card) where
 
 tick : (n : ℕ) (r : Reader) (F F′ : List Card) (h : List ℕ) (t : Turn) → heardFrom (frame r) F ≡ h → allTake (frame r) F ≡ F′ → hear r h ≡ t
     → run (suc n) (sends r) F ≡ before (sentHeard (frame r) h) (follow (t .answer) t F′ (run n t F′))
-unfolding run sends
+unfolding run runOf sends
 tick n r F F′ h t e₁ e₂ e₃ = rw (e₁, e₂, e₃)
 
 -- what the rest of a run leaves

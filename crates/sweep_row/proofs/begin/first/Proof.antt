@@ -10,10 +10,13 @@ blank-requires c κs = search needs
 sends-requires : tie.Need-sends-requires
 sends-requires c κs = search needs
 
+no-path-requires : tie.Need-no-path-requires
+no-path-requires c κs = search needs
+
 returns : tie.Need-returns
 unfolding firstRow
 returns c =
-    rw (c .before .sends .ensures, c .before .before .blank .ensures)
+    rw (c .no-path .ensures, c .before .before .sends .ensures, c .before .before .before .blank .ensures)
 
 pub first-spec : {M : Type 1} → statement M
-first-spec = tie.close (tie.spec blank-requires sends-requires returns)
+first-spec = tie.close (tie.spec blank-requires sends-requires no-path-requires returns)

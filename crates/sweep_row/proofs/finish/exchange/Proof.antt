@@ -6,7 +6,7 @@ use Rattle.reader.specs.Reader.{frame}
 use Rattle.sweep_steps.specs.ExchangeLaws.{Front, front-of}
 use Rattle.rows.specs.CleanLaws.{bits-clean}
 use Rattle.reader.specs.FrameLaws.{frame-bits}
-use Rattle.sweep_row.specs.Row.{exchangeWith, turnWith, exchangedWith}
+use Rattle.sweep_row.specs.Row.{exchangeWith, exchangedWith}
 use borrow.Author.Needs.{needs}
 use Rattle.sweep_row.proofs.finish.exchange.Statement.{statement}
 use Rattle.sweep_row.proofs.finish.exchange.Tie as tie
@@ -52,22 +52,22 @@ put-exchange-requires c κs =
 array-share-prefix-heard-2 : tie.Need-array-share-prefix-heard-2
 array-share-prefix-heard-2 c = c .before .before .before .before .before .before .before .before .before .before .before .before .pre .0
 
-slice-aggregate-hear-rules : tie.Need-slice-aggregate-hear-rules
-slice-aggregate-hear-rules c = sym (length-take-le _ _ (c .before .before .before .before .before .before .before .before .before .before .before .before .before .pre .0))
+slice-aggregate-hear-if : tie.Need-slice-aggregate-hear-if
+slice-aggregate-hear-if c = sym (length-take-le _ _ (c .before .before .before .before .before .before .before .before .before .before .before .before .before .pre .0))
 
-hear-rules-requires : tie.Need-hear-rules-requires
-hear-rules-requires c κs = search needs
+hear-if-requires : tie.Need-hear-if-requires
+hear-if-requires c κs = search needs
 
 same-length : tie.Need-same-length
 same-length c = search needs
 
 returns : tie.Need-returns
-unfolding exchangedWith exchangeWith turnWith
+unfolding exchangedWith exchangeWith
 returns c =
     let w = c .before .before .before .before .before .before .before .before .before .before .before .put-frame in
     let x = c .before .before .before .before .put-exchange in
     let u : Front (frame (c .before .before .before .before .before .before .before .before .before .before .before .before .before .before .args .r)) (c .before .before .before .before .before .before .before .before .before .frame-bits .result) (w .last .1 .0) = front-of _ _ _ _ (c .before .before .before .before .before .before .before .before .before .frame-bits .ensures) (w .ensures) in
-    (ap₂ (λ t b. record { turn = t; bytes = b }) (c .hear-rules .ensures) (rw (u .bits) at (x .ensures .0)), rw (u .bits) at (x .ensures .1))
+    (ap₂ (λ t b. record { memory = t; bytes = b }) (c .hear-if .ensures) (rw (u .bits) at (x .ensures .0)), rw (u .bits) at (x .ensures .1))
 
 pub exchange-spec : {M : Type 1} → statement M
 exchange-spec =
@@ -82,7 +82,7 @@ exchange-spec =
     slice-aggregate-put-exchange-2
     put-exchange-requires
     array-share-prefix-heard-2
-    slice-aggregate-hear-rules
-    hear-rules-requires
+    slice-aggregate-hear-if
+    hear-if-requires
     same-length
     returns)

@@ -1,4 +1,3 @@
-use mathlib.Core.Path.{_≡_}
 use borrow.Author.Tests.{lt-ltb, le-ltb}
 use Rattle.sweep_steps.specs.Steps.{goesOn}
 use borrow.Author.Needs.{needs}
@@ -10,7 +9,7 @@ goes-requires c κs = search needs
 
 returns : tie.Need-returns
 unfolding goesOn
-returns c = rw (lt-ltb _ _ (c .before .before .if1 .taken)) (c .goes .ensures)
+returns c = rw (lt-ltb _ _ (c .before .before .before .if1 .taken)) (c .goes .ensures)
 
 returns-2 : tie.Need-returns-2
 unfolding goesOn

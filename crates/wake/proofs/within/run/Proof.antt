@@ -6,6 +6,7 @@ use native.Mathlib.Omega.{arith}
 use lib.ListN.{length, take}
 use Rattle.limits.specs.Limits.{mostCards}
 use Rattle.reader.specs.KnownLaws.{count-levels, count-most}
+use Rattle.sweep_rules.specs.Run.{plain}
 use Rattle.sweep_steps.specs.RunLaws.{rest}
 use Rattle.wake.specs.StepLaws.{Under, under-none, under-fewer, under-turn, under-ends, fewer-left, wake-rest}
 use Rattle.wake.specs.Steps.{turnIn, goesOn}
@@ -14,7 +15,7 @@ use Rattle.wake.proofs.within.run.Statement.{statement}
 use Rattle.wake.proofs.within.run.Tie as tie
 
 abbrev Inv-loop : tie.InvT-loop
-Inv-loop n most w₀ w = Under (rest most (turnIn w₀) (take n (w₀ .cards))) (w₀ .cards) n most w × (most ≤ 4)
+Inv-loop n most w₀ w = Under (rest plain most (turnIn w₀) (take n (w₀ .cards))) (w₀ .cards) n most w × (most ≤ 4)
 
 abbrev μ-loop : tie.MeasureT-loop
 μ-loop n most w₀ w = most - w .frames
