@@ -1,8 +1,8 @@
--- `kept_reader::ten_of` meets its contract, byte by byte. Assumes nothing.
+-- `kept::ten_of` meets its contract, byte by byte. Assumes nothing.
 use Rattle.kept.specs.Kept.{bytesAt}
 use borrow.Author.Needs.{needs}
-use Rattle.kept_reader.proofs.ten_of.Statement.{statement}
-use Rattle.kept_reader.proofs.ten_of.Tie as tie
+use Rattle.kept.proofs.ten_of.Statement.{statement}
+use Rattle.kept.proofs.ten_of.Tie as tie
 
 at-requires : tie.Need-at-requires
 at-requires c κs = search needs
