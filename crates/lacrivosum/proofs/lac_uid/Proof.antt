@@ -1,9 +1,9 @@
--- `lacrivosum::lac_reader_uid` meets its contract, by those of `uid_of` and `put_uid`. Assumes nothing.
+-- `lacrivosum::lac_uid` meets its contract, by those of `uid_of` and `put_uid`. Assumes nothing.
 use denote.Ref.{now}
 use Rattle.lacrivosum.specs.LibraryLaws.{uid-short, uid-no-room, uid-given}
 use borrow.Author.Needs.{needs}
-use Rattle.lacrivosum.proofs.lac_reader_uid.Statement.{statement}
-use Rattle.lacrivosum.proofs.lac_reader_uid.Tie as tie
+use Rattle.lacrivosum.proofs.lac_uid.Statement.{statement}
+use Rattle.lacrivosum.proofs.lac_uid.Tie as tie
 
 refused-requires : tie.Need-refused-requires
 refused-requires c κs = search needs
@@ -36,8 +36,8 @@ returns-3 c =
     let put = c .before .before .put-uid .ensures in
     uid-given (now (a .state)) (now (a .out)) _ _ _ (c .before .before .before .before .before .before .if1 .left) (c .before .before .before .before .before .if2 .left) (c .before .before .before .before .uid-of .ensures) (put .0) (put .1)
 
-pub lac-reader-uid-spec : {M : Type 1} → statement M
-lac-reader-uid-spec =
+pub lac-uid-spec : {M : Type 1} → statement M
+lac-uid-spec =
     tie.close
     (tie.spec
     refused-requires
