@@ -1,15 +1,19 @@
 # `make run` shows the main job, `make test` is the gate.
 # `make sweep FIELD=..`, `make card`, `make reader`, `make front`, `make type_b` prove a program, then run it on a file of samples/.
 # `make remember` shows both sweeps of one field side by side; `make frames` counts their frames over many fields.
-# `make speed` measures the core's CRC against Rust programs of our own.
-# `make lib` proves the library for C and archives it, `make examples` compiles the programs of examples/ with it and runs them.
+# `make speed` measures the core against plain Rust of our own (docs/SPEED.md).
+# `make lib` proves the library for C and archives it, `make examples` compiles the programs of examples/ with it and runs them,
+# `make fuzz CALLS=.. SEED=..` holds it to the independent model through its boundary.
 # `make vectors` writes the programs' scripts and expected output anew, from the independent model.
-.PHONY: run sweep remember frames card reader front type_b speed lib examples test toolchain vectors vectors-check model-check pages impostors
+.PHONY: run sweep remember frames card reader front type_b speed lib examples fuzz test toolchain vectors vectors-check model-check pages impostors
 
 CARGO = --quiet --release --offline --locked --manifest-path model/Cargo.toml
 MODEL = cargo run $(CARGO) --
 FIELD = samples/lockers.txt
 MAKER = samples/maker.txt
+LINKED = rustc --edition 2021 -D warnings -C opt-level=3 -L target/staticlib -l static=lacrivosum
+CALLS = 20000
+SEED = 1
 
 toolchain:
 	@command -v rt >/dev/null 2>&1 || { echo "the Rattle toolchain is missing: no command 'rt' on the PATH"; exit 1; }
@@ -74,19 +78,31 @@ type_b: toolchain
 # No part of the gate: a time is the machine's, and what else it does at that moment.
 speed: toolchain
 	@command -v rustc >/dev/null 2>&1 || { echo "there is no rustc: the programs that the core is measured against cannot be built"; exit 1; }
-	rt staticlib crc_speed
-	rustc --edition 2021 -C opt-level=3 speed/crc.rs -o target/speed-crc -L target/staticlib -l static=crc_speed
-	@target/speed-crc
+	rt staticlib lacrivosum
+	$(LINKED) speed/main.rs -o target/speed
+	@target/speed
+	@if command -v size >/dev/null 2>&1; then echo && echo "the archive, in bytes" && size target/staticlib/liblacrivosum.a; fi
 
-# The core's reader for C: target/staticlib/liblacrivosum.a, to be linked with include/lacrivosum.h.
+# The core's reader and card for C: target/staticlib/liblacrivosum.a, to be linked with include/lacrivosum.h.
 lib: toolchain
 	rt staticlib lacrivosum
 
+# The programs of examples/, in C and in Rust, compiled with all warnings as errors and run with the library.
 examples: lib
 	@if command -v gcc >/dev/null 2>&1; then for c in examples/*.c; do \
 	    p=target/example-$$(basename $$c .c); \
 	    gcc -std=c99 -Wall -Wextra -Werror -pedantic -Iinclude $$c target/staticlib/liblacrivosum.a -o $$p && echo "$$c:" && $$p || exit 1; done; \
-	else echo "no gcc: the programs of examples/ are not compiled"; fi
+	else echo "no gcc: the programs of examples/ in C are not compiled"; fi
+	@if command -v rustc >/dev/null 2>&1; then \
+	    $(LINKED) examples/talk.rs -o target/example-talk && echo "examples/talk.rs:" && target/example-talk || exit 1; \
+	else echo "no rustc: the program of examples/ in Rust is not compiled"; fi
+
+# The library for C against the model, call by call: drawn states, rows and lengths (fuzz/fuzz.rs); a part of them under valgrind.
+fuzz: lib
+	@if command -v rustc >/dev/null 2>&1; then $(LINKED) fuzz/fuzz.rs -o target/fuzz && target/fuzz $(CALLS) $(SEED) || exit 1; \
+	    if command -v valgrind >/dev/null 2>&1; then echo "under valgrind:" && valgrind -q --error-exitcode=9 target/fuzz 2000 $(SEED) || exit 1; \
+	    else echo "no valgrind: memory outside of what is lent is not watched"; fi; \
+	else echo "no rustc: the library for C is not held to the model"; fi
 
 vectors:
 	$(MODEL) write crates
@@ -114,7 +130,8 @@ impostors: toolchain
 	@cd target-impostors && rt must-fail
 	@rm -rf target-impostors
 
+# The library is proved and built before rt ci, which begins with nothing: so its crates are proved twice, some minutes, and rt ci has the last word.
 # rt runs crates and edits in batches, and a batch waits for its slowest: four at a time keep two cores busy.
-test: toolchain pages vectors-check model-check
+test: toolchain pages vectors-check model-check examples fuzz
 	rt fmt --check
 	RT_JOBS=$${RT_JOBS:-4} rt ci

@@ -49,7 +49,7 @@ int main(void) {
     uint8_t uid[LAC_UID_SIZE];
     int good = said("select", lac_reader_select(state, sizeof state, out, sizeof out)) && hear("ATQA", atqa, 2, 0) && hear("level 1", level, 5, 0) &&
                hear("SAK", sak, 1, 1) && lac_event(state, sizeof state) == LAC_SELECTED;
-    show("UID", uid, (uint64_t)lac_reader_uid(state, sizeof state, uid, sizeof uid));
+    show("UID", uid, (uint64_t)lac_uid(state, sizeof state, uid, sizeof uid));
     good = good && said("RATS", lac_reader_rats(state, sizeof state, 8, out, sizeof out)) && hear("ATS", ats, 2, 1) &&
            said("send", lac_reader_send(state, sizeof state, apdu, sizeof apdu, out, sizeof out)) && hear("answer", answer, 3, 1) &&
            lac_event(state, sizeof state) == LAC_MESSAGE;

@@ -1,4 +1,4 @@
-/* lacrivosum: the reader of a proved ISO/IEC 14443 Type A core, as a library for C99. It needs no other library.
+/* lacrivosum: reader and card of a proved ISO/IEC 14443 Type A core, as a library for C99. It needs no other library.
  *
  * What is promised, and proved of each function below for every value of every byte lent to it (docs/PROMISES.md): it does what the rules
  * of the core say, it writes nowhere but into the memory lent as `uint8_t *`, and there no more than is said here. It allocates nothing,
@@ -8,16 +8,18 @@
  * header itself is outside the proof, and so is what the caller owes: each pointer is valid for the length given with it (a length of 0
  * too wants a pointer that is not null), and of the memory lent to one call, none that is written overlaps with another.
  *
- * Memory is the caller's. A reader is LAC_STATE_SIZE bytes, lent with each call. Bytes all zero are a new reader. Any bytes at all are one
- * reader, so no state is undefined; a longer state is used by its front. Each selection and each sweep takes a new reader.
+ * Memory is the caller's. A reader is LAC_STATE_SIZE bytes, lent with each call, and so is a card. Any bytes at all are one reader, and one card,
+ * so no state is undefined; a longer state is used by its front. Bytes all zero are a new reader. Each selection and each sweep takes a new
+ * reader. A card is made by lac_card_new; bytes all zero are one without power, its UID four zeros.
  *
  * A row holds one air bit a byte: 0, 1, and anything else is a collided bit. An empty row is silence.
  *
- * Each lac_reader_ call that begins something or hears gives one number. 0 or more: so many air bits of the reader's next frame stand at
- * the front of `out` (0: no frame), and lac_event says what else happened. Less than 0: refused, minus one of the LAC_ numbers below, and
- * nothing is written into `out`. A refusal that leaves the reader what it was writes nothing into the state either, so lac_event still
- * tells of the call before it: so it is with LAC_NOT_DUE, LAC_ROOM and LAC_ARGUMENT, and with LAC_TOO_LONG of a message to be sent. By any
- * other refusal the reader has stopped. A state under LAC_STATE_SIZE bytes is refused by LAC_ROOM, and nothing at all is written. */
+ * Each call that begins something, hears or answers gives one number. 0 or more: so many air bits of the next frame stand at the front of
+ * `out` (0: no frame), and lac_event says what else happened. Less than 0: refused, minus one of the LAC_ numbers below, and nothing is
+ * written into `out`. A refusal that leaves a reader what it was writes nothing into the state either, so lac_event still tells of the
+ * call before it: so it is with LAC_NOT_DUE, LAC_ROOM and LAC_ARGUMENT, and with LAC_TOO_LONG of a message to be sent. By any other
+ * refusal the reader has stopped. A card does not stop: each refusal leaves it what it was, and nothing at all is written. A state under
+ * LAC_STATE_SIZE bytes is refused by LAC_ROOM, and nothing at all is written. */
 #ifndef LACRIVOSUM_H
 #define LACRIVOSUM_H
 
@@ -28,13 +30,17 @@
 extern "C" {
 #endif
 
-#define LAC_STATE_SIZE 64    /* bytes of a reader */
+#define LAC_STATE_SIZE 64    /* bytes of a reader, and of a card */
 #define LAC_ROW_SIZE 2304    /* bytes of `out`: the longest frame, 256 bytes with a parity bit each */
+#define LAC_FRAME_MAX 256    /* bytes of the longest frame */
 #define LAC_UID_SIZE 10      /* bytes of the longest UID */
 #define LAC_MESSAGE_MAX 4096 /* bytes of the longest message, and so of a buffer for any answer */
+#define LAC_MOST_CARDS 32    /* cards of the largest field that a sweep takes */
+#define LAC_LOG_ROOM 40960   /* bytes of a sweep's log: so many hold that of any field */
+#define LAC_LIST_ROOM 352    /* bytes of a sweep's list, 11 for each card */
 
 /* Why a call is refused; it answers minus this. */
-#define LAC_ROOM 1       /* a state or a row to write to shorter than asked; a message that ends before the block that is to be sent from it */
+#define LAC_ROOM 1       /* a state or a row to write to shorter than asked; a message or an answer that ends before the block that is sent from it */
 #define LAC_LENGTH 2     /* a bit count that the awaited frame cannot have */
 #define LAC_PARITY 3     /* wrong parity; lac_length is the first byte of the row, from 0, in which it is wrong */
 #define LAC_CRC 4        /* wrong CRC_A */
@@ -43,19 +49,32 @@ extern "C" {
 #define LAC_SILENCE 7    /* silence where an answer is needed */
 #define LAC_COLLISION 8  /* a collided bit where none may be */
 #define LAC_FORBIDDEN 9  /* a value or a block that the rules forbid */
-#define LAC_TOO_LONG 10  /* a message over LAC_MESSAGE_MAX bytes, or an answer over them or over the buffer */
+#define LAC_TOO_LONG 10  /* a message or an answer over LAC_MESSAGE_MAX bytes, or one that is heard and over the buffer */
 #define LAC_NOT_DUE 11   /* a call or a row that is not due now */
 #define LAC_REPEATS 12   /* silence or damage three times running: repeats are used up */
 
 /* What else a call told. */
 enum lac_event_number {
     LAC_NONE = 0,
-    LAC_FOUND = 1,     /* a sweep found a card: lac_reader_uid and lac_reader_sak tell which; the frame in `out` is HLTA */
-    LAC_SELECTED = 2,  /* one card is selected: lac_reader_uid and lac_reader_sak tell which */
+    LAC_FOUND = 1,     /* a sweep found a card: lac_uid and lac_reader_sak tell which; the frame in `out` is HLTA */
+    LAC_SELECTED = 2,  /* one card is selected: lac_uid and lac_reader_sak tell which */
     LAC_SWEPT = 3,     /* the sweep is over */
     LAC_OPENED = 4,    /* a good ATS: messages may go; lac_length is the card's size index */
-    LAC_MESSAGE = 5,   /* the card's whole answer stands at the front of `buffer`; lac_length is its length */
+    LAC_MESSAGE = 5,   /* the other end's whole message stands at the front of `buffer`; lac_length is its length */
+    LAC_GRANTED = 6,   /* of a card: the reader grants the time that was asked for */
     LAC_DESELECTED = 7 /* the card answered DESELECT */
+};
+
+/* The states of a card. */
+enum lac_card_state_number {
+    LAC_CARD_OFF = 0,
+    LAC_CARD_IDLE = 1,
+    LAC_CARD_READY = 2,
+    LAC_CARD_ACTIVE = 3,
+    LAC_CARD_HALT = 4,
+    LAC_CARD_READY_STAR = 5,  /* Ready and Active of a card that was woken from Halt */
+    LAC_CARD_ACTIVE_STAR = 6,
+    LAC_CARD_PROTOCOL = 7     /* it was sent RATS, and speaks blocks */
 };
 
 /* Begins the selection of one card. `out` has room for LAC_ROW_SIZE bytes.
@@ -89,21 +108,108 @@ int64_t lac_reader_deselect(uint8_t *state, size_t state_len, uint8_t *out, size
 int64_t lac_reader_hear(uint8_t *state, size_t state_len, const uint8_t *row, size_t row_len, const uint8_t *message, size_t message_len,
                         uint8_t *buffer, size_t buffer_len, uint8_t *out, size_t out_len);
 
-/* What the last call told, one of enum lac_event_number, and what came with it: a length, a size index, the byte of LAC_PARITY, or 0. A call
- * that was refused without the reader being stopped told nothing. Of a state that no call has written they are what its bytes say; bytes
- * past the end of a short state count as 0. */
+/* Makes a card without power, over whatever the state was: its UID, of 4, 7 or 10 bytes; whether it speaks blocks (0: it does not; any other
+ * number: it does); its own size index, 0 to 8, as of lac_reader_rats.
+ * 0. Refused: LAC_ROOM; LAC_ARGUMENT, the bytes are no valid UID, or the index is over 8. */
+int64_t lac_card_new(uint8_t *state, size_t state_len, const uint8_t *uid, size_t uid_len, uint8_t blocks, uint8_t index);
+
+/* Power comes: a card that was Off is Idle; any other stays. Power is lost: the card is Off, and what it was doing is forgotten.
+ * 0. Refused: LAC_ROOM. */
+int64_t lac_card_power_on(uint8_t *state, size_t state_len);
+int64_t lac_card_power_off(uint8_t *state, size_t state_len);
+
+/* The card takes a row, any row in any state. `answer` is the one that is being sent, lent again (of length 0 where none is); the reader's
+ * message is joined in `buffer`, which is to be lent as the last call left it. `out` has room for LAC_ROW_SIZE bytes.
+ * 0 or more: the bits of what the card sends (0: it is silent, as it is to damage and to what it does not await), and lac_event. After
+ * LAC_MESSAGE the card owes an answer, and takes no row until lac_card_reply or lac_card_ask.
+ * Refused: LAC_NOT_DUE, an answer is owed; LAC_ROOM, `out` is too short, or `answer` ends before the block that is to be sent from it;
+ * LAC_TOO_LONG, the reader's message, or `answer` where a block is to be sent from it. */
+int64_t lac_card_take(uint8_t *state, size_t state_len, const uint8_t *row, size_t row_len, const uint8_t *answer, size_t answer_len,
+                      uint8_t *buffer, size_t buffer_len, uint8_t *out, size_t out_len);
+
+/* Answers the reader's message, cut into blocks: this call the first, lac_card_take the others.
+ * Over 0: the bits of a block. Refused: LAC_NOT_DUE, no answer is owed; LAC_ROOM; LAC_TOO_LONG. */
+int64_t lac_card_reply(uint8_t *state, size_t state_len, const uint8_t *answer, size_t answer_len, uint8_t *out, size_t out_len);
+
+/* Asks the reader for more time, `wtxm` of 1 to 59, before the answer; after LAC_GRANTED the answer is owed again.
+ * 36: the bits of WTX. Refused: LAC_NOT_DUE, no answer is owed; LAC_ROOM; LAC_ARGUMENT, wtxm is not 1 to 59. */
+int64_t lac_card_ask(uint8_t *state, size_t state_len, uint8_t wtxm, uint8_t *out, size_t out_len);
+
+/* 1 where the card owes an answer, else 0; and its state, one of enum lac_card_state_number. Bytes past the end of a short state count as 0. */
+uint8_t lac_card_owes(const uint8_t *state, size_t state_len);
+uint8_t lac_card_state(const uint8_t *state, size_t state_len);
+
+/* Of a reader and of a card: what the last call told, one of enum lac_event_number, and what came with it: a length, a size index, the byte of
+ * LAC_PARITY, or 0. A call that was refused without the reader being stopped told nothing. Of a state that no call has written they are
+ * what its bytes say; bytes past the end of a short state count as 0. */
 uint8_t lac_event(const uint8_t *state, size_t state_len);
 uint64_t lac_length(const uint8_t *state, size_t state_len);
 
 /* The last SAK of a selection; after LAC_FOUND and LAC_SELECTED it is the card's. Bytes past the end of a short state count as 0. */
 uint8_t lac_reader_sak(const uint8_t *state, size_t state_len);
 
-/* The UID, at the front of `out`, which has room for LAC_UID_SIZE bytes; after LAC_FOUND and LAC_SELECTED it is the card's.
- * 4, 7 or 10: how many bytes it has; no more are written. Refused: LAC_ROOM, the state or `out` is too short; nothing is written. */
-int64_t lac_reader_uid(const uint8_t *state, size_t state_len, uint8_t *out, size_t out_len);
+/* The UID, at the front of `out`, which has room for LAC_UID_SIZE bytes: a card's own, and a reader's after LAC_FOUND and LAC_SELECTED the
+ * card's. 4, 7 or 10: how many bytes it has; no more are written. Refused: LAC_ROOM, the state or `out` is too short; nothing is written. */
+int64_t lac_uid(const uint8_t *state, size_t state_len, uint8_t *out, size_t out_len);
 
-/* CRC_A of bytes. The byte sent first is its low one. */
+/* Both sweeps: the reader finds every Idle card of a field and halts it; the library plays the cards. lac_sweep is the plain one;
+ * lac_sweep_remember keeps the branches that it has not taken, so it finds the same UIDs, leaves the same cards, and sends no more frames.
+ * `state` is a new reader's, which is finished then. `cards` is a row of n cards' states, LAC_STATE_SIZE bytes each, as lac_card_new and
+ * lac_card_power_on leave them: at most LAC_MOST_CARDS, each Idle or Halt, no UID there twice. `tick` is the tick of the log's first record;
+ * each record after it has the next, modulo 2^32. `log` has room for LAC_LOG_ROOM bytes, `list` for LAC_LIST_ROOM, whatever the field is.
+ *
+ * 0 or more: how many UIDs were found. lac_event is LAC_SWEPT, lac_length the bytes of log written and lac_frames the frames that the reader
+ * sent. Of a card's state only its first 20 bytes are written: its end of the block protocol stays, and so does the reader's.
+ * Refused, and nothing at all is written: LAC_ROOM, a state is too short, or `cards` for n of them; LAC_NOT_DUE, the reader is not new;
+ * LAC_ROOM, the log or the list; LAC_ARGUMENT, n is over LAC_MOST_CARDS, or a card is neither Idle nor Halt, or has no valid UID, an index over
+ * 8 or a UID that another one has.
+ *
+ * The list, from its front on, has 11 bytes for each UID: its length, its bytes, zeros; of two UIDs the one that has a 1 in the first air
+ * bit in which they differ comes first. The log, from its front on, has a record for each frame of the reader and one behind it for what was
+ * heard; numbers have their highest byte first. A record is two bytes, the kind times 16384 plus the number of air bits; four bytes, its
+ * tick; then the air bits, parity among them, packed eight to a byte, the first in the top bit, zeros in the rest of the last byte. Kind 0
+ * is a frame of the reader, 1 an answer, 2 an answer in which bits collided, 3 silence, without bits. In kind 2 a collided bit is held as 0,
+ * and a second row of as many bits, packed in the same way from a new byte on, has a 1 for each. */
+int64_t lac_sweep(uint8_t *state, size_t state_len, uint8_t *cards, size_t cards_len, size_t n, uint32_t tick, uint8_t *log, size_t log_len,
+                  uint8_t *list, size_t list_len);
+int64_t lac_sweep_remember(uint8_t *state, size_t state_len, uint8_t *cards, size_t cards_len, size_t n, uint32_t tick, uint8_t *log,
+                           size_t log_len, uint8_t *list, size_t list_len);
+
+/* The frames that a reader's last sweep by these two sent. Of a state that no sweep has written it is what its bytes say; bytes past the end of
+ * a short state count as 0. */
+uint64_t lac_frames(const uint8_t *state, size_t state_len);
+
+/* CRC_A of bytes, and CRC_B. The byte sent first is the low one. */
 uint16_t lac_crc_a(const uint8_t *bytes, size_t bytes_len);
+uint16_t lac_crc_b(const uint8_t *bytes, size_t bytes_len);
+
+/* Frames, without a state. A standard frame is 1 to LAC_FRAME_MAX bytes, eight bits each, the lowest first, and then odd parity. A refusal
+ * writes nothing.
+ *
+ * Writes bytes as a frame at the front of `out`: as they are, or with their CRC_A behind them.
+ * 0 or more: the bits written, 9 for each byte. Refused: LAC_ROOM, `out` is too short for them. No bytes at all, and bytes over
+ * LAC_FRAME_MAX (CRC_A counts), are written too, but such a row is no frame: read back it is LAC_LENGTH. */
+int64_t lac_frame_write(const uint8_t *bytes, size_t bytes_len, uint8_t *out, size_t out_len);
+int64_t lac_frame_write_crc(const uint8_t *bytes, size_t bytes_len, uint8_t *out, size_t out_len);
+
+/* Writes the seven low bits of a byte as a short frame, without parity.
+ * 7: the bits written. Refused: LAC_ROOM. */
+int64_t lac_frame_write_short(uint8_t byte, uint8_t *out, size_t out_len);
+
+/* Reads a received row as a standard frame, its bytes to the front of `out`, which has room for LAC_FRAME_MAX bytes whatever is heard: as
+ * they are, or with CRC_A tested and left out.
+ * Over 0: how many bytes. Refused, tested in this order: LAC_ROOM; LAC_LENGTH, the row is not 1 (with CRC_A 3) to LAC_FRAME_MAX whole bytes
+ * with parity; LAC_COLLISION; LAC_PARITY, and lac_frame_wrong tells the byte; LAC_CRC. */
+int64_t lac_frame_read(const uint8_t *row, size_t row_len, uint8_t *out, size_t out_len);
+int64_t lac_frame_read_crc(const uint8_t *row, size_t row_len, uint8_t *out, size_t out_len);
+
+/* Reads a received row as a short frame.
+ * 0 to 127: its seven bits. Refused: LAC_LENGTH, the row is not 7 bits; LAC_COLLISION. */
+int64_t lac_frame_read_short(const uint8_t *row, size_t row_len);
+
+/* The first of a row's whole bytes, row_len / 9 of them, from 0, that has no collided data bit and wrong parity; row_len / 9 where none is
+ * so. A collided parity bit is wrong. */
+uint64_t lac_frame_wrong(const uint8_t *row, size_t row_len);
 
 #ifdef __cplusplus
 }

@@ -1,13 +1,10 @@
-// `make speed`. Document 02, T-08: "Baseline: a bit-at-a-time Rust program that the team writes, optimised build, same machine, frames of 256
-// bytes; we want at least three times its rate." Here are two such programs, and two that take a byte at a time; all four are ours. The core is
-// the archive of crate crc_speed. A frame of n bytes means the CRC over n bytes of input, in a warm buffer. First all are held to one another.
+// CRC_A in plain Rust, and what T-08 asks of the core's: "Baseline: a bit-at-a-time Rust program that the team writes, optimised build, same
+// machine, frames of 256 bytes; we want at least three times its rate." Here are two such programs, and two that take a byte at a time; all four
+// are ours. A frame of n bytes means the CRC over n bytes of input, in a warm buffer. First all are held to one another.
+use crate::lac::{crc_a as core_a, crc_b as core_b};
+use crate::next;
 use std::hint::black_box;
 use std::time::Instant;
-
-extern "C" {
-    fn lac_crc_a(at: *const u8, count: usize) -> u16;
-    fn lac_crc_b(at: *const u8, count: usize) -> u16;
-}
 
 type Crc = fn(&[u8]) -> u16;
 
@@ -85,9 +82,9 @@ fn by_table(bytes: &[u8]) -> u16 {
     c
 }
 
-// A byte at a time by shifts alone, libnfc's way: the polynomial has three powers below 16, so three shifts of the folded byte do.
-#[inline(never)]
-fn by_shifts(bytes: &[u8]) -> u16 {
+// A byte at a time by shifts alone, libnfc's way: the polynomial has three powers below 16, so three shifts of the folded byte do. It is the
+// quickest of the four, so the plain frames use it.
+pub fn crc_a(bytes: &[u8]) -> u16 {
     let mut c = 0x6363u32;
     for &b in bytes {
         let low = (c as u8) ^ b;
@@ -97,12 +94,9 @@ fn by_shifts(bytes: &[u8]) -> u16 {
     c as u16
 }
 
-fn core_a(bytes: &[u8]) -> u16 {
-    unsafe { lac_crc_a(bytes.as_ptr(), bytes.len()) }
-}
-
-fn core_b(bytes: &[u8]) -> u16 {
-    unsafe { lac_crc_b(bytes.as_ptr(), bytes.len()) }
+#[inline(never)]
+fn by_shifts(bytes: &[u8]) -> u16 {
+    crc_a(bytes)
 }
 
 const ALL: [(&str, Crc); 6] = [
@@ -115,14 +109,6 @@ const ALL: [(&str, Crc); 6] = [
 ];
 const BASELINES: usize = 4;
 const CORE: usize = 4;
-
-// A fixed row of numbers that look drawn at random.
-fn next(x: &mut u64) -> u64 {
-    *x ^= *x << 13;
-    *x ^= *x >> 7;
-    *x ^= *x << 17;
-    *x
-}
 
 // Every program on the same inputs, of 0 to 300 bytes, starting anywhere in a word.
 fn compare(inputs: usize) {
@@ -164,7 +150,7 @@ fn measure(frame: &[u8]) -> Vec<(f64, f64)> {
     times.iter().map(|t| (t[0], t[RUNS / 2])).collect()
 }
 
-fn main() {
+pub fn report() {
     compare(100_000);
     let bytes: Vec<u8> = (0..256u32).map(|i| (i * 7 + 3) as u8).collect();
     let by_size: Vec<Vec<(f64, f64)>> = SIZES.iter().map(|&n| measure(&bytes[..n])).collect();

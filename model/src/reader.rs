@@ -59,9 +59,9 @@ struct Memory {
 #[derive(Clone, Debug, PartialEq)]
 pub struct Reader {
     pub phase: Phase,
-    sweeping: bool,
+    pub sweeping: bool,
     /// The UID so far, of the levels that were selected.
-    uid: Vec<u8>,
+    pub uid: Vec<u8>,
     /// In a sweep that remembers only.
     memory: Option<Memory>,
 }

@@ -24,18 +24,18 @@ pub enum Stage {
 pub struct Link {
     pub stage: Stage,
     /// The reader's own size, from its RATS, and the card's, from ATS.
-    own_size: usize,
-    card_size: usize,
+    pub own_size: usize,
+    pub card_size: usize,
     /// The reader's own block number; it goes on from message to message.
     pub number: u8,
     /// Where in the message the last I began; 0 while joining and between messages.
     pub place: usize,
     /// How many bytes of the answer are joined.
-    joined: usize,
+    pub joined: usize,
     /// Silence and damage running, 0 to 2.
-    repeats: u8,
+    pub repeats: u8,
     /// How often the last I was sent again because of an R(ACK), 0 to 2.
-    sent_again: u8,
+    pub sent_again: u8,
 }
 
 /// ATS: 7, 2, 8, 3, 4, then its values. TL counts itself but not CRC_A; T0 b5, b6, b7 announce TA, TB, TC; T0 b8 set, or TL

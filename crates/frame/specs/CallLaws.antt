@@ -15,13 +15,22 @@ use Rattle.refusal.specs.declared.Refusal.{Refusal}
 use Rattle.refusal.specs.declared.Refusal.the-variants.{Room}
 use Rattle.frame.specs.declared.Received.{Received}
 use Rattle.frame.specs.declared.Received.the-variants.{Bytes, NotReceived}
-use Rattle.frame.specs.Frame.{withoutCrc, Verdict, Good, Fault}
+use Rattle.frame.specs.Frame.{dataOf, bytesOf, firstWrong, withoutCrc, Verdict, Good, Fault}
+use Rattle.frame.specs.WrongLaws.{first-most}
+use Rattle.frame.specs.ByteLaws.{length-bytes}
 use Rattle.frame.specs.Calls.{received, readAnswer, goodBytes, bytesAfter}
 
 -- held bytes that end with their CRC_A, without it
 pub held-good : (d : List ℕ) (n : ℕ) → n ≤ length d → crcGood (take n d) ≡ true → withoutCrc (take n d) ≡ Good (take (n - 2) d)
 unfolding withoutCrc crcGood
 held-good d n h g = rw (g, length-take-le n d h, take-take (n - 2) n d (omega arith))
+
+-- bytes that were read up to the first wrong one, where none is wrong: all of them, at the front of where they were put
+pub held-sound : (d h r : List ℕ) (n p : ℕ) → p ≡ firstWrong n r → n ≤ p → h ≡ overlay d 0 (bytesOf p (dataOf p r)) → take n h ≡ bytesOf n (dataOf n r)
+held-sound d h r n p e l k =
+    let m : p ≡ n = omega (arith, first-most n r) in
+    let b : List ℕ = bytesOf n (dataOf n r) in
+    rw (k, m) (rw (length-bytes n (dataOf n r)) at (overlay-front d b))
 
 pub read-room : (room : ℕ) (v : Verdict) → 256 ≤ room → readAnswer room v ≡ received v
 unfolding readAnswer

@@ -9,13 +9,15 @@ use native.Mathlib.Omega.{arith}
 use lib.ListN.{length, take, drop, getD, set, length-drop}
 use lib.Seq.{take-suc, length-take-le, drop-drop, getD-drop}
 use lib.Dec.{eqb}
+use borrow.Author.Tests.{eq-eqb, ne-eqb}
 use Rattle.rows.specs.Rows.{overlay, clean}
 use Rattle.rows.specs.RowLaws.{overlay-next, overlay-set}
-use Rattle.parity.specs.Bits.{unbits, odd}
+use Rattle.rows.specs.HeardLaws.{clean-bits, clean-take, clean-drop}
+use Rattle.parity.specs.Bits.{bitsOf, unbits, odd}
 use Rattle.crc.specs.Crc.{crcBytes, withCrc}
 use Rattle.crc.specs.CrcLaws.{length-crc}
 use Rattle.frame.specs.Frame.{airByte, standard, dataOf, bytesOf, wrongByte, firstWrong}
-use Rattle.frame.specs.FrameLaws.{length-airByte, length-standard, standard-append, bytes-first}
+use Rattle.frame.specs.FrameLaws.{length-airByte, length-standard, standard-append, bytes-first, bits-whole}
 use Rattle.frame.specs.ByteLaws.{length-bytes}
 
 -- ---- writing
@@ -59,6 +61,25 @@ first-here k i r h w =
 pub first-done : (k i : ℕ) (r : List ℕ) → k ≤ i → firstWrong (k - i) r ≡ 0
 unfolding firstWrong
 first-done k i r h = let e : k - i ≡ 0 = omega arith in rw e
+
+-- the parity of a byte whose data bits are read
+pub wrong-read : (r : List ℕ) (at b p : ℕ) → at + 9 ≤ length r → clean (take 8 (drop at r)) ≡ true → b ≡ unbits (take 8 (drop at r)) → p ≡ odd (bitsOf 8 b)
+    → wrongByte (drop at r) ≡ not (eqb (getD r (at + 8) 0) p)
+wrong-read r at b p h k e f =
+    let d : List ℕ = take 8 (drop at r) in
+    let w : bitsOf 8 b ≡ d = ap (bitsOf 8) e ∙ bits-whole 8 d (clean-bits d k) (length-take-le 8 (drop at r) (rw length-drop (omega arith))) in
+    rw (f, w, k, getD-drop at r 8 0)
+
+-- .. of byte i of a row with no collided bit
+module _ (r : List ℕ) (i b p : ℕ) (h : 9 * i + 9 ≤ length r) (k : clean r ≡ true) (e : b ≡ unbits (take 8 (drop (9 * i) r))) (f : p ≡ odd (bitsOf 8 b)) where
+  read-at : wrongByte (drop (0 + 9 * i) r) ≡ not (eqb (getD r (9 * i + 8) 0) p)
+  read-at = rw zero-add (wrong-read r (9 * i) b p h (clean-take 8 (drop (9 * i) r) (clean-drop (9 * i) r k)) e f)
+
+  pub wrong-here : (getD r (9 * i + 8) 0 ≡ p → ⊥) → wrongByte (drop (0 + 9 * i) r) ≡ true
+  wrong-here n = read-at ∙ ap not (ne-eqb (getD r (9 * i + 8) 0) p n)
+
+  pub right-here : getD r (9 * i + 8) 0 ≡ p → wrongByte (drop (0 + 9 * i) r) ≡ false
+  right-here n = read-at ∙ ap not (eq-eqb (getD r (9 * i + 8) 0) p n)
 
 -- ---- reading
 

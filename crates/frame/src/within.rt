@@ -57,7 +57,25 @@ pub fn bytes_of(row: &[u8], n: usize, out: &mut [u8])
     }
 }
 
-// Reads a received row as a standard frame of least to most bytes, tested 2, 8, 3; before these 1, room for 256 bytes.
+// Writes the bytes of a row with no collided bit at the front of out, parity left out, up to the first of n whose parity is wrong, and gives the
+// place of that one; n where none is so.
+pub fn sound_bytes(row: &[u8], n: usize, out: &mut [u8]) -> usize
+    requires { ⌜ (9 * n ≤ length (now row)) × (n ≤ length (now out)) × (clean (now row) ≡ true) ⌝ }
+    ensures { λ r. ⌜ r ≡ firstWrong n (now (row .entry)) ⌝ }
+    ensures { λ r. ⌜ now (out .exit) ≡ overlay (now (out .entry)) 0 (bytesOf r (dataOf r (now (row .entry)))) ⌝ }
+{
+    for k in 0..n {
+        let b = parity::within::byte_at(row, 9 * k);
+        if row[9 * k + 8] != parity::odd_parity(b) {
+            return k;
+        }
+        out[k] = b;
+    }
+    n
+}
+
+// Reads a received row as a standard frame of least to most bytes, tested 2, 8, 3; before these 1, room for 256 bytes. The bytes are read into
+// an array of its own while their parity is tested, so that the row is walked once for both and nothing is written into out before all is right.
 pub fn read_within(row: &[u8], least: usize, most: usize, out: &mut [u8]) -> Received
     requires { ⌜ most ≤ mostBytes ⌝ }
     ensures { λ r. ⌜ r ≡ readAnswer (length (now (out .entry))) (readFrame least most (now (row .entry))) ⌝ }
@@ -73,11 +91,12 @@ pub fn read_within(row: &[u8], least: usize, most: usize, out: &mut [u8]) -> Rec
         return Received::NotReceived(Refusal::Collision);
     }
     let n = row.len() / 9;
-    let p = first_wrong(row, 0, n);
+    let mut held = [0u8; limits::MOST_BYTES];
+    let p = sound_bytes(row, n, &mut held);
     if p < n {
         return Received::NotReceived(Refusal::Parity(p as u8));
     }
-    bytes_of(row, n, out);
+    rows::within::put(out, 0, &held[..n]);
     Received::Bytes(n)
 }
 

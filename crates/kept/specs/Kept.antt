@@ -11,6 +11,7 @@ use Rattle.block.specs.declared.Told.{Told}
 use Rattle.block.specs.declared.Told.the-variants.{Quiet, Message, Granted, Deselected, Refused}
 use Rattle.uid.specs.declared.Level.{Level}
 use Rattle.uid.specs.declared.Level.the-variants.{One, Two, Three}
+use Rattle.uid.specs.declared.Uid.{Uid}
 use Rattle.uid.specs.declared.UidSize.{UidSize}
 use Rattle.uid.specs.declared.UidSize.the-variants.{Single, Double, Triple}
 
@@ -58,6 +59,17 @@ sizeTag Triple = 2
 
 abbrev pub sizeOf : ℕ → UidSize
 sizeOf b = cond (eqb b 0) Single (cond (eqb b 1) Double Triple)
+
+-- the UID, at the same places in a reader's state and in a card's: its size, then ten bytes
+abbrev pub uidIn : List ℕ → Uid
+uidIn b = record { size = sizeOf (getD b 9 0); bytes = bytesAt 10 b 10 }
+
+-- what the last call told, at the same places too: an event's number, and what came with it
+abbrev pub eventOf : List ℕ → ℕ
+eventOf b = getD b 45 0
+
+abbrev pub lengthOf : List ℕ → ℕ
+lengthOf b = number 8 b 46
 
 -- ---- what a call answers: one number, 64 bits wide. A refusal is minus its number, in two's complement
 

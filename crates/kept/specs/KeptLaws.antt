@@ -1,11 +1,14 @@
 -- What is kept is read back. Assumes nothing.
 use mathlib.Core.Path.{_≡_, refl, ap, _∙_}
 use mathlib.Core.Bool.{Bool, true, false}
-use mathlib.Core.List.{List, [], _∷_}
+use mathlib.Core.List.{List, [], _∷_, _++_}
 use Prim.Native.Nat.{ℕ, zero, suc, _+_, _*_, _/_, _%_, _<_, _≤_}
+use native.Mathlib.Nat.{zero-add}
 use native.Mathlib.Numerals.{add-one}
 use native.Mathlib.Omega.{arith}
-use lib.ListN.{length, getD}
+use lib.ListN.{length, getD, length-append}
+use Rattle.rows.specs.Rows.{overlay}
+use Rattle.rows.specs.RowLaws.{overlay-next}
 use Rattle.refusal.specs.Refusal.{numberOf}
 use Rattle.refusal.specs.declared.Refusal.{Refusal}
 use Rattle.refusal.specs.declared.Refusal.the-variants.{Room, Length, Parity, Crc, Check, Argument, Silence, Collision, Forbidden, TooLong, NotDue, Repeats}
@@ -62,6 +65,15 @@ word-back (suc k) n b p h e =
     let r : number k b (p + 1) ≡ n / 256 = word-back k (n / 256) b (p + 1) (omega arith) (tail-same _ _ _ _ e) in
     let d : getD b p 0 ≡ n % 256 = head-same _ _ _ _ e in
     omega arith
+
+-- three rows written one behind the other are one row
+pub three-put : (m n : ℕ) (d A B C : List ℕ) → length A ≡ m → length B ≡ n → m + n + length C ≤ length d
+    → overlay (overlay (overlay d 0 A) m B) (m + n) C ≡ overlay d 0 ((A ++ B) ++ C)
+three-put m n d A B C a b h =
+    let k : length (A ++ B) ≡ m + n = simp (length-append, a, b) in
+    let e : overlay (overlay d 0 A) m B ≡ overlay d 0 (A ++ B) = rw (a, zero-add) at (overlay-next d 0 A B (omega arith)) in
+    let g : overlay (overlay d 0 (A ++ B)) (m + n) C ≡ overlay d 0 ((A ++ B) ++ C) = rw (k, zero-add) at (overlay-next d 0 (A ++ B) C (omega arith)) in
+    rw e g
 
 -- no refusal has the number 0
 pub number-some : (e : Refusal) → 1 ≤ numberOf e

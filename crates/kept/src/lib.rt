@@ -1,17 +1,18 @@
-// A state kept in lent bytes: what the reader's bytes are made of, and a card's will be.
+// A state kept in lent bytes: what a reader's bytes and a card's are made of.
 pub mod within;
 
 ghost use mathlib.Core.Path.{_≡_};
 ghost use Prim.Native.Nat.{_+_, _%_, _*_};
 ghost use lib.ListN.{getD};
 ghost use Rattle.refusal.specs.Refusal.{placeOf};
-ghost use Rattle.kept.specs.Kept.{flag, levelTag, levelOf, sizeTag, sizeOf, word, number, refused, toldNumber, toldRefuses, toldEvent, toldLength};
+ghost use Rattle.kept.specs.Kept.{flag, levelTag, levelOf, sizeTag, sizeOf, bytesAt, uidIn, word, number, refused, toldNumber, toldRefuses, toldEvent, toldLength};
 use block::Told;
 use refusal::Refusal;
 use uid::Level;
+use uid::Uid;
 use uid::UidSize;
 
-// The bytes that a state asks for, a reader's now and a card's later.
+// The bytes that a state asks for, a reader's and a card's.
 pub const STATE_SIZE: usize = 64;
 
 // .. and the room for a UID.
@@ -75,6 +76,32 @@ pub fn size_of(b: u8) -> UidSize
         return UidSize::Double;
     }
     UidSize::Triple
+}
+
+fn ten_of(b: &[u8]) -> [u8; 10]
+    ensures { λ r. ⌜ r ≡ bytesAt 10 (now (b .entry)) 10 ⌝ }
+{
+    [
+        at(b, 10),
+        at(b, 11),
+        at(b, 12),
+        at(b, 13),
+        at(b, 14),
+        at(b, 15),
+        at(b, 16),
+        at(b, 17),
+        at(b, 18),
+        at(b, 19),
+    ]
+}
+
+// The UID that lent bytes say: at the same places in a reader's state and in a card's.
+pub fn uid_of(b: &[u8]) -> Uid
+    ensures { λ r. ⌜ r ≡ uidIn (now (b .entry)) ⌝ }
+{
+    let size = size_of(at(b, 9));
+    let bytes = ten_of(b);
+    Uid { size, bytes }
 }
 
 fn low(n: usize) -> u8

@@ -2,7 +2,7 @@
 --     0 phase, 1 its level, 2 in a sweep, 3 five bytes of the level, 8 known bits, 9 UID size, 10 ten bytes of the UID, 20 SAK,
 --     21 link, 22 own size index, 23 the card's, 24 block number, 25 the link's phase, 26 its turn, 27 again, 28 repeats,
 --     29 place in the message, 37 bytes joined (eight bytes each, the low byte first), 45 the last answer's event, 46 its length (eight bytes).
--- Of the 64 bytes that a call asks for these are the first 54; no call looks at those behind them.
+-- Of the 64 bytes that a call asks for these are the first 54; behind them a sweep over cards in lent bytes keeps its count of frames (crate kept_field).
 use Prim.Native.Nat.{ℕ, _<_}
 use mathlib.Core.Bool.{Bool, true, false, cond, _&&_}
 use mathlib.Core.List.{List, [], _∷_, _++_}
@@ -27,7 +27,7 @@ use Rattle.reader_link.specs.declared.LinkReader.{LinkReader}
 use Rattle.reader_link.specs.declared.LinkAnswer.{LinkAnswer}
 use Rattle.reader_link.specs.declared.LinkAnswer.the-variants.{Selection, Opens, Blocks}
 use Rattle.reader_link.specs.declared.LinkTurn.{LinkTurn}
-use Rattle.kept.specs.Kept.{bytesAt, word, number, flag, flagOf, levelTag, levelOf, sizeTag, sizeOf, refused, toldNumber, toldRefuses, toldEvent, toldLength}
+use Rattle.kept.specs.Kept.{bytesAt, word, number, flag, flagOf, levelTag, levelOf, sizeTag, uidIn, eventOf, lengthOf, refused, toldNumber, toldRefuses, toldEvent, toldLength}
 
 -- ---- the selection
 
@@ -78,7 +78,7 @@ selectionOf b = record {
   sweeps = flagOf (getD b 2 0);
   five = bytesAt 5 b 3;
   known = getD b 8 0;
-  uid = record { size = sizeOf (getD b 9 0); bytes = bytesAt 10 b 10 };
+  uid = uidIn b;
   sak = getD b 20 0;
 }
 
@@ -235,12 +235,6 @@ pub record Kept : Type 0 where
   pub reader : LinkReader
   pub event : ℕ
   pub length : ℕ
-
-abbrev pub eventOf : List ℕ → ℕ
-eventOf b = getD b 45 0
-
-abbrev pub lengthOf : List ℕ → ℕ
-lengthOf b = number 8 b 46
 
 abbrev pub keptIn : List ℕ → Kept
 keptIn b = record { reader = readerOf b; event = eventOf b; length = lengthOf b }

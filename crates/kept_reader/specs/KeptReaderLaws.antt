@@ -4,7 +4,7 @@ use mathlib.Core.Bool.{Bool}
 use mathlib.Core.List.{List, _++_, append-assoc}
 use Prim.Native.Nat.{ℕ, _<_, _≤_, _+_}
 use native.Mathlib.Omega.{arith}
-use lib.ListN.{length, drop, length-append}
+use lib.ListN.{length, drop}
 use Rattle.reader.specs.declared.Phase.{Phase}
 use Rattle.reader.specs.declared.Phase.the-variants as phase
 use Rattle.reader_blocks.specs.declared.Turn.{Turn}
@@ -12,7 +12,6 @@ use Rattle.reader_blocks.specs.declared.Turn.the-variants.{Sending, Awaiting, J
 use Rattle.reader_blocks.specs.declared.ReaderPhase.{ReaderPhase}
 use Rattle.reader_blocks.specs.declared.ReaderPhase.the-variants.{Open, Talking, Leaving, Finished, Stopped}
 use Rattle.rows.specs.Rows.{overlay}
-use Rattle.rows.specs.RowLaws.{overlay-next}
 use Rattle.uid.specs.declared.UidSize.{UidSize}
 use Rattle.reader.specs.declared.Reader.{Reader}
 use Rattle.reader_blocks.specs.declared.ReaderLink.{ReaderLink}
@@ -21,9 +20,9 @@ use Rattle.reader_link.specs.declared.Link.the-variants.{NoLink, RatsSent, Link
 use Rattle.reader_link.specs.declared.LinkReader.{LinkReader}
 use Rattle.reader_link.specs.declared.LinkAnswer.{LinkAnswer}
 use Rattle.reader_link.specs.declared.LinkTurn.{LinkTurn}
-use Rattle.kept.specs.Kept.{bytesAt, word}
-use Rattle.kept.specs.KeptLaws.{level-back, flag-back, size-back, bytes-whole, word-back, room}
-use Rattle.kept_reader.specs.KeptReader.{phaseTag, phaseLevel, phaseOf, turnTag, turnOf, linkPhaseTag, linkPhaseTurn, linkPhaseOf, selectionBytes, selectionOf, linkedBytes, linkedOf, linkBytes, linkOf, Sized, readerBytes, readerOf, answerEvent, answerLength, answerBytes, turnBytes, eventOf, lengthOf, keptIn, keptOf}
+use Rattle.kept.specs.Kept.{bytesAt, word, eventOf, lengthOf}
+use Rattle.kept.specs.KeptLaws.{level-back, flag-back, size-back, bytes-whole, word-back, room, three-put}
+use Rattle.kept_reader.specs.KeptReader.{phaseTag, phaseLevel, phaseOf, turnTag, turnOf, linkPhaseTag, linkPhaseTurn, linkPhaseOf, selectionBytes, selectionOf, linkedBytes, linkedOf, linkBytes, linkOf, Sized, readerBytes, readerOf, answerEvent, answerLength, answerBytes, turnBytes, keptIn, keptOf}
 
 pub phase-back : (p : Phase) → phaseOf (phaseTag p) (phaseLevel p) ≡ p
 phase-back phase.New = refl
@@ -98,14 +97,6 @@ link-length NoLink = refl
 link-length (RatsSent i) = refl
 link-length (Linked l) = refl
 
-pub three-put : (d A B C : List ℕ) → length A ≡ 21 → length B ≡ 24 → 45 + length C ≤ length d
-    → overlay (overlay (overlay d 0 A) 21 B) 45 C ≡ overlay d 0 ((A ++ B) ++ C)
-three-put d A B C a b h =
-    let n : length (A ++ B) ≡ 45 = simp (length-append, a, b) in
-    let e : overlay (overlay d 0 A) 21 B ≡ overlay d 0 (A ++ B) = rw a at (overlay-next d 0 A B (omega arith)) in
-    let g : overlay (overlay d 0 (A ++ B)) 45 C ≡ overlay d 0 ((A ++ B) ++ C) = rw n at (overlay-next d 0 (A ++ B) C (omega arith)) in
-    rw e g
-
 -- ---- what else the last call answered
 
 pub event-back : (r : Reader) (k : Link) (a : LinkAnswer) (rest : List ℕ) → eventOf (selectionBytes r ++ (linkBytes k ++ (answerBytes a ++ rest))) ≡ answerEvent a
@@ -152,5 +143,5 @@ pub settled : (t : LinkTurn) (d A B C d₁ d₂ d₃ : List ℕ) → 64 ≤ leng
 settled t d A B C d₁ d₂ d₃ h a f b k c m e₁ e₂ e₃ =
     let n = answer-length t in
     let w : d₃ ≡ overlay d 0 (turnBytes t) =
-    rw (e₃, e₂, e₁, a, b, c) (three-put d _ _ _ (selection-length (t .reader .reader)) (link-length (t .reader .link)) (omega arith)) in
+    rw (e₃, e₂, e₁, a, b, c) (three-put 21 24 d _ _ _ (selection-length (t .reader .reader)) (link-length (t .reader .link)) (omega arith)) in
     (w, rw w (kept-back d t (f .0) (f .1) k m))

@@ -9,7 +9,8 @@ use Rattle.reader.specs.declared.Reader.{Reader}
 use Rattle.reader_link.specs.declared.Link.{Link}
 use Rattle.reader_link.specs.declared.LinkReader.{LinkReader}
 use Rattle.reader_link.specs.declared.LinkTurn.{LinkTurn}
-use Rattle.kept_reader.specs.KeptReader.{selectionBytes, selectionOf, linkBytes, linkOf, readerOf, Fits, answerRefuses, turnBytes, sameReader, stays, turnLeft, eventOf, lengthOf, Kept, keptIn, keptOf, keptAfter}
+use Rattle.kept.specs.Kept.{eventOf, lengthOf}
+use Rattle.kept_reader.specs.KeptReader.{selectionBytes, selectionOf, linkBytes, linkOf, readerOf, Fits, answerRefuses, turnBytes, sameReader, stays, turnLeft, Kept, keptIn, keptOf, keptAfter}
 use Rattle.kept_reader.specs.KeptReaderLaws.{selection-back, link-back}
 
 left-of : (a b : Bool) → (a && b) ≡ true → a ≡ true

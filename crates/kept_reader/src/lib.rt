@@ -18,7 +18,6 @@ use reader_link::Link;
 use reader_link::LinkAnswer;
 use reader_link::LinkReader;
 use reader_link::LinkTurn;
-use uid::Uid;
 
 fn phase_tag(p: Phase) -> u8
     ensures { λ r. ⌜ r ≡ phaseTag p ⌝ }
@@ -88,7 +87,8 @@ fn phase_of(t: u8, l: u8) -> Phase
     Phase::Stopped
 }
 
-fn selection_bytes(r: Reader) -> [u8; 21]
+// A reader's selection, as bytes.
+pub fn selection_bytes(r: Reader) -> [u8; 21]
     ensures { λ b. ⌜ b ≡ selectionBytes r ⌝ }
     ensures { λ _. ⌜ (length (r .five) ≡ 5) × (length (r .uid .bytes) ≡ 10) ⌝ }
 {
@@ -138,34 +138,16 @@ fn five_of(b: &[u8]) -> [u8; 5]
     ]
 }
 
-fn ten_of(b: &[u8]) -> [u8; 10]
-    ensures { λ r. ⌜ r ≡ bytesAt 10 (now (b .entry)) 10 ⌝ }
-{
-    [
-        kept::at(b, 10),
-        kept::at(b, 11),
-        kept::at(b, 12),
-        kept::at(b, 13),
-        kept::at(b, 14),
-        kept::at(b, 15),
-        kept::at(b, 16),
-        kept::at(b, 17),
-        kept::at(b, 18),
-        kept::at(b, 19),
-    ]
-}
-
-fn selection_of(b: &[u8]) -> Reader
+// The selection of the reader that lent bytes say.
+pub fn selection_of(b: &[u8]) -> Reader
     ensures { λ r. ⌜ r ≡ selectionOf (now (b .entry)) ⌝ }
 {
     let phase = phase_of(kept::at(b, 0), kept::at(b, 1));
     let sweeps = kept::at(b, 2) == 1;
     let five = five_of(b);
     let known = kept::at(b, 8);
-    let size = kept::size_of(kept::at(b, 9));
-    let bytes = ten_of(b);
+    let uid = kept::uid_of(b);
     let sak = kept::at(b, 20);
-    let uid = Uid { size, bytes };
     Reader {
         phase,
         sweeps,
@@ -279,7 +261,8 @@ fn linked_bytes(l: ReaderLink) -> [u8; 24]
     ]
 }
 
-fn link_bytes(k: Link) -> [u8; 24]
+// A reader's link, as bytes.
+pub fn link_bytes(k: Link) -> [u8; 24]
     ensures { λ b. ⌜ b ≡ linkBytes k ⌝ }
     ensures { λ _. ⌜ Sized k ⌝ }
 {
@@ -365,15 +348,8 @@ pub fn reader_of(b: &[u8]) -> LinkReader
     LinkReader { reader, link }
 }
 
-// The UID of the reader that lent bytes say.
-pub fn uid_of(b: &[u8]) -> Uid
-    ensures { λ r. ⌜ r ≡ readerOf (now (b .entry)) .reader .uid ⌝ }
-{
-    let reader = selection_of(b);
-    reader.uid
-}
-
-fn selection_number(a: Answer) -> usize
+// So many bits that a selection's answer sends, or minus the refusal's number.
+pub fn selection_number(a: Answer) -> usize
     ensures { λ r. ⌜ r ≡ selectionNumber a ⌝ }
 {
     match a {
@@ -396,7 +372,8 @@ pub fn answer_number(a: LinkAnswer) -> usize
     }
 }
 
-fn selection_refuses(a: Answer) -> bool
+// Is a selection's answer a refusal?
+pub fn selection_refuses(a: Answer) -> bool
     ensures { λ r. ⌜ r ≡ selectionRefuses a ⌝ }
 {
     match a {

@@ -10,8 +10,8 @@ use Rattle.rows.specs.Rows.{overlay}
 use Rattle.reader_link.specs.ReaderCalls.{Called}
 use Rattle.uid.specs.Uid.{byteCount, uidBytes}
 use Rattle.uid.specs.declared.Uid.{Uid}
-use Rattle.kept.specs.Kept.{stateSize, uidRoom, refused}
-use Rattle.kept_reader.specs.KeptReader.{answerNumber, turnLeft, readerOf}
+use Rattle.kept.specs.Kept.{stateSize, uidRoom, uidIn, refused}
+use Rattle.kept_reader.specs.KeptReader.{answerNumber, turnLeft}
 
 -- what comes of a call: its number, the state's bytes and the row to send
 pub record Done : Type 0 where
@@ -36,11 +36,11 @@ readerDone s o t =
 abbrev pub uidGiven : Uid → List ℕ → List ℕ → Done
 uidGiven u s o = done (byteCount (u .size)) s (overlay o 0 (uidBytes u))
 
--- the UID of the reader that the state says, its own bytes in front of the row o. No room for the longest UID: 1, all unchanged
+-- the UID of the reader or the card that the state says, its own bytes in front of the row o. No room for the longest UID: 1, all unchanged
 unfoldable pub uidDone : List ℕ → List ℕ → Done
 uidDone s o =
     cond (ltb (length s) stateSize) (done (refused Room) s o)
-    (cond (ltb (length o) uidRoom) (done (refused Room) s o) (uidGiven (readerOf s .reader .uid) s o))
+    (cond (ltb (length o) uidRoom) (done (refused Room) s o) (uidGiven (uidIn s) s o))
 
 -- what an answer is to C, that has the number n in the table's terms (0: not refused) and so many bits to send (law `number-says`)
 abbrev pub coded : ℕ → ℕ → ℕ

@@ -11,7 +11,7 @@ use Rattle.reader_link.specs.declared.LinkTurn.{LinkTurn}
 use Rattle.reader_link.specs.ReaderCalls.{Called, newReader}
 use Rattle.uid.specs.Uid.{byteCount, uidBytes}
 use Rattle.uid.specs.declared.Uid.{Uid}
-use Rattle.kept.specs.Kept.{refused, bytesAt}
+use Rattle.kept.specs.Kept.{refused, bytesAt, uidIn}
 use Rattle.kept_reader.specs.KeptReader.{answerNumber, turnLeft, readerOf, selectionOf, linkOf, keptIn, keptAfter}
 use Rattle.lacrivosum.specs.Library.{done, left, readerDone, uidDone}
 
@@ -54,7 +54,7 @@ pub uid-no-room : (s o : List ℕ) (n : ℕ) → 64 ≤ length s → length o < 
 unfolding uidDone
 uid-no-room s o n h k e = rw (le-ltb _ _ h, lt-ltb _ _ k, e)
 
-pub uid-given : (s o o′ : List ℕ) (u : Uid) (n : ℕ) → 64 ≤ length s → 10 ≤ length o → u ≡ readerOf s .reader .uid → n ≡ byteCount (u .size)
+pub uid-given : (s o o′ : List ℕ) (u : Uid) (n : ℕ) → 64 ≤ length s → 10 ≤ length o → u ≡ uidIn s → n ≡ byteCount (u .size)
     → o′ ≡ overlay o 0 (uidBytes u) → uidDone s o ≡ done n s o′
 unfolding uidDone
 uid-given s o o′ u n h k e c w = rw (le-ltb _ _ h, le-ltb _ _ k, c, w, e)

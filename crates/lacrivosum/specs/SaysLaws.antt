@@ -1,5 +1,5 @@
--- The number that a call gives is the one of the shared definition of answers (`linkTurnSays`); and a refusal that leaves the reader what it was
--- leaves every byte. Assumes nothing.
+-- The number that a call gives is the one of the shared definition of answers (a reader's by `linkTurnSays`, a card's by `toldSays`); and a refusal
+-- that leaves the reader what it was leaves every byte. Assumes nothing.
 use mathlib.Core.Path.{_≡_, refl}
 use mathlib.Core.Bool.{true}
 use mathlib.Core.List.{List}
@@ -9,6 +9,8 @@ use borrow.Author.Tests.{ne-eqb}
 use Rattle.refusal.specs.Refusal.{numberOf}
 use Rattle.refusal.specs.declared.Refusal.{Refusal}
 use Rattle.rows.specs.ListLaws.{same-refl}
+use Rattle.block.specs.Says.{toldSays}
+use Rattle.block.specs.declared.Told.{Told}
 use Rattle.block.specs.declared.Told.the-variants.{Quiet, Message, Granted, Deselected, Refused}
 use Rattle.reader.specs.declared.Reader.{Reader}
 use Rattle.reader.specs.declared.Answer.the-variants.{Sends, Finds, Selects, Finishes, Declines}
@@ -18,13 +20,20 @@ use Rattle.reader_link.specs.declared.LinkReader.{LinkReader}
 use Rattle.reader_link.specs.declared.LinkAnswer.{LinkAnswer}
 use Rattle.reader_link.specs.declared.LinkAnswer.the-variants.{Selection, Opens, Blocks}
 use Rattle.reader_link.specs.declared.LinkTurn.{LinkTurn}
-use Rattle.kept.specs.Kept.{refused}
+use Rattle.kept.specs.Kept.{refused, toldNumber}
 use Rattle.kept.specs.KeptLaws.{number-some}
 use Rattle.kept_reader.specs.KeptReader.{selectionBytes, linkBytes, answerNumber, answerRefuses, readerOf, stays, turnLeft}
 use Rattle.lacrivosum.specs.Library.{coded}
 
-refused-coded : (e : Refusal) (bits : ℕ) → refused e ≡ coded (numberOf e) bits
+pub refused-coded : (e : Refusal) (bits : ℕ) → refused e ≡ coded (numberOf e) bits
 refused-coded e bits = let h = number-some e in rw (ne-eqb (numberOf e) 0 (λ z. absurd (omega arith)))
+
+pub told-says : (t : Told) (bits : ℕ) → toldNumber bits t ≡ coded (toldSays t .number) bits
+told-says Quiet bits = refl
+told-says (Message k) bits = refl
+told-says Granted bits = refl
+told-says Deselected bits = refl
+told-says (Refused e) bits = refused-coded e bits
 
 answer-says : (a : LinkAnswer) (r : Reader) → answerNumber a ≡ coded (linkSays a r .number) (bitsBy a)
 answer-says (Selection (Sends n)) r = refl

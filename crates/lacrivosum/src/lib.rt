@@ -1,14 +1,19 @@
 // The core as a library for C: include/lacrivosum.h declares each of these functions. State is kept in bytes that the caller lends. A call
 // decodes them, makes the call of crate reader_link by value, and encodes what it leaves; nothing is written where that call is refused and the
-// reader stays what it was. Every call is 1 on a state that is too short.
+// reader stays what it was. Every call is 1 on a state that is too short. `card_calls` has the card's, `sweeps` both sweeps, `frames` what needs no
+// state.
+pub mod card_calls;
+pub mod frames;
+pub mod sweeps;
+
 ghost use mathlib.Core.Path.{_≡_};
 ghost use mathlib.Core.Bool.{true, false};
 ghost use Prim.Native.Nat.{_≤_};
 ghost use lib.ListN.{length};
 ghost use Rattle.crc.specs.Crc.{crcA};
 ghost use Rattle.reader_link.specs.ReaderCalls.{hearCall, startCall, wakeCall, ratsCall, sendCall, deselectCall};
-ghost use Rattle.kept.specs.Kept.{stateSize};
-ghost use Rattle.kept_reader.specs.KeptReader.{readerOf, eventOf, lengthOf, keptIn, keptAfter};
+ghost use Rattle.kept.specs.Kept.{stateSize, eventOf, lengthOf};
+ghost use Rattle.kept_reader.specs.KeptReader.{readerOf, keptIn, keptAfter};
 ghost use Rattle.lacrivosum.specs.Library.{done, left, readerDone, uidDone};
 use refusal::Refusal;
 
@@ -141,9 +146,9 @@ pub extern "C" fn lac_reader_sak(state: &[u8]) -> u8
     kept::at(state, 20)
 }
 
-// A reader's UID, at the front of out, and how many bytes it has. 1: also where out has no room for the longest.
+// The UID of a reader or a card, at the front of out, and how many bytes it has. 1: also where out has no room for the longest.
 #[no_mangle]
-pub extern "C" fn lac_reader_uid(state: &[u8], out: &mut [u8]) -> usize
+pub extern "C" fn lac_uid(state: &[u8], out: &mut [u8]) -> usize
     ensures { λ n. ⌜ uidDone (now (state .entry)) (now (out .entry)) ≡ done n (now (state .entry)) (now (out .exit)) ⌝ }
 {
     if state.len() < kept::STATE_SIZE {
@@ -152,7 +157,7 @@ pub extern "C" fn lac_reader_uid(state: &[u8], out: &mut [u8]) -> usize
     if out.len() < kept::UID_ROOM {
         return kept::refused(Refusal::Room);
     }
-    let u = kept_reader::uid_of(state);
+    let u = kept::uid_of(state);
     kept::within::put_uid(u, out)
 }
 

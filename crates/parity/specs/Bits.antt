@@ -12,6 +12,11 @@ unfoldable pub unbits : List ℕ → ℕ
 unbits [] = 0
 unbits (x ∷ r) = x + 2 * unbits r
 
+-- the number whose bytes are the elements of a row, the lowest first
+unfoldable pub wide : List ℕ → ℕ
+wide [] = 0
+wide (x ∷ r) = x + 256 * wide r
+
 -- how many of its bits are 1
 unfoldable pub ones : List ℕ → ℕ
 ones [] = 0

@@ -2,29 +2,40 @@
 use mathlib.Core.Path.{_≡_, refl}
 use mathlib.Core.Bool.{Bool, true, false, cond, false≢true}
 use mathlib.Core.List.{List, [], _∷_}
-use Prim.Native.Nat.{ℕ, _+_, _≤_, _<_}
+use Prim.Native.Nat.{ℕ, suc, _+_, _≤_, _<_, max}
 use native.Mathlib.Numerals.{add-one}
 use native.Mathlib.Omega.{arith}
 use lib.ListN.{length, take, drop, getD, drop-of-length-le}
 use lib.Seq.{drop-cons}
-use lib.Dec.{ltb}
-use borrow.Author.Tests.{lt-ltb, le-ltb, ltb-false, eq-eqb, ne-eqb}
+use lib.Dec.{ltb, leb}
+use borrow.Author.Tests.{le-ltb, ltb-true, ltb-false, le-leb, lt-leb, eq-eqb, ne-eqb}
 use Rattle.rows.specs.Rows.{clean, same, Bits}
 use Rattle.rows.specs.ListLaws.{all-take, all-drop}
 
 -- ---- the loop over `clean`
 
-pub clean-next : (h : List ℕ) (i : ℕ) → i < length h → getD h i 0 ≤ 1 → clean (drop i h) ≡ clean (drop (i + 1) h)
+-- an element more: none of those from i on is over 1, nor is the largest before them
+pub clean-next : (h : List ℕ) (i m : ℕ) → i < length h
+    → cond (ltb 1 m) false (clean (drop i h)) ≡ cond (ltb 1 (max m (getD h i 0))) false (clean (drop (i + 1) h))
 unfolding clean
-clean-next h i l b = rw (add-one, drop-cons h i 0) (rw (le-ltb 1 (getD h i 0) b))
+clean-next h i m l = rw (add-one, drop-cons h i 0) (go (ltb 1 m) (ltb 1 (getD h i 0)) (ltb 1 (max m (getD h i 0))) refl refl refl)
+  where
+    go : (a b c : Bool) → ltb 1 m ≡ a → ltb 1 (getD h i 0) ≡ b → ltb 1 (max m (getD h i 0)) ≡ c
+        → cond a false (cond b false (clean (drop (suc i) h))) ≡ cond c false (clean (drop (suc i) h))
+    go true b true p q r = refl
+    go false true true p q r = refl
+    go false false false p q r = refl
+    go true b false p q r = absurd (omega (arith, ltb-true 1 m p, ltb-false 1 (max m (getD h i 0)) r))
+    go false true false p q r = absurd (omega (arith, ltb-true 1 (getD h i 0) q, ltb-false 1 (max m (getD h i 0)) r))
+    go false false true p q r = absurd (omega (arith, ltb-false 1 m p, ltb-false 1 (getD h i 0) q, ltb-true 1 (max m (getD h i 0)) r))
 
-pub clean-here : (h : List ℕ) (i : ℕ) → i < length h → 1 < getD h i 0 → clean (drop i h) ≡ false
+pub clean-done : (h : List ℕ) (i m : ℕ) → length h ≤ i → cond (ltb 1 m) false (clean (drop i h)) ≡ leb m 1
 unfolding clean
-clean-here h i l b = rw (drop-cons h i 0) (rw (lt-ltb 1 (getD h i 0) b))
-
-pub clean-done : (h : List ℕ) (i : ℕ) → length h ≤ i → clean (drop i h) ≡ true
-unfolding clean
-clean-done h i l = rw (drop-of-length-le h l)
+clean-done h i m l = rw (drop-of-length-le h l) (go (ltb 1 m) refl)
+  where
+    go : (b : Bool) → ltb 1 m ≡ b → cond b false true ≡ leb m 1
+    go true e = rw (lt-leb m 1 (ltb-true 1 m e))
+    go false e = rw (le-leb m 1 (ltb-false 1 m e))
 
 -- ---- the loop over `same`
 

@@ -1,21 +1,29 @@
 // Rows of air bits, one byte of the row for each bit, and rows of bytes.
 // Document 01, "Frames on the air": "A received row gives each bit as 0, 1 or collided". A value over 1 is a collided bit.
 ghost use mathlib.Core.Path.{_≡_};
+ghost use Prim.Native.Nat.{max};
 ghost use Rattle.rows.specs.Rows.{clean, same};
 
 // Functions with conditions on what they are called with. Only the crates of this repository call them.
 pub mod within;
 
-// Has no bit of a received row collided?
+// The larger of two elements.
+fn larger(a: u8, b: u8) -> u8
+    ensures { λ r. ⌜ r ≡ max a b ⌝ }
+{
+    if a < b { b } else { a }
+}
+
+// Has no bit of a received row collided? The largest element tells. A loop that ends only with the row is compiled to one that takes many
+// elements at a time.
 pub fn is_clean(row: &[u8]) -> bool
     ensures { λ r. ⌜ r ≡ clean (now (row .entry)) ⌝ }
 {
+    let mut most: u8 = 0;
     for i in 0..row.len() {
-        if row[i] > 1 {
-            return false;
-        }
+        most = larger(most, row[i]);
     }
-    true
+    most <= 1
 }
 
 // Are two rows equal, in length and in each element?

@@ -22,21 +22,15 @@ five-of-requires c κs = search needs
 at-requires-4 : tie.Need-at-requires-4
 at-requires-4 c κs = search needs
 
+uid-of-requires : tie.Need-uid-of-requires
+uid-of-requires c κs = search needs
+
 at-requires-5 : tie.Need-at-requires-5
 at-requires-5 c κs = search needs
 
-size-of-requires : tie.Need-size-of-requires
-size-of-requires c κs = search needs
-
-ten-of-requires : tie.Need-ten-of-requires
-ten-of-requires c κs = search needs
-
-at-requires-6 : tie.Need-at-requires-6
-at-requires-6 c κs = search needs
-
 returns : tie.Need-returns
 unfolding selectionOf
-returns c = simp (c .before .before .before .before .before .before .before .before .before .at .ensures, c .before .before .before .before .before .before .before .before .at2 .ensures, c .before .before .before .before .before .before .before .phase-of .ensures, c .before .before .before .before .before .before .at3 .ensures, c .before .before .before .before .before .five-of .ensures, c .before .before .before .before .at4 .ensures, c .before .before .before .at5 .ensures, c .before .before .size-of .ensures, c .before .ten-of .ensures, c .at6 .ensures)
+returns c = simp (c .before .before .before .before .before .before .before .at .ensures, c .before .before .before .before .before .before .at2 .ensures, c .before .before .before .before .before .phase-of .ensures, c .before .before .before .before .at3 .ensures, c .before .before .before .five-of .ensures, c .before .before .at4 .ensures, c .before .uid-of .ensures, c .at5 .ensures)
 
 pub selection-of-spec : {M : Type 1} → statement M
 selection-of-spec =
@@ -48,8 +42,6 @@ selection-of-spec =
     at-requires-3
     five-of-requires
     at-requires-4
+    uid-of-requires
     at-requires-5
-    size-of-requires
-    ten-of-requires
-    at-requires-6
     returns)

@@ -1,16 +1,13 @@
 -- `frame::within::is_wrong` meets its contract, by those of `is_clean`, `byte_at` and `odd_parity`: the bits of the byte that is read are the bits in the row. Assumes nothing.
 use Prim.Native.Nat.{_+_, _-_}
-use mathlib.Core.Path.{_≡_, sym, ap, _∙_}
+use mathlib.Core.Path.{_≡_, sym, _∙_}
 use mathlib.Core.Bool.{true}
 use borrow.Author.Tests.{not-true, not-false}
 use native.Mathlib.Omega.{arith}
 use denote.Ref.{now}
-use lib.ListN.{take, drop, length-drop}
-use lib.Seq.{length-take-le, getD-drop}
+use lib.ListN.{take, drop}
 use Rattle.rows.specs.Rows.{clean}
-use Rattle.rows.specs.HeardLaws.{clean-bits}
-use Rattle.parity.specs.Bits.{bitsOf}
-use Rattle.frame.specs.FrameLaws.{bits-whole}
+use Rattle.frame.specs.LoopLaws.{wrong-read}
 use borrow.Author.Needs.{needs}
 use Rattle.frame.proofs.within.is_wrong.Statement.{statement}
 use Rattle.frame.proofs.within.is_wrong.Tie as tie
@@ -56,11 +53,8 @@ returns-2 c =
     let f = c .before .before .before in
     let a = f .before .before .before .before .args in
     let e : a .at + 8 - a .at ≡ 8 = omega arith in
-    let d = take 8 (drop (a .at) (now (a .row))) in
-    let k : clean d ≡ true = rw e at (sym (f .before .is-clean .ensures) ∙ not-false _ (f .if1 .left)) in
-    let w : bitsOf 8 (c .before .before .byte-at .result) ≡ d =
-    ap (bitsOf 8) (c .before .before .byte-at .ensures) ∙ bits-whole 8 d (clean-bits d k) (length-take-le 8 (drop (a .at) (now (a .row))) (rw length-drop (omega arith))) in
-    rw (c .odd-parity .ensures, w, k, getD-drop (a .at) (now (a .row)) 8 0)
+    let k : clean (take 8 (drop (a .at) (now (a .row)))) ≡ true = rw e at (sym (f .before .is-clean .ensures) ∙ not-false _ (f .if1 .left)) in
+    sym (wrong-read (now (a .row)) (a .at) _ _ (omega arith) k (c .before .before .byte-at .ensures) (c .odd-parity .ensures))
 
 pub is-wrong-spec : {M : Type 1} → statement M
 is-wrong-spec =

@@ -1,8 +1,11 @@
-use lib.ListN.{length}
+-- `frame::within::read_within` meets its contract: the definition has the same tests, in the same order. Assumes nothing.
+use lib.ListN.{length, length-take}
 use mathlib.Core.Path.{_≡_, refl, sym, ap, _∙_}
 use borrow.Author.Tests.{lt-ltb, le-ltb, not-true, not-false}
 use native.Mathlib.Omega.{arith}
 use denote.Ref.{now}
+use Rattle.rows.specs.Rows.{overlay}
+use Rattle.frame.specs.CallLaws.{held-sound}
 use Rattle.frame.specs.Frame.{readFrame}
 use Rattle.frame.specs.Calls.{readAnswer}
 use Rattle.frame.specs.FrameLaws.{whole-size, read-good}
@@ -11,8 +14,6 @@ use Rattle.frame.specs.ByteLaws.{length-bytes}
 use borrow.Author.Needs.{needs}
 use Rattle.frame.proofs.within.read_within.Statement.{statement}
 use Rattle.frame.proofs.within.read_within.Tie as tie
-
--- `frame::within::read_within` meets its contract: the definition has the same tests, in the same order. Assumes nothing.
 
 returns : tie.Need-returns
 unfolding readAnswer
@@ -34,12 +35,20 @@ returns-3 c =
     let d = c .before .before in
     (simp (le-ltb _ _ (d .before .before .if1 .left), sym (d .before .is-whole .ensures) ∙ not-false _ (d .if2 .left), sym (c .before .is-clean .ensures) ∙ not-true _ (c .if3 .taken)), refl)
 
-first-wrong-requires : tie.Need-first-wrong-requires
-first-wrong-requires c κs = search needs
+slice-aggregate-sound-bytes : tie.Need-slice-aggregate-sound-bytes
+slice-aggregate-sound-bytes c = search needs
 
-cast-t13 : tie.Need-cast-t13
-cast-t13 c =
-    let d = c .before .before .before .before in
+sound-bytes-requires : tie.Need-sound-bytes-requires
+sound-bytes-requires c κs =
+    let e = c .before in
+    let d = c .before .before .before in
+    let a = d .before .before .before .before .before .args in
+    let w = whole-size (a .least) (a .most) (length (now (a .row))) (sym (d .before .is-whole .ensures) ∙ not-false _ (d .if2 .left)) in
+    (omega arith, omega (arith, w .2), sym (e .before .is-clean .ensures) ∙ not-false _ (e .if3 .left))
+
+cast-t16 : tie.Need-cast-t16
+cast-t16 c =
+    let d = c .before .before .before .before .before .before in
     let a = d .before .before .before .before .before .args in
     let w = whole-size (a .least) (a .most) (length (now (a .row))) (sym (d .before .is-whole .ensures) ∙ not-false _ (d .if2 .left)) in
     record { fits = omega (arith, w .2) }
@@ -47,17 +56,31 @@ cast-t13 c =
 returns-4 : tie.Need-returns-4
 unfolding readAnswer readFrame
 returns-4 c =
-    let e = c .before .before in
+    let e = c .before .before .before .before in
     let d = e .before .before in
-    (simp (le-ltb _ _ (d .before .before .if1 .left), sym (d .before .is-whole .ensures) ∙ not-false _ (d .if2 .left), sym (e .before .is-clean .ensures) ∙ not-false _ (e .if3 .left), found-wrong _ _ _ (c .before .first-wrong .ensures) (c .if4 .taken), ← c .before .first-wrong .ensures), refl)
+    let p = c .before .before .sound-bytes .ensures .0 in
+    (simp (le-ltb _ _ (d .before .before .if1 .left), sym (d .before .is-whole .ensures) ∙ not-false _ (d .if2 .left), sym (e .before .is-clean .ensures) ∙ not-false _ (e .if3 .left), found-wrong _ _ _ p (c .if4 .taken), ← p), refl)
 
-bytes-of-requires : tie.Need-bytes-of-requires
-bytes-of-requires c κs =
-    let e = c .before .before .before in
-    let d = e .before .before in
-    let a = c .before .before .before .before .before .before .before .before .before .before .args in
+array-share-prefix-held : tie.Need-array-share-prefix-held
+array-share-prefix-held c =
+    let d = c .before .before .before .before .before .before .before in
+    let a = d .before .before .before .before .before .args in
     let w = whole-size (a .least) (a .most) (length (now (a .row))) (sym (d .before .is-whole .ensures) ∙ not-false _ (d .if2 .left)) in
-    (omega arith, omega (arith, w .2), sym (e .before .is-clean .ensures) ∙ not-false _ (e .if3 .left))
+    omega (arith, w .2)
+
+slice-aggregate-put : tie.Need-slice-aggregate-put
+slice-aggregate-put c =
+    let d = c .before .before .before .before .before .before .before .before in
+    let a = d .before .before .before .before .before .args in
+    let w = whole-size (a .least) (a .most) (length (now (a .row))) (sym (d .before .is-whole .ensures) ∙ not-false _ (d .if2 .left)) in
+    rw length-take (omega (arith, w .2))
+
+put-requires : tie.Need-put-requires
+put-requires c κs =
+    let d = c .before .before .before .before .before .before .before .before in
+    let a = d .before .before .before .before .before .args in
+    let w = whole-size (a .least) (a .most) (length (now (a .row))) (sym (d .before .is-whole .ensures) ∙ not-false _ (d .if2 .left)) in
+    rw length-take (omega (arith, w .2))
 
 same-length : tie.Need-same-length
 same-length c = search needs
@@ -65,13 +88,14 @@ same-length c = search needs
 returns-5 : tie.Need-returns-5
 unfolding readAnswer
 returns-5 c =
-    let f = c .before .before .before .before in
-    let e = f .before .before in
+    let e = c .before .before .before .before .before .before .before .before .before in
     let d = e .before .before in
     let a = d .before .before .before .before .before .args in
+    let f = c .before .before .before .before .before in
+    let p = f .before .before .sound-bytes .ensures in
     let g = read-good (a .least) (a .most) (now (a .row)) (sym (d .before .is-whole .ensures) ∙ not-false _ (d .if2 .left))
-    (sym (e .before .is-clean .ensures) ∙ not-false _ (e .if3 .left)) (found-none _ _ _ (f .before .first-wrong .ensures) (f .if4 .left)) in
-    (simp (le-ltb _ _ (d .before .before .if1 .left), g, length-bytes), rw g (c .before .before .bytes-of .ensures))
+    (sym (e .before .is-clean .ensures) ∙ not-false _ (e .if3 .left)) (found-none _ _ _ (p .0) (f .if4 .left)) in
+    (simp (le-ltb _ _ (d .before .before .if1 .left), g, length-bytes), rw g (c .before .before .put .ensures ∙ ap (overlay (now (a .out)) 0) (held-sound _ _ (now (a .row)) _ _ (p .0) (f .if4 .left) (p .1))))
 
 pub read-within-spec : {M : Type 1} → statement M
 read-within-spec =
@@ -82,9 +106,12 @@ read-within-spec =
     returns-2
     is-clean-requires
     returns-3
-    first-wrong-requires
-    cast-t13
+    slice-aggregate-sound-bytes
+    sound-bytes-requires
+    cast-t16
     returns-4
-    bytes-of-requires
+    array-share-prefix-held
+    slice-aggregate-put
+    put-requires
     same-length
     returns-5)

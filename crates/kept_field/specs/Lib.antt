@@ -1,0 +1,3 @@
+pub mod KeptField
+pub mod FieldLaws
+pub mod SweptLaws

@@ -1,0 +1,24 @@
+-- `lacrivosum::frames::lac_frame_read_crc` meets its contract, by that of crate frame's call. Assumes nothing.
+use denote.Ref.{now}
+use Rattle.limits.specs.Limits.{mostBytes}
+use Rattle.frame.specs.Frame.{readCrc}
+use Rattle.lacrivosum.specs.FrameLaws.{received-said}
+use borrow.Author.Needs.{needs}
+use Rattle.lacrivosum.proofs.frames.lac_frame_read_crc.Statement.{statement}
+use Rattle.lacrivosum.proofs.frames.lac_frame_read_crc.Tie as tie
+
+read-crc-requires : tie.Need-read-crc-requires
+read-crc-requires c κs = search needs
+
+received-number-requires : tie.Need-received-number-requires
+received-number-requires c κs = search needs
+
+same-length : tie.Need-same-length
+same-length c = search needs
+
+returns : tie.Need-returns
+returns c = let r = c .before .before .before .read-crc in received-said (r .result) _ (readCrc 3 mostBytes (now (c .before .before .before .before .before .before .before .args .row))) _ _ _ (r .ensures .0) (r .ensures .1) (c .received-number .ensures)
+
+pub lac-frame-read-crc-spec : {M : Type 1} → statement M
+lac-frame-read-crc-spec =
+    tie.close (tie.spec read-crc-requires received-number-requires same-length returns)
