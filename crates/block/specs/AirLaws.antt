@@ -7,7 +7,7 @@ use lib.ListN.{length, take, drop, replicate, length-append, length-take}
 use lib.Seq.{length-take-le}
 use Rattle.limits.specs.Limits.{rowRoom}
 use Rattle.rows.specs.Rows.{overlay}
-use Rattle.rows.specs.RowLaws.{overlay-nil, overlay-next, overlay-front}
+use Rattle.rows.specs.RowLaws.{overlay-nil, overlay-next, overlay-front, overlay-fits}
 use Rattle.crc.specs.Crc.{crcBytes, withCrc}
 use Rattle.frame.specs.Frame.{standard, readCrc}
 use Rattle.frame.specs.FrameLaws.{length-standard, standard-append}
@@ -27,10 +27,6 @@ use Rattle.block.specs.HeardLaws.{heard-good}
 use Rattle.block.specs.Row.{blockRow, heardRow}
 
 -- ---- a row that is read
-
-front-fits : (d s : List ℕ) → length s ≤ length (overlay d 0 s)
-unfolding overlay
-front-fits d s = simp length-append (omega arith)
 
 module _ (own most room : ℕ) (row out out′ : List ℕ) (r : Received) (s : most ≡ size own) (h : 256 ≤ room) (a : r ≡ readAnswer room (readCrc 3 most row)) (m : out′ ≡ bytesAfter r (readCrc 3 most row) out) where
   good : goodBytes (heardRow own row) ≡ goodBytes (readCrc 3 most row)
@@ -53,7 +49,7 @@ module _ (own most room : ℕ) (row out out′ : List ℕ) (r : Received) (s : m
 
 -- bytes read to the front of a row are no more than it holds, and are its first ones
 pub read-fits : (n : ℕ) (out out′ l : List ℕ) → n ≡ length l → out′ ≡ overlay out 0 l → n ≤ length out′
-read-fits n out out′ l e m = rw (e, m) (front-fits out l)
+read-fits n out out′ l e m = rw (e, m) (overlay-fits out l)
 
 pub read-front : (n : ℕ) (out out′ l : List ℕ) → n ≡ length l → out′ ≡ overlay out 0 l → take n out′ ≡ l
 read-front n out out′ l e m = rw (e, m) (overlay-front out l)

@@ -47,20 +47,6 @@ unfolding payloadMax
 payload-most = each-size (λ s. s - 3 ≤ 253) (omega arith) (omega arith) (omega arith) (omega arith) (omega arith) (omega arith) (omega arith) (omega arith) (omega arith)
 
 -- what lies past a table's end is not read
-getD-in : (l : List ℕ) (i d e : ℕ) → i < length l → getD l i d ≡ getD l i e
-getD-in [] i d e h = absurd (not-suc-le-zero h)
-getD-in (x ∷ l) zero d e h = refl
-getD-in (x ∷ l) (suc i) d e h = getD-in l i d e (omega arith)
-
--- the sizes as a table, and past it
-pub size-small : (i : ℕ) → i < 8 → getD (16 ∷ 24 ∷ 32 ∷ 40 ∷ 48 ∷ 64 ∷ 96 ∷ 128 ∷ []) i 0 ≡ size i
-unfolding size
-size-small i h = getD-in (16 ∷ 24 ∷ 32 ∷ 40 ∷ 48 ∷ 64 ∷ 96 ∷ 128 ∷ []) i 0 256 h
-
-pub size-large : (i : ℕ) → 8 ≤ i → 256 ≡ size i
-unfolding size
-size-large i h = sym (List·getD-eq-default (16 ∷ 24 ∷ 32 ∷ 40 ∷ 48 ∷ 64 ∷ 96 ∷ 128 ∷ []) 256 h)
-
 -- a message that one block holds takes one
 pub fewest-last : (i l : ℕ) → l ≤ payloadMax i → fewest i l ≡ 1
 unfolding fewest payloadMax

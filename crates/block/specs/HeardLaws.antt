@@ -9,6 +9,7 @@ use lib.Dec.{leb}
 use borrow.Author.Tests.{eq-eqb, le-leb, lt-leb, leb-true, leb-false}
 use Rattle.rows.specs.Rows.{isNil, Bytes}
 use Rattle.crc.specs.Crc.{withCrc, crcBytes}
+use Rattle.crc.specs.CrcLaws.{length-with}
 use Rattle.parity.specs.Bits.{bitsOf}
 use Rattle.frame.specs.Frame.{airByte, standard, wholeBytes, readFrame, readCrc, Good, Fault}
 use Rattle.frame.specs.Calls.{goodBytes}
@@ -17,10 +18,6 @@ use Rattle.selection.specs.Selection.{size}
 use Rattle.refusal.specs.declared.Refusal.the-variants.{Length}
 use Rattle.block.specs.Block.{verdict}
 use Rattle.block.specs.Row.{blockRow, heardRow}
-
-pub length-crc : (l : List ℕ) → length (withCrc l) ≡ length l + 2
-unfolding withCrc crcBytes
-length-crc l = length-append l _
 
 -- a block's row is not empty
 row-some : (f : ℕ) (p : List ℕ) → isNil (blockRow (f ∷ p)) ≡ false
@@ -37,7 +34,7 @@ too-many most k h g =
 pub heard-long : (i f : ℕ) (p : List ℕ) → size i < 3 + length p → heardRow i (blockRow (f ∷ p)) ≡ Fault Length
 unfolding heardRow readCrc readFrame
 heard-long i f p h =
-    let e : length (standard (withCrc (f ∷ p))) ≡ 9 * (length (f ∷ p) + 2) = length-standard (withCrc (f ∷ p)) ∙ rw (length-crc (f ∷ p)) in
+    let e : length (standard (withCrc (f ∷ p))) ≡ 9 * (length (f ∷ p) + 2) = length-standard (withCrc (f ∷ p)) ∙ rw (length-with (f ∷ p)) in
     rw (row-some f p, e, too-many (size i) (length (f ∷ p) + 2) (omega arith) (omega arith))
 
 -- a block's row is heard as the definitions of the protocol have it

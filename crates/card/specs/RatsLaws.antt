@@ -12,7 +12,7 @@ use Rattle.parity.specs.BitLaws.{unbits-lt}
 use Rattle.parity.specs.Bits.{unbits, bitsOf}
 use Rattle.frame.specs.Frame.{airByte, standard}
 use Rattle.crc.specs.Crc.{withCrc}
-use Rattle.frame.specs.ParityLaws.{bits-standard}
+use Rattle.frame.specs.FrameLaws.{bits-standard}
 use Rattle.uid.specs.BytesAtLaws.{four-at}
 use Rattle.selection.specs.Selection.{rats}
 use Rattle.selection.specs.SelectionLaws.{length-rats}

@@ -17,10 +17,11 @@ use Rattle.rows.specs.Rows.{clean, same, Bits, Bytes}
 use Rattle.parity.specs.BitLaws.{length-bits, bits-bits, unbits-lt}
 use Rattle.crc.specs.Crc.{withCrc}
 use Rattle.frame.specs.Frame.{standard, short, airBits}
-use Rattle.frame.specs.FrameLaws.{length-standard}
+use Rattle.frame.specs.FrameLaws.{length-standard, standard-append, bits-standard}
 use Rattle.frame.specs.WrongLaws.{faulty-none}
-use Rattle.frame.specs.ParityLaws.{wholeFaulty, standard-append, faulty-standard, bits-standard, faulty-cut}
-use Rattle.frame.specs.TellLaws.{crc-right, standard-bytes, length-crc, bytes-crc}
+use Rattle.frame.specs.ParityLaws.{wholeFaulty, faulty-standard, faulty-cut}
+use Rattle.crc.specs.CrcLaws.{length-with}
+use Rattle.frame.specs.TellLaws.{crc-right, standard-bytes, bytes-crc}
 use Rattle.uid.specs.Uid.{levels, place}
 use Rattle.uid.specs.UidLaws.{Sound, five-row}
 use Rattle.selection.specs.Selection.{reqa, wupa, hlta, rats, sel, nvb, cut, anticollision, select}
@@ -231,7 +232,7 @@ select-nvb-else c s w l a v five ha hv b h n = ready-else c w l f (λ k. (
     f = standard (withCrc m)
 
     length-f : length f ≡ 81
-    length-f = length-standard (withCrc m) ∙ rw (length-crc m, h) (omega arith)
+    length-f = length-standard (withCrc m) ∙ rw (length-with m, h) (omega arith)
 
 -- ---- a mismatch: the card leaves Ready, a woken one for Halt
 

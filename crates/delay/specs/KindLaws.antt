@@ -9,11 +9,11 @@ use lib.Seq.{drop-drop, take-all}
 use lib.Dec.{eqb, ltb}
 use borrow.Author.Tests.{eq-eqb, ne-eqb}
 use Rattle.rows.specs.Rows.{clean, same, Bits}
-use Rattle.rows.specs.HeardLaws.{bits-clean}
+use Rattle.rows.specs.CleanLaws.{bits-clean}
 use Rattle.rows.specs.ListLaws.{same-ne, all-append, all-take}
 use Rattle.parity.specs.Bits.{unbits}
 use Rattle.frame.specs.Frame.{standard}
-use Rattle.frame.specs.ParityLaws.{bits-standard}
+use Rattle.frame.specs.FrameLaws.{bits-standard}
 use Rattle.uid.specs.declared.Level.{Level}
 use Rattle.uid.specs.declared.Level.the-variants.{One, Two, Three}
 use Rattle.selection.specs.Selection.{sel, nvb, cut, anticollision, select}

@@ -7,7 +7,7 @@ use lib.ListN.{length, take, drop, getD, set, length-append, length-take, take-a
 use lib.Seq.{drop-cons, getD-take, drop-append-add, drop-drop}
 use native.Mathlib.Omega.{arith}
 use Rattle.rows.specs.Rows.{overlay}
-use Rattle.rows.specs.RowLaws.{overlay-front}
+use Rattle.rows.specs.RowLaws.{overlay-front, overlay-fits}
 use Rattle.card.specs.Calls.{taken, bitsIn}
 use Rattle.card.specs.TakenLaws.{bits-answer}
 use Rattle.card.specs.Card.{Step, takes, answers}
@@ -23,7 +23,7 @@ use Rattle.field.specs.Merge.{join, merge}
 
 -- what was written at the front of a row fits it
 pub front-fits : (d s : List ℕ) (n : ℕ) → length (overlay d 0 s) ≡ n → length s ≤ n
-front-fits d s n e = omega (arith, e, ap length (front d s), length-append s (drop (length s) d))
+front-fits d s n e = omega (arith, e, overlay-fits d s)
 
 -- a card's step s, as it stands in the answer x and in the row r, of which the first n bits count
 pub record Answered (s : Step) (n : ℕ) (r : List ℕ) : Type 0 where

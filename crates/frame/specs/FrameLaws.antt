@@ -10,7 +10,8 @@ use borrow.Author.Tests.{eqb-true, leb-true, eq-eqb, le-leb}
 use native.Mathlib.Omega.{arith}
 use Rattle.rows.specs.Rows.{Bits, Bytes, fill, clean, same}
 use Rattle.rows.specs.ListLaws.{both, same-sound, all-append, all-take, all-drop, is-nil}
-use Rattle.rows.specs.HeardLaws.{clean-bits, bits-clean, clean-take, clean-drop}
+use Rattle.rows.specs.CleanLaws.{bits-clean}
+use Rattle.rows.specs.HeardLaws.{clean-bits, clean-take, clean-drop}
 use Rattle.parity.specs.Bits.{bitsOf, unbits, odd}
 use Rattle.parity.specs.BitLaws.{length-bits, bits-bits, unbits-bits, bits-unbits, unbits-lt}
 use Rattle.parity.specs.LoopLaws.{odd-bit}
@@ -117,12 +118,12 @@ read-size least most h l e =
 
 -- ---- what is written is read back
 
-standard-bits : (l : List ℕ) → Bits (standard l)
+pub bits-standard : (l : List ℕ) → Bits (standard l)
 unfolding standard airByte
-standard-bits [] = tt
-standard-bits (b ∷ l) =
+bits-standard [] = tt
+bits-standard (b ∷ l) =
     all-append (λ x. x < 2) (airByte b) (standard l)
-    (all-append (λ x. x < 2) (bitsOf 8 b) (odd (bitsOf 8 b) ∷ []) (bits-bits 8 b) (odd-bit (bitsOf 8 b), tt)) (standard-bits l)
+    (all-append (λ x. x < 2) (bitsOf 8 b) (odd (bitsOf 8 b) ∷ []) (bits-bits 8 b) (odd-bit (bitsOf 8 b), tt)) (bits-standard l)
 
 standard-sound : (l : List ℕ) → faulty (length l) (standard l) ≡ false
 unfolding standard
@@ -148,7 +149,7 @@ pub read-standard : (least most : ℕ) (l : List ℕ) → Bytes l → least ≤ 
 read-standard least most l b s t =
     let e : length (standard l) / 9 ≡ length l = omega (arith, length-standard l) in
     read-good least most (standard l) (whole-true least most (length l) (length (standard l)) (length-standard l) s t)
-    (bits-clean (standard l) (standard-bits l)) (rw e (standard-sound l))
+    (bits-clean (standard l) (bits-standard l)) (rw e (standard-sound l))
     ∙ rw e (ap Good (standard-bytes l b))
 
 without-with : (l : List ℕ) → withoutCrc (withCrc l) ≡ Good l

@@ -14,22 +14,8 @@ use Rattle.rows.specs.Rows.{clean, Bits}
 use Rattle.parity.specs.BitLaws.{length-bits, bits-bits}
 use Rattle.parity.specs.Bits.{bitsOf, odd}
 use Rattle.frame.specs.Frame.{standard, wrongByte, faulty, airByte}
-use Rattle.frame.specs.FrameLaws.{length-airByte}
+use Rattle.frame.specs.FrameLaws.{length-airByte, standard-append, bits-standard}
 use Rattle.frame.specs.WrongLaws.{faulty-none, faulty-step}
-
-bits-airByte : (b : ℕ) → Bits (airByte b)
-unfolding airByte odd
-bits-airByte b = all-append (λ x. x < 2) (bitsOf 8 b) (odd (bitsOf 8 b) ∷ []) (bits-bits 8 b) (omega arith, tt)
-
-pub bits-standard : (l : List ℕ) → Bits (standard l)
-unfolding standard
-bits-standard [] = tt
-bits-standard (b ∷ l) = all-append (λ x. x < 2) (airByte b) (standard l) (bits-airByte b) (bits-standard l)
-
-pub standard-append : (l m : List ℕ) → standard (l ++ m) ≡ standard l ++ standard m
-unfolding standard
-standard-append [] m = refl
-standard-append (b ∷ l) m = ap (λ r. airByte b ++ r) (standard-append l m) ∙ sym (append-assoc (airByte b) (standard l) (standard m))
 
 -- some whole byte of a row has wrong parity
 unfoldable pub wholeFaulty : List ℕ → Bool

@@ -12,6 +12,7 @@ use Rattle.rows.specs.Rows.{Bytes, same}
 use Rattle.parity.specs.BitLaws.{length-bits, unbits-bits}
 use Rattle.parity.specs.Bits.{bitsOf, unbits, odd}
 use Rattle.crc.specs.Crc.{crcFrom, crcA, crcByte, crcBytes, withCrc}
+use Rattle.crc.specs.CrcLaws.{length-with}
 use Rattle.crc.specs.CrcSizeLaws.{crcByte-lt}
 use Rattle.frame.specs.Frame.{airByte, standard, airBits}
 use Rattle.frame.specs.FrameLaws.{length-airByte}
@@ -42,10 +43,6 @@ standard-bytes (b ∷ l) (c ∷ m) h k e =
 
 -- ---- with CRC_A
 
-pub length-crc : (l : List ℕ) → length (withCrc l) ≡ 2 + length l
-unfolding withCrc crcBytes
-length-crc l = rw length-append (omega arith)
-
 crc-lt : (l : List ℕ) (c : ℕ) → Bytes l → c < 65536 → crcFrom c l < 65536
 unfolding crcFrom
 crc-lt [] c h k = k
@@ -60,6 +57,6 @@ bytes-crc l h =
 -- the last two bytes are the CRC_A of those before
 pub crc-right : (l m : List ℕ) → l ≡ withCrc m → same l (withCrc (take (length l - 2) l)) ≡ true
 crc-right l m e =
-    let n : length l - 2 ≡ length m = rw (e, length-crc m) (omega arith) in
+    let n : length l - 2 ≡ length m = rw (e, length-with m) (omega arith) in
     let t : take (length l - 2) l ≡ m = ap₂ take n e ∙ (unfold withCrc in take-at m (crcBytes m) (length m) refl) in
     same-eq l (withCrc (take (length l - 2) l)) (e ∙ ap withCrc (sym t))

@@ -9,7 +9,8 @@ use lib.Dec.{eqb}
 use borrow.Author.Tests.{eqb-true, eq-eqb}
 use native.Mathlib.Omega.{arith}
 use Rattle.rows.specs.Rows.{Bits, Bytes, clean}
-use Rattle.rows.specs.HeardLaws.{clean-bits, bits-clean}
+use Rattle.rows.specs.HeardLaws.{clean-bits}
+use Rattle.rows.specs.CleanLaws.{bits-clean}
 use Rattle.parity.specs.Bits.{bitsOf}
 use Rattle.parity.specs.BitLaws.{length-bits, unbits-bits}
 use Rattle.crc.specs.CrcOf.{withOf, goodOf, crcBytesB, withCrcB, crcGoodB}

@@ -16,8 +16,7 @@ use Rattle.rows.specs.Rows.{Bits, isNil, clean, next, same}
 use Rattle.parity.specs.Bits.{bitsOf, odd, ones}
 use Rattle.frame.specs.ByteLaws.{bits-bytes-take, length-bytes}
 use Rattle.frame.specs.Frame.{airBits, airByte, standard, dataOf, bytesOf, firstWrong, faulty}
-use Rattle.frame.specs.FrameLaws.{length-standard}
-use Rattle.frame.specs.ParityLaws.{bits-standard}
+use Rattle.frame.specs.FrameLaws.{length-standard, bits-standard}
 use Rattle.uid.specs.Uid.{level}
 use Rattle.selection.specs.Heard.{readAtqa, restPlace, readRest, restOf, notRest}
 use Rattle.selection.specs.Level.{firstCollided, levelSays}

@@ -5,7 +5,7 @@ use Rattle.rows.specs.ListLaws.{all-append, all-take}
 use Rattle.rows.specs.Rows.{Bits}
 use Rattle.parity.specs.BitLaws.{bits-bits}
 use Rattle.frame.specs.Frame.{short, standard}
-use Rattle.frame.specs.ParityLaws.{bits-standard}
+use Rattle.frame.specs.FrameLaws.{bits-standard}
 use Rattle.selection.specs.Selection.{reqa, wupa, hlta, sel, nvb, cut, anticollision, select}
 use Rattle.reader.specs.Reader.{frameIn, frame}
 use Rattle.reader.specs.declared.Phase.{Phase}

@@ -10,6 +10,7 @@ use lib.Seq.{drop-cons}
 use lib.Dec.{ltb, leb}
 use borrow.Author.Tests.{le-ltb, ltb-true, ltb-false, le-leb, lt-leb, eq-eqb, ne-eqb}
 use Rattle.rows.specs.Rows.{clean, same, Bits}
+use Rattle.rows.specs.CleanLaws.{bits-clean}
 use Rattle.rows.specs.ListLaws.{all-take, all-drop}
 
 -- ---- the loop over `clean`
@@ -64,11 +65,6 @@ clean-bits (x ∷ h) e = go (ltb 1 x) refl (clean-bits h) e
     go : (b : Bool) → ltb 1 x ≡ b → (clean h ≡ true → Bits h) → cond b false (clean h) ≡ true → (x < 2) × Bits h
     go true t ih e = absurd (false≢true e)
     go false t ih e = (omega (arith, ltb-false 1 x t), ih e)
-
-pub bits-clean : (h : List ℕ) → Bits h → clean h ≡ true
-unfolding clean
-bits-clean [] b = refl
-bits-clean (x ∷ h) b = rw (le-ltb 1 x (omega (arith, b .0))) (bits-clean h (b .1))
 
 -- parts of a clean row are clean
 pub clean-take : (n : ℕ) (h : List ℕ) → clean h ≡ true → clean (take n h) ≡ true

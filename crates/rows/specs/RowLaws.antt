@@ -72,6 +72,11 @@ pub overlay-front : (d s : List ℕ) → take (length s) (overlay d 0 s) ≡ s
 unfolding overlay
 overlay-front d s = take-append-seam s (drop (0 + length s) d)
 
+-- .. which the row is long enough for
+pub overlay-fits : (d s : List ℕ) → length s ≤ length (overlay d 0 s)
+unfolding overlay
+overlay-fits d s = simp length-append (omega arith)
+
 -- a row written over one that is as long takes its place
 pub overlay-all : (d s : List ℕ) → length d ≡ length s → overlay d 0 s ≡ s
 unfolding overlay

@@ -7,7 +7,7 @@ use native.Mathlib.Omega.{arith}
 use lib.ListN.{length, take, getD, replicate, length-append}
 use lib.Dec.{eqb, ltb, leb}
 use Rattle.rows.specs.Rows.{overlay, isNil}
-use Rattle.rows.specs.RowLaws.{overlay-front}
+use Rattle.rows.specs.RowLaws.{overlay-front, overlay-fits}
 use Rattle.frame.specs.Frame.{Verdict, Good, Fault, readCrc}
 use Rattle.frame.specs.Calls.{received, readAnswer, goodBytes, bytesAfter}
 use Rattle.selection.specs.Selection.{atMost8, size}
@@ -16,11 +16,6 @@ use Rattle.refusal.specs.declared.Refusal.{Refusal}
 use Rattle.refusal.specs.declared.Refusal.the-variants.{Forbidden}
 use Rattle.frame.specs.declared.Received.the-variants.{Bytes, NotReceived}
 use Rattle.selection.specs.declared.AtsRead.the-variants.{Index, NotAts}
-
--- what is written at the front fits
-front-fits : (d s : List ℕ) → length s ≤ length (overlay d 0 s)
-unfolding overlay
-front-fits d s = simp length-append (omega arith)
 
 pub ats-none : (l : List ℕ) → length l ≡ 0 → atsBytes l ≡ NotAts Forbidden
 ats-none [] h = refl
@@ -75,7 +70,7 @@ unfolding readAnswer
 ats-count own h bytes n q e = go (readCrc 3 (size own) h) q e
   where
     go : (v : Verdict) → received v ≡ Bytes n → bytes ≡ overlay (replicate 256 0) 0 (goodBytes v) → n ≤ length bytes
-    go (Good l) q e = let z : length l ≡ n = cc in rw (e, ← z) (front-fits (replicate 256 0) l)
+    go (Good l) q e = let z : length l ≡ n = cc in rw (e, ← z) (overlay-fits (replicate 256 0) l)
     go (Fault x) q e = absurd (never q)
       where
         never : NotReceived x ≡ Bytes n → ⊥

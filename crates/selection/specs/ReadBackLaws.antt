@@ -7,8 +7,7 @@ use mathlib.Core.List.{List, [], _∷_}
 use lib.ListN.{length, take, drop, getD, length-drop, take-append-drop}
 use borrow.Author.Tests.{lt-ltb}
 use native.Mathlib.Omega.{arith}
-use Rattle.rows.specs.CleanLaws.{not-nil, next-clean}
-use Rattle.rows.specs.HeardLaws.{bits-clean}
+use Rattle.rows.specs.CleanLaws.{not-nil, next-clean, bits-clean}
 use Rattle.rows.specs.ListLaws.{same-eq, same-refl}
 use Rattle.rows.specs.Rows.{All, Bytes, isNil, clean, same}
 use Rattle.parity.specs.Bits.{bitsOf, odd, ones}

@@ -21,7 +21,8 @@ use Rattle.selection.specs.Level.{firstCollided, levelSays}
 use Rattle.selection.specs.LevelLaws.{first-clean, first-clash, first-head, length-data}
 use Rattle.selection.specs.PadLaws.{bytes-fill}
 use Rattle.rows.specs.ListLaws.{all-append}
-use Rattle.rows.specs.HeardLaws.{bits-clean, clean-bits}
+use Rattle.rows.specs.HeardLaws.{clean-bits}
+use Rattle.rows.specs.CleanLaws.{bits-clean}
 use Rattle.refusal.specs.declared.Refusal.the-variants.{Length, Parity, Crc, Check, Silence, Collision}
 use Rattle.selection.specs.declared.Rest.{Rest}
 use Rattle.selection.specs.declared.RestSays.the-variants.{Whole, Collided}

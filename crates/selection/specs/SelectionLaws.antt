@@ -12,7 +12,8 @@ use Rattle.crc.specs.Crc.{withCrc, crcBytes}
 use Rattle.frame.specs.ByteLaws.{bits-bytes, length-bytes, length-airBits, airBits-append}
 use Rattle.frame.specs.Frame.{airBits, short, standard, bytesOf}
 use Rattle.frame.specs.FrameLaws.{length-standard}
-use Rattle.frame.specs.TellLaws.{standard-bits, length-crc}
+use Rattle.crc.specs.CrcLaws.{length-with}
+use Rattle.frame.specs.TellLaws.{standard-bits}
 use Rattle.selection.specs.SealLaws.{seal, standard-seal, take-seal, seal-same}
 use Rattle.selection.specs.Selection.{rats, cut, sel, nvb, reqa, wupa, hlta, anticollision, select, sakFrame}
 use Rattle.uid.specs.declared.Level.{Level}
@@ -27,11 +28,11 @@ length-wupa = length-bits 7 0x52
 
 pub length-hlta : length hlta ≡ 36
 unfolding hlta
-length-hlta = length-standard (withCrc (0x50 ∷ 0x00 ∷ [])) ∙ rw length-crc
+length-hlta = length-standard (withCrc (0x50 ∷ 0x00 ∷ [])) ∙ rw length-with
 
 pub length-rats : (i : ℕ) → length (rats i) ≡ 36
 unfolding rats
-length-rats i = length-standard (withCrc (0xE0 ∷ 16 * i ∷ [])) ∙ rw length-crc
+length-rats i = length-standard (withCrc (0xE0 ∷ 16 * i ∷ [])) ∙ rw length-with
 
 pub length-anti : (l : Level) (k : ℕ) (five : List ℕ) → length five ≡ 5 → k ≤ 40 → length (anticollision l k five) ≡ 18 + cut k
 unfolding anticollision
@@ -39,11 +40,11 @@ length-anti l k five h m = rw (length-append, length-standard, length-take, leng
 
 pub length-select : (l : Level) (five : List ℕ) → length five ≡ 5 → length (select l five) ≡ 81
 unfolding select
-length-select l five h = rw (length-standard, length-crc) (omega arith)
+length-select l five h = rw (length-standard, length-with) (omega arith)
 
 pub length-sak : (b : ℕ) → length (sakFrame b) ≡ 27
 unfolding sakFrame
-length-sak b = length-standard (withCrc (b ∷ [])) ∙ rw length-crc
+length-sak b = length-standard (withCrc (b ∷ [])) ∙ rw length-with
 
 -- ---- ANTICOLLISION: the level's row, cut
 

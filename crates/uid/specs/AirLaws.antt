@@ -12,18 +12,13 @@ use Rattle.rows.specs.RowLaws.{overlay-next}
 use Rattle.parity.specs.Bits.{bitsOf}
 use Rattle.parity.specs.BitLaws.{length-bits}
 use Rattle.frame.specs.Frame.{airBits}
-use Rattle.frame.specs.ByteLaws.{length-airBits}
+use Rattle.frame.specs.ByteLaws.{length-airBits, airBits-append}
 use Rattle.uid.specs.Uid.{levelCount, levels, threeLevels, air, rowOf}
 use Rattle.uid.specs.declared.Uid.{Uid}
 use Rattle.uid.specs.declared.UidSize.{UidSize}
 use Rattle.uid.specs.declared.UidSize.the-variants.{Single, Double, Triple}
 
 -- ---- bytes in air order
-
-airBits-append : (k l : List ℕ) → airBits (k ++ l) ≡ airBits k ++ airBits l
-unfolding airBits
-airBits-append [] l = refl
-airBits-append (b ∷ k) l = simp (airBits-append k l, append-assoc)
 
 airBits-next : (l : List ℕ) (i : ℕ) → i < length l → airBits (take (suc i) l) ≡ airBits (take i l) ++ bitsOf 8 (getD l i 0)
 unfolding airBits
