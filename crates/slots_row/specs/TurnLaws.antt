@@ -6,13 +6,14 @@ use native.Mathlib.Numerals.{add-one}
 use mathlib.Core.Bool.{Bool, true, false}
 use mathlib.Core.List.{List, [], _∷_, _++_, append-nil}
 use lib.ListN.{length, take, drop, getD, set, length-set, drop-of-length-le}
-use lib.Seq.{take-suc, take-suc-set, set-getD, paste-suc, take-length}
+use lib.Seq.{take-suc, set-getD, take-length}
 use Rattle.field_b.specs.declared.Drawn.{Drawn}
 use Rattle.slots_row.specs.declared.request.Request.{Request}
 use Rattle.slots_row.specs.declared.pass.Progress.{Progress}
 use Rattle.slots_row.specs.declared.pass.Turned.{Turned}
 use Rattle.slots_row.specs.Row.{inquiredRow, Promises, blankCard, stopped, heldWith, fetchedOne, stores, storedOne, Called}
 use Rattle.slots_row.specs.RowLaws.{carried}
+use Rattle.slots_row.specs.StoreLaws.{take-set, set-half}
 use Rattle.slots_row.specs.Under.{Fetching, Storing, UnderIf, Under, Ready, Turns}
 
 module _ (k : Request) (ys : List Drawn) (list₀ : List ℕ) (p : Progress) (ws : List Drawn) (list : List ℕ) (u : Under k ys list₀ p ws list) where
@@ -50,7 +51,7 @@ module _ (k : Request) (ys : List Drawn) (list₀ : List ℕ) (p : Progress) (ws
 
       one-more : take (suc (p .at)) (heldWith p c) ≡ take (suc (p .at)) ys
       one-more =
-          take-suc-set (p .held) (p .at) c (omega (arith, F .at, F .few, F .long))
+          take-set (p .held) (p .at) c (omega (arith, F .at, F .few, F .long))
           ∙ ap₂ (λ a b. a ++ (b ∷ [])) (F .same) (sym here-is ∙ ap (λ l. getD l (p .at) blankCard) (F .row))
           ∙ sym (take-suc ys (p .at) blankCard (F .at))
 
@@ -93,7 +94,7 @@ module _ (k : Request) (ys : List Drawn) (list₀ : List ℕ) (p : Progress) (ws
       d = getD (p .held) (p .at) blankCard
 
       half : set ws (p .at) d ≡ take (suc (p .at)) (p .held) ++ drop (suc (p .at)) ys
-      half = ap (λ l. set l (p .at) d) (S .row) ∙ paste-suc ys 0 (p .held) (p .at) blankCard (S .at) (omega (arith, S .at, S .few, S .long))
+      half = ap (λ l. set l (p .at) d) (S .row) ∙ set-half (p .held) ys (p .at) blankCard (S .at) (omega (arith, S .at, S .few, S .long))
 
       next-stored : p .at + 1 < p .cards → Under k ys list₀ (storedOne p) (set ws (p .at) d) list
       next-stored l =

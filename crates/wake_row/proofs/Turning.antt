@@ -6,9 +6,10 @@ use native.Mathlib.Numerals.{add-one}
 use mathlib.Core.Bool.{Bool, true, false, cond}
 use mathlib.Core.List.{List, [], _∷_, _++_, append-nil}
 use lib.ListN.{length, take, drop, getD, set, length-set, length-replicate, length-take, drop-of-length-le}
-use lib.Seq.{take-suc, take-suc-set, set-getD, paste-suc, take-length}
+use lib.Seq.{take-suc, drop-cons, append-snoc, set-getD, set-split, set-append-seam, take-at, take-length}
 use lib.Dec.{ltb}
 use borrow.Author.Tests.{ltb-true, ltb-false}
+use borrow.Table.Elements.{length-take-le}
 use Rattle.limits.specs.Limits.{mostCards}
 use Rattle.uid.specs.Uid.{uidBytes}
 use Rattle.wake.specs.CallLaws.{Promised}
@@ -22,6 +23,27 @@ use Rattle.wake_row.specs.declared.pass.Turned.{Turned}
 use Rattle.wake_row.specs.Row.{wokenRow, rowOf, blankCard, noCards, stopped, fetches, heldWith, fetchedOne, wokenIn, fetchedAll, storedOne, turnOf, Ready, Turns, Opened}
 use Rattle.wake_row.specs.RowLaws.{carried, too-many}
 use Rattle.wake_row.specs.Under.{Fetching, Storing, UnderIf, Under, measure}
+
+-- ---- a store behind the first i of an array, and behind the first i of a row that is half stored
+
+take-set : (h : List Card) (i : ℕ) (c : Card) → i < length h → take (suc i) (set h i c) ≡ take i h ++ (c ∷ [])
+take-set h i c l =
+    let e : length (take i h) ≡ i = length-take-le i h (omega arith) in
+    ap (take (suc i)) (set-split h i c l ∙ sym (append-snoc (take i h) c (drop (suc i) h)))
+    ∙ take-at (take i h ++ (c ∷ [])) (drop (suc i) h) (suc i) (rw (length-append-one (take i h) c, e))
+  where
+    length-append-one : (k : List Card) (c : Card) → length (k ++ (c ∷ [])) ≡ suc (length k)
+    length-append-one [] c = refl
+    length-append-one (x ∷ k) c = ap suc (length-append-one k c)
+
+set-half : (h ys : List Card) (i : ℕ) → i < length ys → i < length h → set (take i h ++ drop i ys) i (getD h i blankCard) ≡ take (suc i) h ++ drop (suc i) ys
+set-half h ys i a b =
+    let e : length (take i h) ≡ i = length-take-le i h (omega arith) in
+    let s : set (take i h ++ (getD ys i blankCard ∷ drop (suc i) ys)) (length (take i h)) (getD h i blankCard) ≡ take i h ++ (getD h i blankCard ∷ drop (suc i) ys) =
+    set-append-seam (take i h) (getD ys i blankCard) (drop (suc i) ys) (getD h i blankCard) in
+    ap (λ k. set (take i h ++ k) i (getD h i blankCard)) (drop-cons ys i blankCard a)
+    ∙ subst (λ m. set (take i h ++ (getD ys i blankCard ∷ drop (suc i) ys)) m (getD h i blankCard) ≡ take i h ++ (getD h i blankCard ∷ drop (suc i) ys)) e s
+    ∙ sym (append-snoc (take i h) (getD h i blankCard) (drop (suc i) ys)) ∙ ap (λ k. k ++ drop (suc i) ys) (sym (take-suc h i blankCard b))
 
 -- ---- the call begins
 
@@ -103,7 +125,7 @@ module _ (r : Reader) (u : Uid) (ys : List Card) (p : Progress) (ws : List Card)
 
         one-more : take (suc (p .at)) (heldWith p c) ≡ take (suc (p .at)) ys
         one-more =
-            take-suc-set (p .held) (p .at) c in-held
+            take-set (p .held) (p .at) c in-held
             ∙ ap₂ (λ a b. a ++ (b ∷ [])) (F .same) (ap (λ l. getD l (p .at) blankCard) (F .row))
             ∙ sym (take-suc ys (p .at) blankCard (F .at))
 
@@ -150,7 +172,7 @@ module _ (r : Reader) (u : Uid) (ys : List Card) (p : Progress) (ws : List Card)
         S = storing f
 
         half : set ws (p .at) (getD (p .held) (p .at) blankCard) ≡ take (suc (p .at)) (p .held) ++ drop (suc (p .at)) ys
-        half = ap (λ l. set l (p .at) (getD (p .held) (p .at) blankCard)) (S .row) ∙ paste-suc ys 0 (p .held) (p .at) blankCard (S .at) (omega (arith, S .at, S .few, S .long))
+        half = ap (λ l. set l (p .at) (getD (p .held) (p .at) blankCard)) (S .row) ∙ set-half (p .held) ys (p .at) (S .at) (omega (arith, S .at, S .few, S .long))
 
         next-stored : p .at + 1 < p .cards → Under r u ys (storedOne p) (set ws (p .at) (getD (p .held) (p .at) blankCard))
         next-stored l =
