@@ -36,6 +36,10 @@ fits-room cs typed field =
     let l : logSize (recalled cs .exchanges) ≤ logRoom = omega (arith, r .log-fits 0, log-size 0 (recalled cs .exchanges)) in
     (l, r .list-fits)
 
+-- .. for what the loop runs
+pub loop-fits : (cs : List Card) → FitsRoom (sweptIf true) cs
+loop-fits cs typed field = rw (swept-recalled cs) (fits-room cs typed field)
+
 -- a call that is the one of the definition
 pub promised : (s₀ : Start) (cards : List Card) (n : ℕ) (log list : List ℕ) (s : Swept) (log₁ list₁ : List ℕ) → call s log₁ list₁ ≡ recallOf s₀ cards n log list
     → (Terms s₀ cards n log list → All Typed (take n cards)) → (call s log₁ list₁ ≡ recallOf s₀ cards n log list) × Recalls s₀ cards n log list s log₁ list₁

@@ -1,6 +1,7 @@
 -- Demand 3 of the call that runs is demand 3 of the rules. Assumes nothing.
 use mathlib.Core.Path.{_≡_}
 use Prim.Native.Nat.{ℕ, _≤_}
+use mathlib.Core.Bool.{false}
 use mathlib.Core.List.{List}
 use lib.ListN.{take}
 use native.Mathlib.Omega.{arith}
@@ -11,6 +12,8 @@ use Rattle.log.specs.RecordLaws.{log-size}
 use Rattle.sweep_rules.specs.Demand.{Typed, Demand3}
 use Rattle.sweep_rules.specs.Run.{sweep}
 use Rattle.sweep_rules.proofs.Demand3.{demand3}
+use Rattle.sweep_steps.specs.Loop.{sweptIf}
+use Rattle.sweep_steps.specs.LoopLaws.{swept-plain}
 use Rattle.card.specs.declared.Card.{Card}
 use Rattle.sweep.specs.CallLaws.{Promised, promised-by}
 use Rattle.sweep.specs.Promise.{Terms}
@@ -25,6 +28,10 @@ fits-room cs typed field =
     let d : Demand3 cs (sweep cs) = demand3 cs typed field in
     let l : logSize (sweep cs .exchanges) ≤ logRoom = omega (arith, d .log-fits 0, log-size 0 (sweep cs .exchanges)) in
     (l, d .list-fits)
+
+-- .. for what the loop runs
+pub loop-fits : (cs : List Card) → FitsRoom (sweptIf false) cs
+loop-fits cs typed field = rw (swept-plain cs) (fits-room cs typed field)
 
 -- a call that is the one of the definition
 pub promised : (s₀ : Start) (cards : List Card) (n : ℕ) (log list : List ℕ) (s : code.Swept) (log₁ list₁ : List ℕ) → call s log₁ list₁ ≡ sweepOf s₀ cards n log list

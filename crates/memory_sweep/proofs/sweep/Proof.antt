@@ -6,14 +6,12 @@ use lib.ListN.{take}
 use Rattle.memory_rules.specs.Run.{recalled}
 use Rattle.sweep_steps.specs.Loop.{sweptIf}
 use Rattle.sweep.specs.CallLaws.{same-run}
-use Rattle.memory_sweep.proofs.Kept.{swept-recalled, fits-room, promised}
+use Rattle.memory_sweep.proofs.Kept.{swept-recalled, loop-fits, promised}
 use Rattle.memory_sweep.proofs.sweep.Statement.{statement}
 use Rattle.memory_sweep.proofs.sweep.Tie as tie
 
 call-requires : tie.Need-call-requires
-call-requires c κs typed field =
-    let a = c .before .before .before .before .args in
-    rw (swept-recalled (take (a .n) (a .cards))) (fits-room (take (a .n) (a .cards)) typed field)
+call-requires c κs = let a = c .before .before .before .before .args in loop-fits (take (a .n) (a .cards))
 
 same-length : tie.Need-same-length
 same-length c = search needs

@@ -7,14 +7,12 @@ use Rattle.sweep_rules.specs.Run.{sweep}
 use Rattle.sweep_steps.specs.Loop.{sweptIf}
 use Rattle.sweep_steps.specs.LoopLaws.{swept-plain}
 use Rattle.sweep.specs.CallLaws.{same-run}
-use Rattle.sweep.proofs.Kept.{fits-room, promised}
+use Rattle.sweep.proofs.Kept.{loop-fits, promised}
 use Rattle.sweep.proofs.sweep.Statement.{statement}
 use Rattle.sweep.proofs.sweep.Tie as tie
 
 call-requires : tie.Need-call-requires
-call-requires c κs typed field =
-    let a = c .before .before .before .before .args in
-    rw (swept-plain (take (a .n) (a .cards))) (fits-room (take (a .n) (a .cards)) typed field)
+call-requires c κs = let a = c .before .before .before .before .args in loop-fits (take (a .n) (a .cards))
 
 same-length : tie.Need-same-length
 same-length c = search needs
