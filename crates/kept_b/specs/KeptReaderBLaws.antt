@@ -1,8 +1,8 @@
 -- A Type B reader that is kept is read back, and so is what was answered. Assumes nothing.
 use mathlib.Core.Path.{_≡_, refl, sym, ap, _∙_}
 use mathlib.Core.Bool.{Bool, true, false, _&&_}
-use mathlib.Core.List.{List, [], _∷_, _++_, append-assoc}
-use Prim.Native.Nat.{ℕ, _<_, _≤_, _+_}
+use mathlib.Core.List.{List, [], _++_, append-assoc}
+use Prim.Native.Nat.{ℕ, _≤_, _+_}
 use native.Mathlib.Omega.{arith}
 use lib.ListN.{length, drop, replicate}
 use Rattle.rows.specs.Rows.{overlay, same}
@@ -15,7 +15,7 @@ use Rattle.reader_b.specs.declared.AnswerB.{AnswerB}
 use Rattle.reader_b.specs.declared.TurnB.{TurnB}
 use Rattle.kept.specs.Kept.{bytesAt, number, eventOf, lengthOf}
 use Rattle.kept.specs.KeptLaws.{bytes-whole, three-put}
-use Rattle.kept_b.specs.KeptReaderB.{phaseTag, phaseOf, readerBytes, readerIn, answerRefuses, answerEvent, answerLength, answerHeld, slotBytes, frontBytes, answerBytes, turnBytes, stays, turnLeft, heldIn, atqbIn, Kept, keptWith, keptIn, keptOf, keptAfter}
+use Rattle.kept_b.specs.KeptReaderB.{phaseTag, phaseOf, readerBytes, readerIn, answerRefuses, answerEvent, answerLength, answerHeld, slotBytes, frontBytes, answerBytes, turnBytes, stays, turnLeft, heldIn, atqbIn, keptWith, keptIn, keptOf, keptAfter}
 
 pub phase-back : (p : PhaseB) → phaseOf (phaseTag p) ≡ p
 phase-back Ready = refl

@@ -1,7 +1,5 @@
 -- `kept_b::within::keep_card` meets its contract, by the law `kept-back`. Assumes nothing.
-use mathlib.Core.Path.{_∙_, ap}
 use denote.Ref.{now}
-use Rattle.rows.specs.Rows.{overlay}
 use Rattle.kept_b.specs.KeptCardBLaws.{card-put}
 use borrow.Author.Needs.{needs}
 use Rattle.kept_b.proofs.within.keep_card.Statement.{statement}
