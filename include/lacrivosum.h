@@ -41,6 +41,9 @@ extern "C" {
 #define LAC_B_FRAME_SIZE 88  /* bytes of `out` for a Type B reader: its longest frame, ATTRIB of 11 bytes */
 #define LAC_B_ANSWER_SIZE 112 /* bytes of `out` for a Type B card: its longest answer, ATQB of 14 bytes */
 #define LAC_B_ATQB_SIZE 12   /* bytes of an ATQB without CRC_B */
+#define LAC_MEMORY_SIZE 192  /* bytes of a reader that remembers (lac_memory_sweep) */
+#define LAC_SWEEP_ROW 81     /* bytes of its `out`: the longest frame of a sweep */
+#define LAC_NO_DELAY INT64_MIN /* what lac_delay answers where it is refused */
 
 /* Why a call is refused; it answers minus this. */
 #define LAC_ROOM 1       /* a state or a row to write to shorter than asked; a message or an answer that ends before the block that is sent from it */
@@ -55,6 +58,8 @@ extern "C" {
 #define LAC_TOO_LONG 10  /* a message or an answer over LAC_MESSAGE_MAX bytes, or one that is heard and over the buffer */
 #define LAC_NOT_DUE 11   /* a call or a row that is not due now */
 #define LAC_REPEATS 12   /* silence or damage three times running: repeats are used up */
+#define LAC_ENERGY 13    /* of lac_front: a number that is no energy, a level or a share that is none, or half a bit */
+#define LAC_DELAY 14     /* a delay of 2^31 carrier periods or more; of lac_delay, which tells it by LAC_NO_DELAY */
 
 /* What else a call told. */
 enum lac_event_number {
@@ -70,6 +75,13 @@ enum lac_event_number {
     LAC_B_SLOTS = 9,    /* Type B: the request's last slot is over, lac_b_held and lac_b_atqb tell what it held; the reader is ready */
     LAC_B_ATTACHED = 10, /* Type B: the card answered ATTRIB; lac_length is its MBLI; the reader is ready */
     LAC_B_HALTED = 11   /* Type B: the card answered HLTB; the reader is ready */
+};
+
+/* The gates of lac_front. */
+enum lac_gate_number {
+    LAC_GATE_OFF = 0,   /* every row is silence */
+    LAC_GATE_LEVEL = 1, /* a fixed level */
+    LAC_GATE_SHARE = 2  /* a share of the strongest half heard */
 };
 
 /* The states of a card. */
@@ -250,6 +262,18 @@ int64_t lac_b_card_take(uint8_t *state, size_t state_len, uint8_t number, const 
 
 /* The state of a card, one of enum lac_b_card_state_number. Bytes past the end of a short state count as 0. */
 uint8_t lac_b_card_state(const uint8_t *state, size_t state_len);
+/* The reader of lac_sweep_remember, stepped by hand against cards of your own. Its state has its path too, the branches that it has not taken, and
+ * is LAC_MEMORY_SIZE bytes: any bytes are one such reader, bytes all zero a new one, and a shorter state is refused by LAC_ROOM. lac_event,
+ * lac_length, lac_uid and lac_reader_sak tell of it as of any reader. `out` has room for LAC_SWEEP_ROW bytes.
+ *
+ * Begins the sweep, which finds one card after the other and ends in LAC_SWEPT.
+ * 7: the bits of REQA. Refused, and nothing at all is written: LAC_NOT_DUE, the reader is not new; LAC_ROOM. */
+int64_t lac_memory_sweep(uint8_t *state, size_t state_len, uint8_t *out, size_t out_len);
+
+/* The reader hears a row, whatever it awaits.
+ * 0 or more: the bits of the next frame, and lac_event. Refused: LAC_NOT_DUE, no row is awaited; LAC_ROOM; these two write nothing. And what is
+ * wrong with the row, LAC_LENGTH to LAC_CHECK and LAC_SILENCE to LAC_FORBIDDEN: by these the reader has stopped, and its path is forgotten. */
+int64_t lac_memory_hear(uint8_t *state, size_t state_len, const uint8_t *row, size_t row_len, uint8_t *out, size_t out_len);
 
 /* CRC_A of bytes, and CRC_B. The byte sent first is the low one. */
 uint16_t lac_crc_a(const uint8_t *bytes, size_t bytes_len);
@@ -282,6 +306,23 @@ int64_t lac_frame_read_short(const uint8_t *row, size_t row_len);
 /* The first of a row's whole bytes, row_len / 9 of them, from 0, that has no collided data bit and wrong parity; row_len / 9 where none is
  * so. A collided parity bit is wrong. */
 uint64_t lac_frame_wrong(const uint8_t *row, size_t row_len);
+
+/* How far a card's answer was from due, in carrier periods: below zero it was early, above it late. `row` is the reader's frame, `sent` the tick
+ * at which its last pause ended, `heard` the tick at which the answer began; ticks wrap at 2^32. After REQA, WUPA, ANTICOLLISION and SELECT 1236
+ * carrier periods are due where the last data bit sent was a 1, else 1172; after any other row the nearest n * 128 + 84 after a 1, or
+ * n * 128 + 20 after a 0, n being at least 9 (of two as near the smaller one).
+ * Any number but LAC_NO_DELAY: the difference. LAC_NO_DELAY: refused by LAC_DELAY, 2^31 carrier periods or more from `sent` to `heard`. */
+int64_t lac_delay(const uint8_t *row, size_t row_len, uint32_t sent, uint32_t heard);
+
+/* Makes a received row of a front end's energies, two for each bit: `halves_len` numbers, the first half of the first bit first. A half is loaded
+ * when its energy is at least the level and above `floor`; only the first half loaded is a 1, only the second a 0, both a collided bit, 2, and
+ * neither ends the row. `gate` is one of enum lac_gate_number: with LAC_GATE_LEVEL the level is `value`, with LAC_GATE_SHARE it is `value` times
+ * `peak`, rounded once, `peak` being the strongest half heard. `out` has a place for each whole bit handed in.
+ * 0 or more: the bits of the row, at the front of `out`; no more is written. Refused, tested in this order, and nothing is written: LAC_ARGUMENT, no
+ * gate has this number; LAC_ROOM; LAC_ENERGY, a NaN, an infinity or a number below zero among `halves`, `floor` and `peak` (halves behind the end
+ * too), or an odd number of halves; of LAC_GATE_LEVEL a `value` that is none of those but above 0; of LAC_GATE_SHARE one that is not above 0 and
+ * at most 1, or a level that comes out 0. With LAC_GATE_OFF `value` is not looked at. */
+int64_t lac_front(uint8_t gate, float value, float floor, float peak, const float *halves, size_t halves_len, uint8_t *out, size_t out_len);
 
 #ifdef __cplusplus
 }
