@@ -262,6 +262,7 @@ int64_t lac_b_card_take(uint8_t *state, size_t state_len, uint8_t number, const 
 
 /* The state of a card, one of enum lac_b_card_state_number. Bytes past the end of a short state count as 0. */
 uint8_t lac_b_card_state(const uint8_t *state, size_t state_len);
+
 /* The reader of lac_sweep_remember, stepped by hand against cards of your own. Its state has its path too, the branches that it has not taken, and
  * is LAC_MEMORY_SIZE bytes: any bytes are one such reader, bytes all zero a new one, and a shorter state is refused by LAC_ROOM. lac_event,
  * lac_length, lac_uid and lac_reader_sak tell of it as of any reader. `out` has room for LAC_SWEEP_ROW bytes.
