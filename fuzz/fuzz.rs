@@ -31,6 +31,8 @@ mod reader_link;
 mod refusal;
 #[path = "../model/src/sweep.rs"]
 mod sweep;
+#[path = "../model/src/type_b.rs"]
+mod type_b;
 #[path = "../model/src/uid.rs"]
 mod uid;
 
@@ -75,6 +77,19 @@ extern "C" {
     fn lac_sweep(state: *mut u8, n: usize, cards: *mut u8, c: usize, count: usize, tick: u32, log: *mut u8, l: usize, list: *mut u8, u: usize) -> i64;
     #[rustfmt::skip]
     fn lac_sweep_remember(state: *mut u8, n: usize, cards: *mut u8, c: usize, count: usize, tick: u32, log: *mut u8, l: usize, list: *mut u8, u: usize) -> i64;
+    fn lac_memory_sweep(state: *mut u8, n: usize, out: *mut u8, k: usize) -> i64;
+    fn lac_memory_hear(state: *mut u8, n: usize, row: *const u8, r: usize, out: *mut u8, k: usize) -> i64;
+    fn lac_b_reader_request(state: *mut u8, n: usize, wake: u8, slots: u8, afi: u8, out: *mut u8, k: usize) -> i64;
+    fn lac_b_reader_attach(state: *mut u8, n: usize, atqb: *const u8, a: usize, index: u8, out: *mut u8, k: usize) -> i64;
+    fn lac_b_reader_halt(state: *mut u8, n: usize, pupi: *const u8, p: usize, out: *mut u8, k: usize) -> i64;
+    fn lac_b_reader_hear(state: *mut u8, n: usize, row: *const u8, r: usize, out: *mut u8, k: usize) -> i64;
+    fn lac_b_held(state: *const u8, n: usize) -> u8;
+    fn lac_b_atqb(state: *const u8, n: usize, out: *mut u8, k: usize) -> i64;
+    fn lac_b_card_power_on(state: *mut u8, n: usize) -> i64;
+    fn lac_b_card_state(state: *const u8, n: usize) -> u8;
+    #[rustfmt::skip]
+    fn lac_b_card_new(state: *mut u8, n: usize, pupi: *const u8, p: usize, afi: u8, markers: u8, application: *const u8, a: usize, protocol: *const u8, q: usize) -> i64;
+    fn lac_b_card_take(state: *mut u8, n: usize, number: u8, row: *const u8, r: usize, out: *mut u8, k: usize) -> i64;
     fn lac_frame_write(bytes: *const u8, n: usize, out: *mut u8, k: usize) -> i64;
     fn lac_frame_write_crc(bytes: *const u8, n: usize, out: *mut u8, k: usize) -> i64;
     fn lac_frame_write_short(byte: u8, out: *mut u8, k: usize) -> i64;
@@ -529,6 +544,179 @@ fn sweep_call(random: &mut Random) {
     }
 }
 
+/// The reader that remembers, stepped by hand against a field of the model's cards, beside the model's own; now and then a row is damaged.
+fn memory_calls(random: &mut Random) {
+    let n = random.below(7);
+    let mut field: Vec<Card> = (0..n).map(|_| Card { state: card::State::Idle, ..states::plain_card(random) }).collect();
+    let mut model = Reader::new();
+    let mut state = lent(&[0; 192]);
+    let mut out = lent(&[7; 81]);
+    let mut wanted = model.remember();
+    let mut got = unsafe { lac_memory_sweep(state.as_mut_ptr(), 192, out.as_mut_ptr(), 81) };
+    loop {
+        let event = unsafe { lac_event(state.as_ptr(), 192) };
+        let frame = match &wanted {
+            Answer::Send(row) => row.clone(),
+            Answer::Found { uid, frame, .. } => {
+                let mut told = lent(&[0; 10]);
+                let k = unsafe { lac_uid(state.as_ptr(), 192, told.as_mut_ptr(), 10) } as usize;
+                assert_eq!((event, &told[..k]), (1, &uid[..]));
+                frame.clone()
+            }
+            Answer::Finished => {
+                assert_eq!((got, event), (0, 3));
+                return;
+            }
+            Answer::Refused(r) => {
+                assert_eq!(got, -(r.number as i64));
+                return;
+            }
+            other => panic!("a sweep gives no {other:?}"),
+        };
+        assert_eq!((got, &out[..frame.len()]), (frame.len() as i64, &frame[..]), "the reader that remembers");
+        let mut row = sweep::field_takes(&mut field, &frame);
+        if random.chance(2) && !row.is_empty() {
+            let at = random.below(row.len());
+            row[at] = random.pick(&[0, 1, 2]);
+        }
+        let row = lent(&row);
+        wanted = model.hear(&row, &[], &mut []);
+        got = unsafe { lac_memory_hear(state.as_mut_ptr(), 192, row.as_ptr(), row.len(), out.as_mut_ptr(), 81) };
+    }
+}
+
+/// A Type B reader and two cards, beside the model's: requests with slots, ATTRIB, HLTB, the cards' answers merged, now and then damaged.
+fn type_b_calls(random: &mut Random) {
+    let mut model = type_b::Reader::Ready;
+    let mut state = lent(&[0; STATE]);
+    let mut field: Vec<(type_b::Card, Box<[u8]>)> = (0..2).map(|_| new_b_card(random)).collect();
+    let (mut row, mut atqb) = (Row::new(), vec![0; 12]);
+    for _ in 0..random.below(24) {
+        let (wake, slots, afi, index) = (random.chance(40), random.pick(&[1, 2, 4, 16, 3]), random.pick(&[0, 0, 0x10, 0x11]), random.below(10) as u8);
+        let mut out = lent(&[7; 88]);
+        let (s, o, call) = (state.as_mut_ptr(), out.as_mut_ptr(), if model == type_b::Reader::Ready { random.below(3) } else { 3 + random.below(5) });
+        let (a, p, r) = (lent(&atqb), lent(&atqb[1..5]), lent(&row));
+        let (got, said) = unsafe {
+            match call {
+                0 => (lac_b_reader_request(s, STATE, wake as u8, slots, afi, o, 88), model.request(wake, slots, afi)),
+                1 => (lac_b_reader_attach(s, STATE, a.as_ptr(), 12, index, o, 88), model.attrib(&atqb, index)),
+                2 => (lac_b_reader_halt(s, STATE, p.as_ptr(), 4, o, 88), model.hltb(&atqb[1..5])),
+                _ => (lac_b_reader_hear(s, STATE, r.as_ptr(), r.len(), o, 88), model.hear(&row)),
+            }
+        };
+        let told = unsafe { (lac_event(state.as_ptr(), STATE), lac_length(state.as_ptr(), STATE), lac_b_held(state.as_ptr(), STATE)) };
+        let frame = match said {
+            Err(e) => {
+                assert_eq!(got, -(e.number as i64), "Type B call {call}");
+                return;
+            }
+            Ok(type_b::Said::Sends(bytes)) => Some(bytes),
+            Ok(type_b::Said::Slot { held, next, .. }) => {
+                assert_eq!(told.0, if next.is_some() { 8 } else { 9 });
+                assert_eq!(told.2, match &held { type_b::Held::None => 0, type_b::Held::One(_) => 1, type_b::Held::More => 2 });
+                if let type_b::Held::One(bytes) = held {
+                    let mut b = lent(&[0; 12]);
+                    assert_eq!(unsafe { lac_b_atqb(state.as_ptr(), STATE, b.as_mut_ptr(), 12) }, 12);
+                    assert_eq!(b[..], bytes[..12]);
+                    atqb = b.to_vec();
+                }
+                next
+            }
+            Ok(type_b::Said::Attached(mbli)) => {
+                assert_eq!((told.0, told.1), (10, mbli as u64));
+                None
+            }
+            Ok(type_b::Said::Halted) => {
+                assert_eq!(told.0, 11);
+                None
+            }
+        };
+        let Some(bytes) = frame else {
+            assert_eq!(got, 0);
+            continue;
+        };
+        let sent = type_b::with_crc(&bytes);
+        assert_eq!((got, &out[..sent.len()]), (sent.len() as i64, &sent[..]), "Type B frame, call {call}");
+        row = field_b(random, &mut field, &sent);
+    }
+}
+
+fn new_b_card(random: &mut Random) -> (type_b::Card, Box<[u8]>) {
+    let four = |r: &mut Random| [r.byte(), r.byte(), r.byte(), r.byte()];
+    let (pupi, application, protocol) = (four(random), four(random), [random.byte(), random.pick(&[0x71, 0x70]), random.byte()]);
+    let (afi, markers) = (random.pick(&[0, 0x10, 0x11]), random.chance(70));
+    let mut state = lent(&random.bytes(STATE));
+    let (p, a, q) = (lent(&pupi), lent(&application), lent(&protocol));
+    unsafe {
+        assert_eq!(lac_b_card_new(state.as_mut_ptr(), STATE, p.as_ptr(), 4, afi, markers as u8, a.as_ptr(), 4, q.as_ptr(), 3), 0);
+        assert_eq!(lac_b_card_power_on(state.as_mut_ptr(), STATE), 0);
+    }
+    (type_b::Card { pupi, afi, markers, application, protocol, state: type_b::State::Idle, number: 1 }, state)
+}
+
+/// Every card takes the frame, each with a slot number; what is heard, now and then with a bit turned.
+fn field_b(random: &mut Random, field: &mut [(type_b::Card, Box<[u8]>)], frame: &Row) -> Row {
+    let mut rows = Vec::new();
+    for (model, state) in field.iter_mut() {
+        model.number = 1 + random.below(4) as u8;
+        let (f, mut out) = (lent(frame), lent(&[7; 112]));
+        let got = unsafe { lac_b_card_take(state.as_mut_ptr(), STATE, model.number, f.as_ptr(), f.len(), out.as_mut_ptr(), 112) };
+        match model.take(frame) {
+            Err(e) => assert_eq!(got, -(e.number as i64)),
+            Ok(row) => {
+                assert_eq!((got, &out[..row.len()]), (row.len() as i64, &row[..]), "Type B card");
+                rows.push(row);
+            }
+        }
+        let tag = match model.state {
+            type_b::State::Off => 0,
+            type_b::State::Idle => 1,
+            type_b::State::Requested(_) => 2,
+            type_b::State::Declared => 3,
+            type_b::State::Active => 4,
+            type_b::State::Halt => 5,
+        };
+        assert_eq!(unsafe { lac_b_card_state(state.as_ptr(), STATE) }, tag);
+    }
+    let mut heard = frames::merge(&rows.into_iter().filter(|r| !r.is_empty()).collect::<Vec<_>>());
+    if random.chance(5) && !heard.is_empty() {
+        let at = random.below(heard.len());
+        heard[at] = random.pick(&[0, 1, 2]);
+    }
+    heard
+}
+
+/// Any bytes as a Type B reader or card, or as a reader that remembers: a number that the header names, and 1, 6 and 11 write nothing.
+fn any_other_state(random: &mut Random) {
+    let before: Vec<u8> = (0..192).map(|_| if random.chance(50) { random.byte() } else { random.below(17) as u8 }).collect();
+    let (mut state, mut out) = (lent(&before), lent(&[7; 112]));
+    let rows = likely_rows(random);
+    let row = lent(&any_row(random, &rows));
+    let length = random.pick(&[0, 4, 4, 12, 12, 13]);
+    let bytes = lent(&random.bytes(length));
+    let (a, b, room) = (random.byte(), random.pick(&[1, 2, 4, 8, 16, 3]), random.pick(&[0, 80, 81, 87, 88, 111, 112]));
+    let (s, o, r, p, call) = (state.as_mut_ptr(), out.as_mut_ptr(), (row.as_ptr(), row.len()), (bytes.as_ptr(), bytes.len()), random.below(7));
+    let got = unsafe {
+        match call {
+            0 => lac_memory_sweep(s, 192, o, room),
+            1 => lac_memory_hear(s, 192, r.0, r.1, o, room),
+            2 => lac_b_reader_request(s, STATE, a % 2, b, a, o, room),
+            3 => lac_b_reader_attach(s, STATE, p.0, p.1, a % 10, o, room),
+            4 => lac_b_reader_halt(s, STATE, p.0, p.1, o, room),
+            5 => lac_b_reader_hear(s, STATE, r.0, r.1, o, room),
+            _ => lac_b_card_take(s, STATE, b, r.0, r.1, o, room),
+        }
+    };
+    assert!((-12..=112).contains(&got), "call {call} gave {got}");
+    assert!(out[room.max(0)..].iter().all(|&b| b == 7), "call {call} wrote behind its row");
+    if got < 0 {
+        assert!(out.iter().all(|&b| b == 7), "a refused call wrote a row");
+    }
+    if [-1, -6, -11].contains(&got) {
+        assert_eq!(state[..], before[..], "call {call}, {got}");
+    }
+}
+
 /// Any 64 bytes: the call gives a number that the header names, and a refusal that names no fault of what was heard writes nothing.
 fn any_state(random: &mut Random) {
     let before = if random.chance(50) { random.bytes(STATE) } else { (0..STATE).map(|_| random.below(12) as u8).collect() };
@@ -569,13 +757,16 @@ fn main() {
     let mut words = std::env::args().skip(1).map(|w| w.parse::<u64>().expect("fuzz CALLS SEED"));
     let (calls, seed) = (words.next().unwrap_or(20000), words.next().unwrap_or(1));
     let mut random = Random::new(seed);
-    let kinds: [(&str, fn(&mut Random), u64); 6] = [
+    let kinds: [(&str, fn(&mut Random), u64); 9] = [
         ("reader", reader_call, 4),
         ("card", card_call, 4),
         ("new card", new_card, 20),
         ("frames", frame_call, 8),
         ("sweeps", sweep_call, 40),
+        ("sweeps that remember, stepped", memory_calls, 40),
+        ("Type B", type_b_calls, 8),
         ("states of any bytes", any_state, 2),
+        ("of other readers and cards", any_other_state, 2),
     ];
     for (name, call, share) in kinds {
         for _ in 0..calls / share {

@@ -1,4 +1,4 @@
-/* lacrivosum: reader and card of a proved ISO/IEC 14443 Type A core, as a library for C99. It needs no other library.
+/* lacrivosum: reader and card of a proved ISO/IEC 14443 core, Type A and Type B, as a library for C99. It needs no other library.
  *
  * What is promised, and proved of each function below for every value of every byte lent to it (docs/PROMISES.md): it does what the rules
  * of the core say, it writes nowhere but into the memory lent as `uint8_t *`, and there no more than is said here. It allocates nothing,
@@ -38,6 +38,12 @@ extern "C" {
 #define LAC_MOST_CARDS 32    /* cards of the largest field that a sweep takes */
 #define LAC_LOG_ROOM 40960   /* bytes of a sweep's log: so many hold that of any field */
 #define LAC_LIST_ROOM 352    /* bytes of a sweep's list, 11 for each card */
+#define LAC_B_FRAME_SIZE 88  /* bytes of `out` for a Type B reader: its longest frame, ATTRIB of 11 bytes */
+#define LAC_B_ANSWER_SIZE 112 /* bytes of `out` for a Type B card: its longest answer, ATQB of 14 bytes */
+#define LAC_B_ATQB_SIZE 12   /* bytes of an ATQB without CRC_B */
+#define LAC_MEMORY_SIZE 192  /* bytes of a reader that remembers (lac_memory_sweep) */
+#define LAC_SWEEP_ROW 81     /* bytes of its `out`: the longest frame of a sweep */
+#define LAC_NO_DELAY INT64_MIN /* what lac_delay answers where it is refused */
 
 /* Why a call is refused; it answers minus this. */
 #define LAC_ROOM 1       /* a state or a row to write to shorter than asked; a message or an answer that ends before the block that is sent from it */
@@ -52,6 +58,8 @@ extern "C" {
 #define LAC_TOO_LONG 10  /* a message or an answer over LAC_MESSAGE_MAX bytes, or one that is heard and over the buffer */
 #define LAC_NOT_DUE 11   /* a call or a row that is not due now */
 #define LAC_REPEATS 12   /* silence or damage three times running: repeats are used up */
+#define LAC_ENERGY 13    /* of lac_front: a number that is no energy, a level or a share that is none, or half a bit */
+#define LAC_DELAY 14     /* a delay of 2^31 carrier periods or more; of lac_delay, which tells it by LAC_NO_DELAY */
 
 /* What else a call told. */
 enum lac_event_number {
@@ -62,7 +70,18 @@ enum lac_event_number {
     LAC_OPENED = 4,    /* a good ATS: messages may go; lac_length is the card's size index */
     LAC_MESSAGE = 5,   /* the other end's whole message stands at the front of `buffer`; lac_length is its length */
     LAC_GRANTED = 6,   /* of a card: the reader grants the time that was asked for */
-    LAC_DESELECTED = 7 /* the card answered DESELECT */
+    LAC_DESELECTED = 7, /* the card answered DESELECT */
+    LAC_B_SLOT = 8,     /* Type B: a slot is over, lac_b_held and lac_b_atqb tell what it held; the frame in `out` is the next slot's marker */
+    LAC_B_SLOTS = 9,    /* Type B: the request's last slot is over, lac_b_held and lac_b_atqb tell what it held; the reader is ready */
+    LAC_B_ATTACHED = 10, /* Type B: the card answered ATTRIB; lac_length is its MBLI; the reader is ready */
+    LAC_B_HALTED = 11   /* Type B: the card answered HLTB; the reader is ready */
+};
+
+/* The gates of lac_front. */
+enum lac_gate_number {
+    LAC_GATE_OFF = 0,   /* every row is silence */
+    LAC_GATE_LEVEL = 1, /* a fixed level */
+    LAC_GATE_SHARE = 2  /* a share of the strongest half heard */
 };
 
 /* The states of a card. */
@@ -75,6 +94,16 @@ enum lac_card_state_number {
     LAC_CARD_READY_STAR = 5,  /* Ready and Active of a card that was woken from Halt */
     LAC_CARD_ACTIVE_STAR = 6,
     LAC_CARD_PROTOCOL = 7     /* it was sent RATS, and speaks blocks */
+};
+
+/* The states of a Type B card. */
+enum lac_b_card_state_number {
+    LAC_B_CARD_OFF = 0,
+    LAC_B_CARD_IDLE = 1,
+    LAC_B_CARD_REQUESTED = 2, /* it waits for the marker of its slot */
+    LAC_B_CARD_DECLARED = 3,  /* it sent ATQB */
+    LAC_B_CARD_ACTIVE = 4,    /* it answered ATTRIB, and is silent from then on */
+    LAC_B_CARD_HALT = 5
 };
 
 /* Begins the selection of one card. `out` has room for LAC_ROW_SIZE bytes.
@@ -179,6 +208,74 @@ int64_t lac_sweep_remember(uint8_t *state, size_t state_len, uint8_t *cards, siz
  * a short state count as 0. */
 uint64_t lac_frames(const uint8_t *state, size_t state_len);
 
+/* Type B. A reader and a card of their own kind, each in LAC_STATE_SIZE bytes too; any bytes at all are one Type B reader, and one Type B card.
+ * Bytes all zero are a reader that is ready, and a card without power. A row holds data bits only, eight a byte, the lowest first: no parity,
+ * start or stop bits. Numbers, lac_event and lac_length are as above; a Type B card has no events. A reader that is ready sends a request, ATTRIB
+ * or HLTB, hears one row for each frame that it sent, and is ready again; so one reader does as many of them as its host likes. It stops at a row
+ * that is not what it awaits; LAC_NOT_DUE, LAC_ROOM and LAC_ARGUMENT leave it what it was, and nothing is written. A call that writes a reader's
+ * state writes its first 54 bytes, one that writes a card's the first 15.
+ *
+ * Begins a request: REQB where `wake` is 0, else WUPB, which halted cards take too; with n slots, 1, 2, 4, 8 or 16; to the cards that `afi` admits
+ * (0x00: all; 0xX0: those of family X; any other: those with that AFI). `out` has room for LAC_B_FRAME_SIZE bytes.
+ * 40: the bits of the request; what is heard then is slot 1. Refused: LAC_NOT_DUE, the reader is not ready; LAC_ROOM; LAC_ARGUMENT, n. */
+int64_t lac_b_reader_request(uint8_t *state, size_t state_len, uint8_t wake, uint8_t n, uint8_t afi, uint8_t *out, size_t out_len);
+
+/* Attaches the card of an ATQB, of LAC_B_ATQB_SIZE bytes as lac_b_atqb gives it, with the reader's own size index, 0 to 8; it ends in
+ * LAC_B_ATTACHED. 88: the bits of ATTRIB.
+ * Refused: LAC_NOT_DUE, the reader is not ready; LAC_ROOM; LAC_ARGUMENT, the ATQB has another length, or the index is over 8. */
+int64_t lac_b_reader_attach(uint8_t *state, size_t state_len, const uint8_t *atqb, size_t atqb_len, uint8_t index, uint8_t *out, size_t out_len);
+
+/* Halts the card with this PUPI, four bytes, which stand in its ATQB behind the first; it ends in LAC_B_HALTED. 56: the bits of HLTB.
+ * Refused: LAC_NOT_DUE, the reader is not ready; LAC_ROOM; LAC_ARGUMENT, the PUPI has another length. */
+int64_t lac_b_reader_halt(uint8_t *state, size_t state_len, const uint8_t *pupi, size_t pupi_len, uint8_t *out, size_t out_len);
+
+/* The reader hears a row, whatever it awaits. `out` has room for LAC_B_FRAME_SIZE bytes.
+ * 24: the bits of the next slot's marker; 0: no frame; and lac_event. In a slot silence is no card, and an answer with collided bits is more than
+ * one. Refused: LAC_NOT_DUE, no row is awaited; LAC_ROOM; and what is wrong with the row: LAC_SILENCE, in no slot; LAC_LENGTH; LAC_COLLISION, in
+ * no slot; LAC_CRC, here CRC_B; LAC_FORBIDDEN, what is not an ATQB in a slot, a CID that is not 0, or a byte that is no answer to HLTB. */
+int64_t lac_b_reader_hear(uint8_t *state, size_t state_len, const uint8_t *row, size_t row_len, uint8_t *out, size_t out_len);
+
+/* Of a reader: what the slot of the last answer held, 0 no card, 1 one, 2 more; 0 where the answer told of no slot. Of a state that no call has
+ * written it is what its byte says; bytes past the end of a short state count as 0. */
+uint8_t lac_b_held(const uint8_t *state, size_t state_len);
+
+/* .. and the one card's ATQB without CRC_B, at the front of `out`, which has room for LAC_B_ATQB_SIZE bytes; zeros where there was not one card.
+ * 12: how many bytes; no more are written. Refused: LAC_ROOM, the state or `out` is too short; nothing is written. */
+int64_t lac_b_atqb(const uint8_t *state, size_t state_len, uint8_t *out, size_t out_len);
+
+/* Makes a Type B card without power, over whatever the state was: its PUPI, four bytes; its AFI; whether it answers slot markers (0: it does not;
+ * any other number: it does); application data, four bytes, and protocol information, three, of its ATQB.
+ * 0. Refused: LAC_ROOM; LAC_ARGUMENT, a length is another one. */
+int64_t lac_b_card_new(uint8_t *state, size_t state_len, const uint8_t *pupi, size_t pupi_len, uint8_t afi, uint8_t markers,
+                       const uint8_t *application, size_t application_len, const uint8_t *protocol, size_t protocol_len);
+
+/* Power comes: a card that was Off is Idle; any other stays. Power is lost: the card is Off.
+ * 0. Refused: LAC_ROOM. */
+int64_t lac_b_card_power_on(uint8_t *state, size_t state_len);
+int64_t lac_b_card_power_off(uint8_t *state, size_t state_len);
+
+/* The card takes a row, any row in any state. `number` is the slot that its host drew for it, 1 to the N of the request; of a row that is no
+ * request it is not looked at. `out` has room for LAC_B_ANSWER_SIZE bytes.
+ * 0 or more: the bits of what the card sends (0: it is silent, as it is to damage and to what it does not await).
+ * Refused: LAC_ROOM; LAC_ARGUMENT, the row is a request, whether this card heeds it or not, and the number is not 1 to its N. */
+int64_t lac_b_card_take(uint8_t *state, size_t state_len, uint8_t number, const uint8_t *row, size_t row_len, uint8_t *out, size_t out_len);
+
+/* The state of a card, one of enum lac_b_card_state_number. Bytes past the end of a short state count as 0. */
+uint8_t lac_b_card_state(const uint8_t *state, size_t state_len);
+
+/* The reader of lac_sweep_remember, stepped by hand against cards of your own. Its state has its path too, the branches that it has not taken, and
+ * is LAC_MEMORY_SIZE bytes: any bytes are one such reader, bytes all zero a new one, and a shorter state is refused by LAC_ROOM. lac_event,
+ * lac_length, lac_uid and lac_reader_sak tell of it as of any reader. `out` has room for LAC_SWEEP_ROW bytes.
+ *
+ * Begins the sweep, which finds one card after the other and ends in LAC_SWEPT.
+ * 7: the bits of REQA. Refused, and nothing at all is written: LAC_NOT_DUE, the reader is not new; LAC_ROOM. */
+int64_t lac_memory_sweep(uint8_t *state, size_t state_len, uint8_t *out, size_t out_len);
+
+/* The reader hears a row, whatever it awaits.
+ * 0 or more: the bits of the next frame, and lac_event. Refused: LAC_NOT_DUE, no row is awaited; LAC_ROOM; these two write nothing. And what is
+ * wrong with the row, LAC_LENGTH to LAC_CHECK and LAC_SILENCE to LAC_FORBIDDEN: by these the reader has stopped, and its path is forgotten. */
+int64_t lac_memory_hear(uint8_t *state, size_t state_len, const uint8_t *row, size_t row_len, uint8_t *out, size_t out_len);
+
 /* CRC_A of bytes, and CRC_B. The byte sent first is the low one. */
 uint16_t lac_crc_a(const uint8_t *bytes, size_t bytes_len);
 uint16_t lac_crc_b(const uint8_t *bytes, size_t bytes_len);
@@ -210,6 +307,23 @@ int64_t lac_frame_read_short(const uint8_t *row, size_t row_len);
 /* The first of a row's whole bytes, row_len / 9 of them, from 0, that has no collided data bit and wrong parity; row_len / 9 where none is
  * so. A collided parity bit is wrong. */
 uint64_t lac_frame_wrong(const uint8_t *row, size_t row_len);
+
+/* How far a card's answer was from due, in carrier periods: below zero it was early, above it late. `row` is the reader's frame, `sent` the tick
+ * at which its last pause ended, `heard` the tick at which the answer began; ticks wrap at 2^32. After REQA, WUPA, ANTICOLLISION and SELECT 1236
+ * carrier periods are due where the last data bit sent was a 1, else 1172; after any other row the nearest n * 128 + 84 after a 1, or
+ * n * 128 + 20 after a 0, n being at least 9 (of two as near the smaller one).
+ * Any number but LAC_NO_DELAY: the difference. LAC_NO_DELAY: refused by LAC_DELAY, 2^31 carrier periods or more from `sent` to `heard`. */
+int64_t lac_delay(const uint8_t *row, size_t row_len, uint32_t sent, uint32_t heard);
+
+/* Makes a received row of a front end's energies, two for each bit: `halves_len` numbers, the first half of the first bit first. A half is loaded
+ * when its energy is at least the level and above `floor`; only the first half loaded is a 1, only the second a 0, both a collided bit, 2, and
+ * neither ends the row. `gate` is one of enum lac_gate_number: with LAC_GATE_LEVEL the level is `value`, with LAC_GATE_SHARE it is `value` times
+ * `peak`, rounded once, `peak` being the strongest half heard. `out` has a place for each whole bit handed in.
+ * 0 or more: the bits of the row, at the front of `out`; no more is written. Refused, tested in this order, and nothing is written: LAC_ARGUMENT, no
+ * gate has this number; LAC_ROOM; LAC_ENERGY, a NaN, an infinity or a number below zero among `halves`, `floor` and `peak` (halves behind the end
+ * too), or an odd number of halves; of LAC_GATE_LEVEL a `value` that is none of those but above 0; of LAC_GATE_SHARE one that is not above 0 and
+ * at most 1, or a level that comes out 0. With LAC_GATE_OFF `value` is not looked at. */
+int64_t lac_front(uint8_t gate, float value, float floor, float peak, const float *halves, size_t halves_len, uint8_t *out, size_t out_len);
 
 #ifdef __cplusplus
 }

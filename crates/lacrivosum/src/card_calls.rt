@@ -16,7 +16,8 @@ use card_link::LinkCard;
 use refusal::Refusal;
 use uid::Made;
 
-fn speaks(blocks: u8) -> bool
+// A number as C has it for true and false: 0 is false, any other true.
+pub fn speaks(blocks: u8) -> bool
     ensures { λ r. ⌜ r ≡ speaks blocks ⌝ }
 {
     if blocks == 0 {

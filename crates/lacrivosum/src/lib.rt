@@ -1,10 +1,14 @@
 // The core as a library for C: include/lacrivosum.h declares each of these functions. State is kept in bytes that the caller lends. A call
 // decodes them, makes the call of crate reader_link by value, and encodes what it leaves; nothing is written where that call is refused and the
-// reader stays what it was. Every call is 1 on a state that is too short. `card_calls` has the card's, `sweeps` both sweeps, `frames` what needs no
-// state.
+// reader stays what it was. Every call is 1 on a state that is too short. `card_calls` has the card's, `sweeps` both sweeps, `type_b` those of
+// Type B, `frames` what needs no state.
 pub mod card_calls;
+pub mod delays;
 pub mod frames;
+pub mod fronts;
+pub mod memories;
 pub mod sweeps;
+pub mod type_b;
 
 ghost use mathlib.Core.Path.{_≡_};
 ghost use mathlib.Core.Bool.{true, false};

@@ -1,0 +1,33 @@
+-- `kept_b::four` meets its contract, byte by byte. Assumes nothing.
+use Rattle.kept.specs.Kept.{bytesAt}
+use borrow.Author.Needs.{needs}
+use Rattle.kept_b.proofs.four.Statement.{statement}
+use Rattle.kept_b.proofs.four.Tie as tie
+
+add-i1 : tie.Need-add-i1
+add-i1 c = search needs
+
+add-i2 : tie.Need-add-i2
+add-i2 c = search needs
+
+add-i3 : tie.Need-add-i3
+add-i3 c = search needs
+
+at-requires : tie.Need-at-requires
+at-requires c κs = search needs
+
+at-requires-2 : tie.Need-at-requires-2
+at-requires-2 c κs = search needs
+
+at-requires-3 : tie.Need-at-requires-3
+at-requires-3 c κs = search needs
+
+at-requires-4 : tie.Need-at-requires-4
+at-requires-4 c κs = search needs
+
+returns : tie.Need-returns
+unfolding bytesAt
+returns c = simp (c .before .before .before .at .ensures, c .before .before .at2 .ensures, c .before .at3 .ensures, c .at4 .ensures)
+
+pub four-spec : {M : Type 1} → statement M
+four-spec = tie.close (tie.spec add-i1 add-i2 add-i3 at-requires at-requires-2 at-requires-3 at-requires-4 returns)

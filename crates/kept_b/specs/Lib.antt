@@ -1,0 +1,4 @@
+pub mod KeptReaderB
+pub mod KeptReaderBLaws
+pub mod KeptCardB
+pub mod KeptCardBLaws

@@ -1,0 +1,2 @@
+pub mod KeptMemory
+pub mod KeptMemoryLaws
