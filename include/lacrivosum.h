@@ -1,4 +1,5 @@
-/* lacrivosum: reader and card of a proved ISO/IEC 14443 core, Type A and Type B, as a library for C99. It needs no other library.
+/* lacrivosum: reader and card of a proved ISO/IEC 14443 core, Type A and Type B, as a library for C99. It needs no other library, but
+ * memcpy and memset of the C runtime.
  *
  * What is promised, and proved of each function below for every value of every byte lent to it (docs/PROMISES.md): it does what the rules
  * of the core say, it writes nowhere but into the memory lent as `uint8_t *`, and there no more than is said here. It allocates nothing,
