@@ -9,6 +9,7 @@ pub mod fronts;
 pub mod memories;
 pub mod sweeps;
 pub mod type_b;
+pub mod wakes;
 
 ghost use mathlib.Core.Path.{_≡_};
 ghost use mathlib.Core.Bool.{true, false};
