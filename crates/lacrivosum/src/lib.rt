@@ -6,6 +6,7 @@ pub mod card_calls;
 pub mod delays;
 pub mod frames;
 pub mod fronts;
+pub mod inquiries;
 pub mod memories;
 pub mod sweeps;
 pub mod type_b;

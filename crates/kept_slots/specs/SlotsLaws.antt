@@ -1,0 +1,148 @@
+-- Laws of a row of Type B cards: the laws of any row of states (crate kept), of cards with their slot numbers; and how a request ends. Assumes nothing.
+use mathlib.Core.Path.{_≡_, refl, sym, ap, _∙_}
+use mathlib.Core.Bool.{Bool, true, false, cond, _||_, false≢true}
+use mathlib.Core.List.{List, [], _∷_, _++_, map}
+use Prim.Native.Nat.{ℕ, zero, suc, _+_, _-_, _*_, _<_, _≤_, min}
+use native.Mathlib.Omega.{arith}
+use lib.ListN.{length, take, drop, getD, set, replicate}
+use lib.Dec.{ltb}
+use borrow.Author.Tests.{eq-eqb, ne-eqb, lt-ltb, le-ltb}
+use Rattle.rows.specs.Rows.{overlay, All}
+use Rattle.refusal.specs.declared.Refusal.{Refusal}
+use Rattle.card_b.specs.declared.CardB.{CardB}
+use Rattle.selection_b.specs.HeardB.{readSlot}
+use Rattle.selection_b.specs.declared.Held.{Held}
+use Rattle.selection_b.specs.declared.SlotSays.{SlotSays}
+use Rattle.selection_b.specs.declared.SlotSays.the-variants.{Holds, NotSlot}
+use Rattle.reader_b.specs.ReaderB.{reader, blank, held, slotTurn, hearIn, hear}
+use Rattle.reader_b.specs.declared.AnswerB.{AnswerB}
+use Rattle.reader_b.specs.declared.AnswerB.the-variants.{Sends, Marks, Ends, Attached, Halted, Declines}
+use Rattle.reader_b.specs.declared.PhaseB.{PhaseB}
+use Rattle.reader_b.specs.declared.PhaseB.the-variants.{Ready, Slot, AttribSent, HltbSent, Stopped}
+use Rattle.reader_b.specs.declared.ReaderB.{ReaderB}
+use Rattle.reader_b.specs.declared.TurnB.{TurnB}
+use Rattle.field_b.specs.FieldB.{allTake, heardFrom}
+use Rattle.field_b.specs.declared.Drawn.{Drawn}
+use Rattle.slots_rules.specs.RunB.{Out, before, ended, follow, outFrame, run, inquiry}
+use Rattle.slots.specs.declared.Inquired.{Inquired}
+use Rattle.kept.specs.Kept.{bytesAt}
+use Rattle.kept.specs.StatesLaws as states
+use Rattle.kept_b.specs.KeptCardB.{cardBytes, cardIn, Fits}
+use Rattle.kept_b.specs.KeptCardBLaws.{card-back, card-length}
+use Rattle.kept_b.specs.KeptReaderB.{answerRefuses, stays}
+use Rattle.kept_slots.specs.KeptSlots.{drawnAt, readAt, drawnIn, noCard, fieldIn, cardsIn, cardOf, drawnBytes, cardsLeft, lastAtqb, turnBy, rowLeft, Says}
+
+-- ---- the cards that a row of states says
+
+module _ (numbers b : List ℕ) where
+  -- the array while the first i cards are decoded
+  abbrev pub Filled : ℕ → List Drawn
+  Filled i = states.Filled (readAt numbers) noCard 32 i b
+
+  pub field-turn : (a : List Drawn) (i : ℕ) (d : Drawn) → i < 32 → a ≡ Filled i → d ≡ drawnAt (getD numbers i 0) (drop (64 * i) b) → set a i d ≡ Filled (i + 1)
+  field-turn a i d h e k = states.array-turn (readAt numbers) noCard 32 b a i d h e k
+
+  pub field-done : (a : List Drawn) (m : ℕ) → m ≡ min (length numbers) 32 → a ≡ Filled m → a ≡ fieldIn numbers b
+  unfolding fieldIn
+  field-done a m e h = states.array-done (readAt numbers) noCard 32 (length numbers) b a m e h
+
+  pub length-field : length (fieldIn numbers b) ≡ 32
+  unfolding fieldIn
+  length-field = states.array-length (readAt numbers) noCard 32 (length numbers) b
+
+  -- of an array that holds them all the cards are the first
+  pub field-front : length numbers ≤ 32 → take (length numbers) (fieldIn numbers b) ≡ drawnIn numbers b
+  unfolding drawnIn fieldIn
+  field-front h = states.array-front (readAt numbers) noCard 32 (length numbers) b h
+
+-- ---- cards written back
+
+-- what every card in memory has
+abbrev pub Whole : Drawn → Type 0
+Whole d = Fits (d .card)
+
+short : (d : Drawn) → length (drawnBytes d) ≤ 64
+short d = omega (arith, card-length (d .card))
+
+back : (i : ℕ) (d : Drawn) (rest : List ℕ) → Whole d → cardIn (drawnBytes d ++ rest) ≡ cardOf d
+back i d rest w = card-back (d .card) rest w
+
+pub put-turn : (b b₀ b₁ : List ℕ) (l : List Drawn) (i : ℕ) (c d : Drawn) (k : List ℕ) → i < length l → 64 * (i + 1) ≤ length b₀
+    → b ≡ cardsLeft b₀ (take i l) → All Whole (take i l) → c ≡ getD l i d → Whole c → k ≡ drawnBytes c → b₁ ≡ overlay b (64 * i) k
+    → (b₁ ≡ cardsLeft b₀ (take (i + 1) l)) × All Whole (take (i + 1) l)
+unfolding cardsLeft
+put-turn = states.put-turn drawnBytes short (λ i. cardIn) cardOf Whole back
+
+pub put-done : (n m : ℕ) (b b₀ : List ℕ) (l : List Drawn) → 64 * n ≤ length b₀ → length l ≡ 32 → m ≡ min n 32 → b ≡ cardsLeft b₀ (take m l)
+    → All Whole (take m l) → (b ≡ cardsLeft b₀ (take n l)) × (cardsIn (length (take n l)) b ≡ map cardOf (take n l))
+unfolding cardsIn cardsLeft
+put-done n m b b₀ l = states.put-done drawnBytes short (λ i. cardIn) cardOf Whole back 32 n m b b₀ l
+
+-- ---- the ATQB of the last slot
+
+pub last-none : (slots : ℕ) (list : List ℕ) → slots ≡ 0 → replicate 12 0 ≡ lastAtqb slots list
+unfolding lastAtqb
+last-none slots list h = rw (eq-eqb slots 0 h)
+
+module _ (slots : ℕ) (list : List ℕ) (some : slots ≡ 0 → ⊥) where
+  pub last-many : 16 < slots → replicate 12 0 ≡ lastAtqb slots list
+  unfolding lastAtqb
+  last-many h = rw (ne-eqb slots 0 some, lt-ltb 16 slots h)
+
+  pub last-some : slots ≤ 16 → bytesAt 12 list (13 * (slots - 1) + 1) ≡ lastAtqb slots list
+  unfolding lastAtqb
+  last-some h = rw (ne-eqb slots 0 some, le-ltb 16 slots h)
+
+-- ---- what the call leaves
+
+module _ (x : ReaderB) (n : ℕ) (s : Inquired) (list cards : List ℕ) where
+  pub row-stays : stays x (turnBy s list) ≡ true → (cards ≡ rowLeft x n cards s list) × Says x n s list cards
+  unfolding rowLeft
+  row-stays h = (rw h, λ k. absurd (false≢true (sym k ∙ h)))
+
+  pub row-kept : (cards₁ : List ℕ) → stays x (turnBy s list) ≡ false → cards₁ ≡ cardsLeft cards (take n (s .cards))
+      → cardsIn (length (take n (s .cards))) cards₁ ≡ map cardOf (take n (s .cards)) → length (s .cards) ≡ 32
+      → (cards₁ ≡ rowLeft x n cards s list) × Says x n s list cards₁
+  unfolding rowLeft
+  row-kept cards₁ h a b c = (rw h a, λ k. (b, c))
+
+-- ---- how a request ends: a reader that declines has stopped
+
+-- a request's reader before it hears a slot
+record Asking (t : TurnB) : Type 0 where
+  phase : t .reader .phase ≡ Slot
+  good : answerRefuses (t .answer) ≡ false
+
+abbrev pub Stops : TurnB → Type 0
+Stops t = answerRefuses (t .answer) ≡ true → t .reader ≡ blank Stopped
+
+-- what a slot's row says is followed by the next slot, or ends the run
+slot-stops : (r : ReaderB) (s : SlotSays) (q : List ℕ) (ds : List Drawn) (o : TurnB → Out) → ((t : TurnB) → Asking t → Stops (o t .last))
+    → Stops (follow (slotTurn r s q .answer) (slotTurn r s q) ds (o (slotTurn r s q)) .last)
+unfolding held before ended
+slot-stops r (Holds k) q ds o after = go (ltb (r .slot) (r .slots))
+  where
+    go : (b : Bool)
+        → let t : TurnB = cond b (record { reader = reader Slot (r .slots) (r .slot + 1); answer = Marks k; atqb = q }) (record { reader = blank Ready; answer = Ends k; atqb = q }) in
+        Stops (follow (t .answer) t ds (o t) .last)
+    go true = after _ (record { phase = refl; good = refl })
+    go false = λ h. absurd (false≢true h)
+slot-stops r (NotSlot e) q ds o after = λ h. refl
+
+slot-heard : (r : ReaderB) (h : List ℕ) → r .phase ≡ Slot → hear r h ≡ slotTurn r (readSlot h .says) (readSlot h .atqb)
+unfolding hear
+slot-heard r h e = ap (λ p. hearIn p r h) e
+
+module _ (wake : Bool) (afi : ℕ) where
+  run-stops : (fuel : ℕ) (t : TurnB) (ds : List Drawn) → Asking t → Stops (run wake afi fuel t ds .last)
+  unfolding run ended
+  run-stops zero t ds a = λ h. absurd (false≢true (sym (a .good) ∙ h))
+  run-stops (suc fuel) t ds a =
+      let f = outFrame wake afi (t .reader) in
+      let h = heardFrom f ds in
+      rw (slot-heard (t .reader) h (a .phase))
+      (slot-stops (t .reader) (readSlot h .says) (readSlot h .atqb) (allTake f ds) (λ u. run wake afi fuel u (allTake f ds)) (λ u k. run-stops fuel u (allTake f ds) k))
+
+  pub inquiry-stops : (n : ℕ) (ds : List Drawn) → Stops (inquiry wake n afi ds .last)
+  unfolding inquiry
+  inquiry-stops n ds = run-stops n _ ds (record { phase = refl; good = refl })
