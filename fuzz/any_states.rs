@@ -3,6 +3,7 @@ use crate::c::*;
 use crate::random::Random;
 use crate::rows::{any_row, likely_rows};
 use crate::states::{ROW, STATE};
+use crate::tally;
 
 /// Any 64 bytes: the call gives a number that the header names, and a refusal that names no fault of what was heard writes nothing.
 pub fn any_state(random: &mut Random) {
@@ -30,6 +31,7 @@ pub fn any_state(random: &mut Random) {
             _ => lac_card_power_on(s, STATE),
         }
     };
+    tally::note(got);
     assert!((-12..=ROW as i64).contains(&got), "call {call} gave {got}");
     if got < 0 {
         assert!(out.iter().all(|&b| b == 7), "a refused call wrote a row");
@@ -61,6 +63,7 @@ pub fn any_other_state(random: &mut Random) {
             _ => lac_b_card_take(s, STATE, b, r.0, r.1, o, room),
         }
     };
+    tally::note(got);
     assert!((-12..=112).contains(&got), "call {call} gave {got}");
     assert!(out[room.max(0)..].iter().all(|&b| b == 7), "call {call} wrote behind its row");
     if got < 0 {

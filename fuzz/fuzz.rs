@@ -43,9 +43,13 @@ mod coverage {
 
 mod any_states;
 mod b_calls;
+mod b_card_calls;
+mod b_inquiries;
+mod b_states;
 mod c;
 mod card_calls;
 mod card_states;
+mod field;
 mod frame_calls;
 mod hold;
 mod memory_calls;
@@ -53,6 +57,8 @@ mod reader_calls;
 mod rows;
 mod states;
 mod sweep_calls;
+mod tally;
+mod wake_calls;
 
 use random::Random;
 
@@ -60,14 +66,18 @@ fn main() {
     let mut words = std::env::args().skip(1).map(|w| w.parse::<u64>().expect("fuzz CALLS SEED"));
     let (calls, seed) = (words.next().unwrap_or(20000), words.next().unwrap_or(1));
     let mut random = Random::new(seed);
-    let kinds: [(&str, fn(&mut Random), u64); 9] = [
+    let kinds: [(&str, fn(&mut Random), u64); 13] = [
         ("reader", reader_calls::reader_call, 4),
         ("card", card_calls::card_call, 4),
         ("new card", card_calls::new_card, 20),
         ("frames", frame_calls::frame_call, 8),
         ("sweeps", sweep_calls::sweep_call, 40),
+        ("cards woken", wake_calls::wake_call, 8),
         ("sweeps that remember, stepped", memory_calls::memory_calls, 40),
-        ("Type B", b_calls::type_b_calls, 8),
+        ("Type B reader and two cards", b_calls::type_b_calls, 8),
+        ("Type B card", b_card_calls::b_card_call, 4),
+        ("Type B requests over a row of cards", b_inquiries::inquiry, 8),
+        ("new Type B card", b_card_calls::new_b_card, 20),
         ("states of any bytes", any_states::any_state, 2),
         ("of other readers and cards", any_states::any_other_state, 2),
     ];
@@ -75,6 +85,6 @@ fn main() {
         for _ in 0..calls / share {
             call(&mut random);
         }
-        println!("{name}: {} without a difference", calls / share);
+        println!("{name}: {} without a difference; {}", calls / share, tally::told());
     }
 }

@@ -3,6 +3,7 @@ use crate::c::{lac_event, lac_length};
 use crate::frames::Row;
 use crate::refusal::Refusal;
 use crate::states::{KEPT, STATE};
+use crate::tally;
 
 /// What a call is to give: its number, the row, and what else a state tells.
 pub struct Wanted {
@@ -23,6 +24,7 @@ pub fn refused(r: Refusal) -> Wanted {
 /// Holds what was written to what was wanted. `stays`: the state is to be just as it was.
 #[allow(clippy::too_many_arguments)]
 pub fn hold(what: &str, got: i64, wanted: &Wanted, before: &[u8], after: &[u8], stays: bool, kept: &[u8], out0: &[u8], out: &[u8]) {
+    tally::note(got);
     assert_eq!(got, wanted.number, "{what}: number, state {before:02X?}");
     assert_eq!(out[..wanted.row.len()], wanted.row[..], "{what}: row");
     assert_eq!(out[wanted.row.len()..], out0[wanted.row.len()..], "{what}: behind the row");

@@ -1,7 +1,13 @@
-//! Rows of air bits that an end may hear.
+//! Rows of air bits that an end may hear, and other bytes.
 use crate::blocks;
 use crate::frames::{self, Row};
 use crate::random::Random;
+
+/// Drawn bytes, of one of these lengths.
+pub fn bytes_of(random: &mut Random, lengths: &[usize]) -> Vec<u8> {
+    let length = random.pick(lengths);
+    random.bytes(length)
+}
 
 /// A row to hear: what a block or a frame may be, whole or damaged, noise, or silence.
 pub fn any_row(random: &mut Random, likely: &[Row]) -> Row {
