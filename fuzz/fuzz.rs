@@ -15,8 +15,12 @@ mod card;
 mod card_link;
 #[path = "../model/src/crc.rs"]
 mod crc;
+#[path = "../model/src/delay.rs"]
+mod delay;
 #[path = "../model/src/frames.rs"]
 mod frames;
+#[path = "../model/src/front.rs"]
+mod front;
 #[path = "../model/src/language.rs"]
 mod language;
 #[path = "../model/src/log.rs"]
@@ -49,8 +53,10 @@ mod b_states;
 mod c;
 mod card_calls;
 mod card_states;
+mod delay_calls;
 mod field;
 mod frame_calls;
+mod front_calls;
 mod hold;
 mod memory_calls;
 mod reader_calls;
@@ -66,7 +72,7 @@ fn main() {
     let mut words = std::env::args().skip(1).map(|w| w.parse::<u64>().expect("fuzz CALLS SEED"));
     let (calls, seed) = (words.next().unwrap_or(20000), words.next().unwrap_or(1));
     let mut random = Random::new(seed);
-    let kinds: [(&str, fn(&mut Random), u64); 13] = [
+    let kinds: [(&str, fn(&mut Random), u64); 15] = [
         ("reader", reader_calls::reader_call, 4),
         ("card", card_calls::card_call, 4),
         ("new card", card_calls::new_card, 20),
@@ -78,6 +84,8 @@ fn main() {
         ("Type B card", b_card_calls::b_card_call, 4),
         ("Type B requests over a row of cards", b_inquiries::inquiry, 8),
         ("new Type B card", b_card_calls::new_b_card, 20),
+        ("front", front_calls::front_call, 4),
+        ("delay", delay_calls::delay_call, 2),
         ("states of any bytes", any_states::any_state, 2),
         ("of other readers and cards", any_states::any_other_state, 2),
     ];
