@@ -3,7 +3,7 @@
 -- `rowLeft` of crate kept_slots.
 use Prim.Native.Nat.{ℕ, _/_, _≤_}
 use mathlib.Core.Path.{_≡_}
-use mathlib.Core.Bool.{false, true, cond}
+use mathlib.Core.Bool.{true, cond}
 use mathlib.Core.List.{List, map}
 use lib.ListN.{length}
 use Rattle.limits.specs.Limits.{mostCards}
@@ -17,7 +17,7 @@ use Rattle.slots_rules.specs.RunB.{Out, listBytes}
 use Rattle.slots.specs.Inquiry as by-value
 use Rattle.kept.specs.Kept.{stateSize, refused}
 use Rattle.kept_b.specs.KeptReaderB.{readerIn, turnLeft, keptIn, keptOf, keptAfter}
-use Rattle.kept_slots.specs.KeptSlots.{drawnIn, fieldIn, cardsIn, cardOf, inquiredTurn, turnBy, inquiredNumber, rowLeft, Says}
+use Rattle.kept_slots.specs.KeptSlots.{drawnIn, fieldIn, cardsIn, cardOf, turnBy, inquiredNumber, rowLeft, Says}
 use Rattle.lacrivosum.specs.CardLibrary.{speaks}
 use Rattle.lacrivosum.specs.Field.{noField}
 
@@ -75,10 +75,10 @@ pub record InquiryTerms (q : Asked) (b : InquiryDone) : Type 0 where
   pub few : length (q .numbers) ≤ mostCards
   pub field : claims.Terms (q .n) (q .afi) (drawnIn (q .numbers) (b .cards))
 
--- .. within them, what the bytes say after the run o of the rules over the cards that they said before: the number of slots; the reader and its last
--- answer, with the ATQB that the list has of the last slot; the cards; the list, from its front on
+-- .. within them, what the bytes say after the run o of the rules over the cards that they said before: the number of slots; the reader, and what it
+-- made of the last slot; the cards; the list, from its front on
 pub record InquirySays (q : Asked) (o : Out) (before after : InquiryDone) : Type 0 where
   pub number : after .number ≡ q .n
-  pub state : keptIn (after .state) ≡ keptOf (inquiredTurn (o .last .reader) (o .last .answer) (length (o .slots)) (after .list))
+  pub state : keptIn (after .state) ≡ keptOf (o .last)
   pub cards : cardsIn (length (q .numbers)) (after .cards) ≡ map cardOf (o .cards)
   pub list : after .list ≡ overlay (before .list) 0 (listBytes (o .slots))

@@ -3,12 +3,15 @@ use mathlib.Core.Path.{_≡_, refl, sym, ap, _∙_}
 use mathlib.Core.Bool.{Bool, true, false, false≢true}
 use mathlib.Core.List.{List, [], _∷_, _++_, map}
 use Prim.Native.Nat.{ℕ, zero, suc, _/_, _<_, _≤_}
+use native.Mathlib.Omega.{arith}
 use lib.ListN.{length, take, drop, length-map}
 use borrow.Author.Tests.{lt-ltb, le-ltb}
 use Rattle.refusal.specs.declared.Refusal.{Refusal}
 use Rattle.refusal.specs.declared.Refusal.the-variants.{Room}
 use Rattle.rows.specs.ListLaws.{same-refl}
-use Rattle.reader_b.specs.ReaderB.{isReady}
+use Rattle.selection_b.specs.SlotsLaws.{slots-least, slots-most}
+use Rattle.selection_b.specs.TypeB.{isSlots}
+use Rattle.reader_b.specs.ReaderB.{isReady, opens}
 use Rattle.reader_b.specs.declared.PhaseB.the-variants.{Ready, Stopped}
 use Rattle.reader_b.specs.declared.ReaderB.{ReaderB}
 use Rattle.reader_b.specs.declared.TurnB.{TurnB}
@@ -23,7 +26,8 @@ use Rattle.kept.specs.StatesLaws.{array-parts}
 use Rattle.kept_b.specs.KeptReaderB.{readerBytes, readerIn, answerRefuses, stays, turnLeft, keptIn, keptOf, keptAfter}
 use Rattle.kept_b.specs.KeptReaderBLaws.{moves-by}
 use Rattle.kept_slots.specs.KeptSlots.{drawnIn, fieldIn, cardsIn, cardOf, inquiredTurn, turnBy, inquiredNumber, rowLeft, Says}
-use Rattle.kept_slots.specs.SlotsLaws.{field-front, length-field, Stops, inquiry-stops}
+use Rattle.kept_slots.specs.SlotsLaws.{field-front, length-field}
+use Rattle.kept_slots.specs.EndLaws.{Finishes, inquiry-finishes, kept-last}
 use Rattle.lacrivosum.specs.CardLibrary.{speaks}
 use Rattle.lacrivosum.specs.Field.{noField}
 use Rattle.lacrivosum.specs.Inquiries.{InquiryDone, inquiryDone, Asked, inquiryCall, inquiryLeft, InquiryUnchanged, InquiryKept, InquiryTerms, InquirySays}
@@ -94,21 +98,26 @@ module _ (q : Asked) (state cards list : List ℕ) (s : Inquired) (number : ℕ)
 
   -- the run o of the rules, of which the claim holds
   module _ (o : Out) (ran : by-value.call s list₁ ≡ by-value.done field (length (q .numbers)) list o) (few : length (q .numbers) ≤ 32)
-      (claim : Claim (q .n) (drawnIn (q .numbers) cards) o) (stops : Stops (o .last)) where
+      (some : isSlots (q .n) ≡ true) (claim : Claim (q .n) (drawnIn (q .numbers) cards) o) (ends : Finishes (opens (q .n)) o) where
     -- the reader is ready again, so it declined nothing
     good : (t : Bool) → answerRefuses (o .last .answer) ≡ t → t ≡ false
-    good true h = ap (λ (r : ReaderB). isReady (r .phase)) (sym (claim .ended) ∙ stops h)
+    good true h = ap (λ (r : ReaderB). isReady (r .phase)) (sym (claim .ended) ∙ ends .stops h)
     good false h = refl
 
     answered : answerRefuses (o .last .answer) ≡ false
     answered = good _ refl
 
-    last : turnBy s list₁ ≡ inquiredTurn (o .last .reader) (o .last .answer) (length (o .slots)) list₁
+    count : length (o .slots) ≡ q .n
+    count = ap length (claim .slots) ∙ length-map (slotsFrom 1 (q .n)) _ ∙ slots-count 1 (q .n)
+
+    -- what is kept is the run's last turn
+    last : turnBy s list₁ ≡ o .last
     unfolding by-value.done
-    last = ap (λ (c : by-value.Call). turnBy (c .inquired) list₁) ran
+    last =
+        ap (λ (c : by-value.Call). turnBy (c .inquired) (c .list)) ran
+        ∙ kept-last (opens (q .n)) o list ends answered (omega (arith, count, slots-least (q .n) some)) (omega (arith, count, slots-most (q .n) some))
 
     moves : stays (readerIn state) (turnBy s list₁) ≡ false
-    unfolding inquiredTurn
     moves = rw last (sym (moves-by (readerIn state) _ answered))
 
     says-of : InquirySays q o before after
@@ -116,8 +125,7 @@ module _ (q : Asked) (state cards list : List ℕ) (s : Inquired) (number : ℕ)
     says-of =
         let y = says moves in
         let z = array-parts 32 (length (q .numbers)) field (o .cards) (s .cards) (length-field (q .numbers) cards) few (ap (λ (c : by-value.Call). c .inquired .cards) ran) (y .1) in
-        let n : length (o .slots) ≡ q .n = ap length (claim .slots) ∙ length-map (slotsFrom 1 (q .n)) _ ∙ slots-count 1 (q .n) in
-        let m : inquiredNumber (o .last .answer) (length (o .slots)) ≡ q .n = rw answered n in
+        let m : inquiredNumber (o .last .answer) (length (o .slots)) ≡ q .n = rw answered count in
         record {
           number = a ∙ ap (λ (c : by-value.Call). inquiredNumber (c .inquired .answer) (c .inquired .slots)) ran ∙ m;
           state = k ∙ rw moves (ap keptOf last);
@@ -147,5 +155,5 @@ module _ (q : Asked) (state cards list : List ℕ) (s : Inquired) (number : ℕ)
       record { ready = t .ready; room = t .list-room; few = t .few; field = rw f (t .field) } in
       let c : Claim (q .n) (drawnIn (q .numbers) cards) run = rw f at (p .claim h) in
       let g = p .run h ∙ ap (λ (l : List Drawn). by-value.done field (length (q .numbers)) list (inquiry (speaks (q .wake)) (q .n) (q .afi) l)) f in
-      (says-of run g (t .few) c (inquiry-stops (speaks (q .wake)) (q .afi) (q .n) (drawnIn (q .numbers) cards)), c) in
+      (says-of run g (t .few) (t .field .slots) c (inquiry-finishes (speaks (q .wake)) (q .afi) (q .n) (drawnIn (q .numbers) cards)), c) in
       (made e, (unchanged e, (λ h. kept-by e, says-by)))
