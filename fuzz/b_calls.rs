@@ -1,5 +1,5 @@
 //! A Type B reader, stepped against two cards: requests with slots, ATTRIB, HLTB, the cards' answers merged, now and then damaged.
-use crate::b_card_calls::hold_b_card;
+use crate::b_card_calls::{hold_b_card, in_model};
 use crate::b_states::{b_card_bytes, b_reader_bytes, b_reader_left, random_b_card, random_b_reader, told_slot, Told};
 use crate::c::*;
 use crate::frames::{self, Row};
@@ -39,7 +39,7 @@ fn by_model(model: &mut Reader, call: usize, asked: &Asked) -> Result<Said, Refu
         2 if fits => model.hltb(&asked.atqb[1..5]),
         1 | 2 if *model == Reader::Ready => Err(refusal::ARGUMENT),
         1 | 2 => Err(refusal::NOT_DUE),
-        _ => model.hear(&asked.row),
+        _ => model.hear(&in_model(&asked.row)),
     }
 }
 
@@ -169,7 +169,7 @@ fn field_takes(random: &mut Random, field: &mut [(Card, Box<[u8]>)], frame: &Row
         1 => heard = type_b::with_crc(&[random.byte() & 0xF0]),
         2..=4 if !heard.is_empty() => {
             let at = random.below(heard.len());
-            heard[at] = random.pick(&[0, 1, 2, 2]);
+            heard[at] = random.pick(&[0, 1, 2, 255]);
         }
         5 => {
             heard.pop();

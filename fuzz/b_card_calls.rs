@@ -35,7 +35,7 @@ pub fn b_frame(random: &mut Random, card: &Card) -> Row {
 }
 
 /// Anything but 0 and 1 is a collided bit, which the model has as 2.
-fn in_model(row: &[u8]) -> Row {
+pub fn in_model(row: &[u8]) -> Row {
     row.iter().map(|&bit| bit.min(2)).collect()
 }
 

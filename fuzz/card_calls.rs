@@ -1,6 +1,7 @@
 //! A card, a few calls on from a drawn state; and one newly made.
 use crate::c::*;
 use crate::card::{self, Card, Outcome};
+use crate::card_link::Mode;
 use crate::card_states::{card_bytes, random_card};
 use crate::frames::{self, Row};
 use crate::hold::{hold, refused, wants};
@@ -8,6 +9,7 @@ use crate::random::Random;
 use crate::refusal;
 use crate::rows::{any_row, likely_rows};
 use crate::states::{KEPT, ROW, STATE};
+use crate::tally;
 use crate::uid;
 
 fn card_rows(random: &mut Random, model: &Card) -> Vec<Row> {
@@ -21,12 +23,28 @@ fn card_rows(random: &mut Random, model: &Card) -> Vec<Row> {
     rows
 }
 
+fn owes(model: &Card) -> bool {
+    matches!(&model.state, card::State::Protocol(link) if link.mode == Mode::Owing)
+}
+
+/// 0 and 1 power, 2 more time, 3 and 4 the answer, else a row is taken: mostly what is due.
+fn drawn_call(random: &mut Random, model: &Card) -> usize {
+    match random.below(10) {
+        0 => random.below(2),
+        1 => 2 + random.below(3),
+        _ if owes(model) => 2 + random.below(4),
+        _ => 9,
+    }
+}
+
 pub fn card_call(random: &mut Random) {
     let mut model = random_card(random);
     let mut state = lent(&card_bytes(&model, random));
     for _ in 0..1 + random.below(6) {
         let before = state.to_vec();
-        let short = random.chance(3);
+        // A state that is too short is an allocation of its own.
+        let mut cut = lent(&before[..if random.chance(3) { random.below(STATE) } else { STATE }]);
+        let short = cut.len() < STATE;
         let out_length = if random.chance(6) { random.pick(&[0, 1, 26, 45, 80, ROW - 1]) } else { ROW + random.below(2) };
         let out0 = random.bytes(out_length);
         let mut out = lent(&out0);
@@ -37,9 +55,9 @@ pub fn card_call(random: &mut Random) {
         let mut buffer = lent(&buffer0);
         let rows = card_rows(random, &model);
         let row = lent(&any_row(random, &rows));
-        let (wtxm, call) = (random.below(64) as u8, if random.chance(60) { 9 } else { random.below(5) });
+        let (wtxm, call) = (random.pick(&[0, 1, 30, 59, 60, 255]), drawn_call(random, &model));
 
-        let (s, n) = (state.as_mut_ptr(), if short { random.below(STATE) } else { STATE });
+        let (s, n) = if short { (cut.as_mut_ptr(), cut.len()) } else { (state.as_mut_ptr(), STATE) };
         let (o, k) = (out.as_mut_ptr(), out.len());
         let got = unsafe {
             match call {
@@ -89,8 +107,13 @@ pub fn card_call(random: &mut Random) {
             model = next;
         }
         assert_eq!(buffer[..], told[..], "card call {call}: buffer");
+        assert_eq!(cut[..], before[..cut.len()], "card call {call}: too short a state was written");
         let kept = card_bytes(&model, random);
         hold(&format!("card call {call} in {}", model.state_name()), got, &wanted, &before, &state, stays, &kept, &out0, &out);
+        unsafe {
+            assert_eq!(lac_card_state(state.as_ptr(), STATE), kept[0]);
+            assert_eq!(lac_card_owes(state.as_ptr(), STATE), owes(&model) as u8);
+        }
     }
 }
 
@@ -100,6 +123,7 @@ pub fn new_card(random: &mut Random) {
     let before = random.bytes(STATE);
     let mut state = lent(&before);
     let got = unsafe { lac_card_new(state.as_mut_ptr(), STATE, lent_uid.as_ptr(), lent_uid.len(), blocks, index) };
+    tally::note(got);
     match Card::new(&uid, blocks != 0, index) {
         Err(r) => {
             assert_eq!((got, &state[..]), (-(r.number as i64), &before[..]));

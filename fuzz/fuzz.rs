@@ -45,6 +45,7 @@ mod coverage {
     pub fn note(_: &str, _: &str, _: &str) {}
 }
 
+mod any_fields;
 mod any_states;
 mod b_calls;
 mod b_card_calls;
@@ -64,6 +65,7 @@ mod rows;
 mod states;
 mod sweep_calls;
 mod tally;
+mod told;
 mod wake_calls;
 
 use random::Random;
@@ -72,7 +74,7 @@ fn main() {
     let mut words = std::env::args().skip(1).map(|w| w.parse::<u64>().expect("fuzz CALLS SEED"));
     let (calls, seed) = (words.next().unwrap_or(20000), words.next().unwrap_or(1));
     let mut random = Random::new(seed);
-    let kinds: [(&str, fn(&mut Random), u64); 15] = [
+    let kinds: [(&str, fn(&mut Random), u64); 19] = [
         ("reader", reader_calls::reader_call, 4),
         ("card", card_calls::card_call, 4),
         ("new card", card_calls::new_card, 20),
@@ -88,6 +90,10 @@ fn main() {
         ("delay", delay_calls::delay_call, 2),
         ("states of any bytes", any_states::any_state, 2),
         ("of other readers and cards", any_states::any_other_state, 2),
+        ("of rows of cards, one woken", any_fields::any_wake, 4),
+        ("of rows of cards, swept", any_fields::any_sweep, 40),
+        ("of rows of Type B cards", any_fields::any_b_inquiry, 4),
+        ("what states of any bytes tell", told::told_call, 2),
     ];
     for (name, call, share) in kinds {
         for _ in 0..calls / share {

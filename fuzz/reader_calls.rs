@@ -4,7 +4,8 @@ use crate::frames::{self, Row};
 use crate::hold::{hold, refused, wants};
 use crate::random::Random;
 use crate::reader::{Answer, Phase, Reader};
-use crate::refusal::{self, Refusal};
+use crate::reader_link::Stage;
+use crate::refusal;
 use crate::rows::{any_row, likely_rows};
 use crate::states::{self, random_reader, reader_bytes, Known, ROW, STATE};
 use crate::uid;
@@ -32,10 +33,22 @@ fn reader_rows(random: &mut Random, model: &Reader) -> Vec<Row> {
         }
         Phase::ReqaSent | Phase::WupaSent { .. } => rows = vec![frames::standard(&[random.pick(&[0x04, 0x44, 0x84, 0x03, 0x00]), 0]), Row::new()],
         Phase::SelectSent { .. } | Phase::UidSelectSent { .. } => rows = vec![frames::standard_with_crc(&[random.pick(&[0x20, 0x04, 0x00, 0x24])])],
+        Phase::RatsSent { .. } if random.chance(70) => rows = vec![frames::standard_with_crc(&[0x02, random.below(16) as u8])],
         Phase::HltaSent => rows = vec![Row::new(), Row::new(), frames::hlta()],
         _ => {}
     }
     rows
+}
+
+/// 0 to 5 the host's calls, 6 a row is heard: mostly what is due.
+fn drawn_call(random: &mut Random, model: &Reader) -> usize {
+    match &model.phase {
+        _ if random.chance(12) => random.below(7),
+        Phase::New => random.below(3),
+        Phase::Selected { .. } => 3,
+        Phase::Linked(link) if link.stage == Stage::Open => random.pick(&[4, 4, 5]),
+        _ => 6,
+    }
 }
 
 pub fn reader_call(random: &mut Random) {
@@ -43,8 +56,13 @@ pub fn reader_call(random: &mut Random) {
     let mut state = lent(&reader_bytes(&model, &known.uid, known.sak, random));
     // A few calls on from there.
     for _ in 0..1 + random.below(6) {
+        if matches!(model.phase, Phase::Stopped | Phase::Finished) && random.chance(70) {
+            return;
+        }
         let before = state.to_vec();
-        let short = random.chance(3);
+        // A state that is too short is an allocation of its own.
+        let mut cut = lent(&before[..if random.chance(3) { random.below(STATE) } else { STATE }]);
+        let short = cut.len() < STATE;
         let out_length = if random.chance(6) { random.pick(&[0, 1, 26, 80, 81, ROW - 1]) } else { ROW + random.below(2) };
         let out0 = random.bytes(out_length);
         let mut out = lent(&out0);
@@ -55,11 +73,11 @@ pub fn reader_call(random: &mut Random) {
         let mut buffer = lent(&buffer0);
         let rows = reader_rows(random, &model);
         let row = lent(&any_row(random, &rows));
-        let (index, call) = (random.below(11) as u8, if random.chance(60) { 6 } else { random.below(6) });
+        let (index, call) = (random.below(11) as u8, drawn_call(random, &model));
         let wake = if random.chance(70) { random.uid() } else { random.bytes(7) };
         let uid = lent(&wake);
 
-        let (s, n) = (state.as_mut_ptr(), if short { random.below(STATE) } else { STATE });
+        let (s, n) = if short { (cut.as_mut_ptr(), cut.len()) } else { (state.as_mut_ptr(), STATE) };
         let (o, k) = (out.as_mut_ptr(), out.len());
         let got = unsafe {
             match call {
@@ -85,13 +103,12 @@ pub fn reader_call(random: &mut Random) {
             5 => next.deselect(),
             _ => next.hear(&row, &message, &mut told),
         };
-        let declined = |r: Refusal| refused(r);
         let (wanted, stays) = if short {
-            (declined(refusal::ROOM), true)
+            (refused(refusal::ROOM), true)
         } else if answer == Answer::Refused(refusal::NOT_DUE) {
-            (declined(refusal::NOT_DUE), true)
+            (refused(refusal::NOT_DUE), true)
         } else if out_length < ROW {
-            (declined(refusal::ROOM), true)
+            (refused(refusal::ROOM), true)
         } else {
             match answer.clone() {
                 Answer::Send(row) => (wants(row, 0, 0), false),
@@ -115,6 +132,7 @@ pub fn reader_call(random: &mut Random) {
             model = next;
         }
         assert_eq!(buffer[..], told[..], "reader call {call}: buffer");
+        assert_eq!(cut[..], before[..cut.len()], "reader call {call}: too short a state was written");
         let kept = reader_bytes(&model, &known.uid, known.sak, random);
         hold(&format!("reader call {call} in {}", model.phase_name()), got, &wanted, &before, &state, stays, &kept, &out0, &out);
         if matches!(answer, Answer::Found { .. } | Answer::Selected { .. }) && !stays {

@@ -21,13 +21,24 @@ pub fn any_row(random: &mut Random, likely: &[Row]) -> Row {
             let n = random.pick(&[1, 1, 2, 3, 5, 14, 30]);
             let mut bytes = random.bytes(n);
             bytes[0] = random.pick(&[0x02, 0x03, 0x12, 0x13, 0xA2, 0xA3, 0xB2, 0xB3, 0xC2, 0xF2, 0x08, 0x50, 0xE0, 0x20, 0x04]);
-            frames::standard_with_crc(&bytes)
+            if random.chance(80) {
+                frames::standard_with_crc(&bytes)
+            } else {
+                frames::standard(&[bytes, random.bytes(2)].concat())
+            }
         }
         _ => random.pick(likely),
     };
     if random.chance(15) && !row.is_empty() {
         let at = random.below(row.len());
         row[at] = random.pick(&[0, 1, 2, 255]);
+    }
+    if random.chance(4) && row.len() >= 9 {
+        // A bit and the parity of its byte: what is left to notice it is CRC_A.
+        let byte = random.below(row.len() / 9);
+        for at in [9 * byte + random.below(8), 9 * byte + 8] {
+            row[at] = if row[at] == 0 { 1 } else { 0 };
+        }
     }
     if random.chance(4) && !row.is_empty() {
         row.pop();

@@ -13,7 +13,8 @@ pub fn sweep_call(random: &mut Random) {
     let remember = random.chance(50);
     let (mut model, before) = new_reader(random);
     let (mut state, mut row) = (lent(&before), lent(&field.row));
-    let (log_room, list_room) = (random.pick(&[sweep::LOG_ROOM, sweep::LOG_ROOM + 5, sweep::LOG_ROOM, sweep::LOG_ROOM - 1]), random.pick(&[352, 352, 400, 351]));
+    let log_room = sweep::LOG_ROOM - 1 + random.pick(&[1, 1, 1, 1, 1, 1, 1, 6, 0]);
+    let list_room = sweep::LIST_ROOM - 1 + random.pick(&[1, 1, 1, 1, 1, 1, 1, 49, 0]);
     let (log0, list0) = (vec![0xA5; log_room], vec![0x5A; list_room]);
     let (mut log, mut list) = (lent(&log0), lent(&list0));
     let tick = random.word();
