@@ -6,13 +6,12 @@ use mathlib.Core.List.{List, [], _∷_, _++_, append-assoc, append-nil}
 use Prim.Native.Nat.{ℕ, zero, suc, _+_, _-_, _*_, _≤_}
 use native.Mathlib.Numerals.{add-one}
 use native.Mathlib.Omega.{arith}
-use lib.ListN.{length, take, drop, getD, replicate, length-append}
+use lib.ListN.{length, take, drop, getD, length-append}
 use lib.Seq.{length-take-le}
 use lib.Dec.{eqb, ltb}
 use Rattle.rows.specs.Rows.{overlay, All, isNil, clean}
-use Rattle.rows.specs.ListLaws.{all-append}
 use Rattle.frame.specs.ByteLaws.{length-bytes}
-use Rattle.frame.specs.Frame.{bytesOf, Verdict, Good, Fault}
+use Rattle.frame.specs.Frame.{bytesOf, Good, Fault}
 use Rattle.crc.specs.CrcOf.{crcGoodB}
 use Rattle.frame_b.specs.FrameB.{withoutCrcB}
 use Rattle.selection_b.specs.HeardB.{nobody, alone, slotOf, readSlot, heldNumber, entry}

@@ -1,35 +1,21 @@
--- Laws of a row of Type B cards: the laws of any row of states (crate kept), of cards with their slot numbers; and how a request ends. Assumes nothing.
-use mathlib.Core.Path.{_≡_, refl, sym, ap, _∙_}
-use mathlib.Core.Bool.{Bool, true, false, cond, _||_, false≢true}
-use mathlib.Core.List.{List, [], _∷_, _++_, map}
-use Prim.Native.Nat.{ℕ, zero, suc, _+_, _-_, _*_, _<_, _≤_, min}
+-- Laws of a row of Type B cards: the laws of any row of states (crate kept), of cards with their slot numbers; and the ATQB that a list has
+-- of its last slot. Assumes nothing.
+use mathlib.Core.Path.{_≡_, sym, _∙_}
+use mathlib.Core.Bool.{true, false, false≢true}
+use mathlib.Core.List.{List, _++_, map}
+use Prim.Native.Nat.{ℕ, _+_, _-_, _*_, _<_, _≤_, min}
 use native.Mathlib.Omega.{arith}
 use lib.ListN.{length, take, drop, getD, set, replicate}
-use lib.Dec.{ltb}
 use borrow.Author.Tests.{eq-eqb, ne-eqb, lt-ltb, le-ltb}
 use Rattle.rows.specs.Rows.{overlay, All}
-use Rattle.refusal.specs.declared.Refusal.{Refusal}
-use Rattle.card_b.specs.declared.CardB.{CardB}
-use Rattle.selection_b.specs.HeardB.{readSlot}
-use Rattle.selection_b.specs.declared.Held.{Held}
-use Rattle.selection_b.specs.declared.SlotSays.{SlotSays}
-use Rattle.selection_b.specs.declared.SlotSays.the-variants.{Holds, NotSlot}
-use Rattle.reader_b.specs.ReaderB.{reader, blank, held, slotTurn, hearIn, hear}
-use Rattle.reader_b.specs.declared.AnswerB.{AnswerB}
-use Rattle.reader_b.specs.declared.AnswerB.the-variants.{Sends, Marks, Ends, Attached, Halted, Declines}
-use Rattle.reader_b.specs.declared.PhaseB.{PhaseB}
-use Rattle.reader_b.specs.declared.PhaseB.the-variants.{Ready, Slot, AttribSent, HltbSent, Stopped}
 use Rattle.reader_b.specs.declared.ReaderB.{ReaderB}
-use Rattle.reader_b.specs.declared.TurnB.{TurnB}
-use Rattle.field_b.specs.FieldB.{allTake, heardFrom}
 use Rattle.field_b.specs.declared.Drawn.{Drawn}
-use Rattle.slots_rules.specs.RunB.{Out, before, ended, follow, outFrame, run, inquiry}
 use Rattle.slots.specs.declared.Inquired.{Inquired}
 use Rattle.kept.specs.Kept.{bytesAt}
 use Rattle.kept.specs.StatesLaws as states
-use Rattle.kept_b.specs.KeptCardB.{cardBytes, cardIn, Fits}
+use Rattle.kept_b.specs.KeptCardB.{cardIn, Fits}
 use Rattle.kept_b.specs.KeptCardBLaws.{card-back, card-length}
-use Rattle.kept_b.specs.KeptReaderB.{answerRefuses, stays}
+use Rattle.kept_b.specs.KeptReaderB.{stays}
 use Rattle.kept_slots.specs.KeptSlots.{drawnAt, readAt, drawnIn, noCard, fieldIn, cardsIn, cardOf, drawnBytes, cardsLeft, lastAtqb, turnBy, rowLeft, Says}
 
 -- ---- the cards that a row of states says

@@ -2,23 +2,11 @@
 pub mod within;
 
 ghost use mathlib.Core.Path.{_≡_};
-ghost use Prim.Native.Nat.{min};
-ghost use Rattle.limits.specs.Limits.{mostCards};
 ghost use Rattle.kept_slots.specs.KeptSlots.{lastAtqb, inquiredTurn, inquiredNumber, drawnAt};
 use field_b::Drawn;
 use reader_b::AnswerB;
 use reader_b::ReaderB;
 use reader_b::TurnB;
-
-// So many cards as a request's array holds.
-fn few(n: usize) -> usize
-    ensures { λ m. ⌜ m ≡ min n mostCards ⌝ }
-{
-    if n < limits::MOST_CARDS {
-        return n;
-    }
-    limits::MOST_CARDS
-}
 
 // The card that a state says, with its slot number.
 fn drawn_of(number: u8, b: &[u8]) -> Drawn

@@ -19,7 +19,7 @@ pub fn cards_of(numbers: &[u8], b: &[u8]) -> [Drawn; MOST_CARDS]
 {
     let none = crate::drawn_of(0, &b[..0]);
     let mut cards = [none; MOST_CARDS];
-    let m = crate::few(numbers.len());
+    let m = kept::few(numbers.len());
     for i in 0..m {
         let d = crate::drawn_of(numbers[i], &b[kept::STATE_SIZE * i..]);
         cards[i] = d;
@@ -34,7 +34,7 @@ pub fn put_cards(cards: [Drawn; MOST_CARDS], n: usize, b: &mut [u8])
     ensures { λ _. ⌜ cardsIn (length (take n cards)) (now (b .exit)) ≡ map cardOf (take n cards) ⌝ }
     ensures { λ _. ⌜ length cards ≡ mostCards ⌝ }
 {
-    let m = crate::few(n);
+    let m = kept::few(n);
     for i in 0..m {
         let d = cards[i];
         let c = d.card;

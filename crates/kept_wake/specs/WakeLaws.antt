@@ -12,7 +12,7 @@ use Rattle.uid.specs.declared.Uid.{Uid}
 use Rattle.card.specs.declared.Card.{Card}
 use Rattle.reader.specs.declared.Turn.{Turn}
 use Rattle.sweep_rules.specs.Run.{Out}
-use Rattle.wake_rules.specs.Claim.{Wakes, Chosen, Absent}
+use Rattle.wake_rules.specs.Claim.{Wakes, Absent}
 use Rattle.wake.specs.declared.Woken.{Woken}
 use Rattle.kept_reader.specs.KeptReader.{selectionNumber, selectionRefuses}
 use Rattle.kept_field.specs.KeptField.{cardsIn, cardsLeft}

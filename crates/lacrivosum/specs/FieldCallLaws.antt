@@ -2,8 +2,7 @@
 use mathlib.Core.Path.{_≡_, refl, sym, ap, _∙_}
 use mathlib.Core.Bool.{Bool, true, false, cond, not, _||_, false≢true}
 use mathlib.Core.List.{List, _++_}
-use Prim.Native.Nat.{ℕ, _+_, _-_, _*_, _/_, _<_, _≤_}
-use native.Mathlib.Omega.{arith}
+use Prim.Native.Nat.{ℕ, _+_, _-_, _/_, _<_, _≤_}
 use lib.ListN.{length, take, drop}
 use lib.Dec.{ltb}
 use borrow.Author.Tests.{lt-ltb, le-ltb, ltb-false, not-false}
@@ -15,7 +14,6 @@ use Rattle.reader.specs.declared.Phase.the-variants.{Finished}
 use Rattle.reader.specs.declared.Answer.the-variants.{Finishes}
 use Rattle.reader.specs.declared.Reader.{Reader}
 use Rattle.reader.specs.declared.Turn.{Turn}
-use Rattle.log.specs.Log.{logBytes, listBytes}
 use Rattle.sweep_rules.specs.Demand.{Demand3}
 use Rattle.sweep_rules.specs.Run.{Out, sweep}
 use Rattle.sweep_rules.specs.Terms.{within}
@@ -29,8 +27,8 @@ use Rattle.memory_sweep.specs.Recalled.{recallOf}
 use Rattle.memory_sweep.specs.Promise.{Recalls}
 use Rattle.kept.specs.Kept as kept
 use Rattle.kept.specs.StatesLaws.{array-parts}
-use Rattle.kept_reader.specs.KeptReader.{selectionOf, linkOf, selectionRefuses}
-use Rattle.kept_field.specs.KeptField.{startIn, cardsIn, fieldIn, sweptIn, sweptKept, sweptNumber, stateLeft, rowLeft, Says}
+use Rattle.kept_reader.specs.KeptReader.{linkOf, selectionRefuses}
+use Rattle.kept_field.specs.KeptField.{startIn, cardsIn, fieldIn, sweptKept, sweptNumber, stateLeft, rowLeft, Says}
 use Rattle.kept_field.specs.FieldLaws.{field-front, length-field}
 use Rattle.lacrivosum.specs.Field.{FieldDone, fieldDone, noField, sweepDone, Unchanged, FieldTerms, FieldSays}
 

@@ -1,10 +1,10 @@
 -- What a request by value gives, said of the lent bytes. Assumes nothing.
 use mathlib.Core.Path.{_≡_, refl, sym, ap, _∙_}
-use mathlib.Core.Bool.{Bool, true, false, false≢true}
-use mathlib.Core.List.{List, [], _∷_, _++_, map}
+use mathlib.Core.Bool.{Bool, true, false}
+use mathlib.Core.List.{List, map}
 use Prim.Native.Nat.{ℕ, zero, suc, _/_, _<_, _≤_}
 use native.Mathlib.Omega.{arith}
-use lib.ListN.{length, take, drop, length-map}
+use lib.ListN.{length, length-map}
 use borrow.Author.Tests.{lt-ltb, le-ltb}
 use Rattle.refusal.specs.declared.Refusal.{Refusal}
 use Rattle.refusal.specs.declared.Refusal.the-variants.{Room}
@@ -12,12 +12,10 @@ use Rattle.rows.specs.ListLaws.{same-refl}
 use Rattle.selection_b.specs.SlotsLaws.{slots-least, slots-most}
 use Rattle.selection_b.specs.TypeB.{isSlots}
 use Rattle.reader_b.specs.ReaderB.{isReady, opens}
-use Rattle.reader_b.specs.declared.PhaseB.the-variants.{Ready, Stopped}
 use Rattle.reader_b.specs.declared.ReaderB.{ReaderB}
-use Rattle.reader_b.specs.declared.TurnB.{TurnB}
 use Rattle.field_b.specs.declared.Drawn.{Drawn}
 use Rattle.slots_rules.specs.Claim.{Claim, slotsFrom}
-use Rattle.slots_rules.specs.RunB.{Out, inquiry, listBytes}
+use Rattle.slots_rules.specs.RunB.{Out, inquiry}
 use Rattle.slots.specs.Inquiry as by-value
 use Rattle.slots.specs.Promise.{Terms, Inquires}
 use Rattle.slots.specs.declared.Inquired.{Inquired}

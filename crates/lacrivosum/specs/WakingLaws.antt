@@ -1,15 +1,13 @@
 -- What waking a card by value gives, said of the lent bytes. Assumes nothing.
 use mathlib.Core.Path.{_≡_, refl, sym, ap, _∙_}
 use mathlib.Core.Bool.{Bool, true, false, false≢true}
-use mathlib.Core.List.{List, _++_}
+use mathlib.Core.List.{List}
 use Prim.Native.Nat.{ℕ, _/_, _<_, _≤_}
-use lib.ListN.{length, take, drop}
+use lib.ListN.{length}
 use borrow.Author.Tests.{lt-ltb, le-ltb}
 use Rattle.rows.specs.ListLaws.{both}
-use Rattle.limits.specs.Limits.{mostCards}
-use Rattle.refusal.specs.declared.Refusal.{Refusal}
 use Rattle.refusal.specs.declared.Refusal.the-variants.{Room}
-use Rattle.uid.specs.Calls.{newUid, validBytes}
+use Rattle.uid.specs.Calls.{newUid}
 use Rattle.uid.specs.declared.Uid.{Uid}
 use Rattle.card.specs.declared.Card.{Card}
 use Rattle.reader.specs.Reader.{isNew, blank}

@@ -1,6 +1,5 @@
 -- `kept_slots::last_atqb` meets its contract, by the laws `last-none`, `last-many` and `last-some`. Assumes nothing.
 use mathlib.Core.Path.{_∙_}
-use denote.Ref.{now}
 use Rattle.kept_slots.specs.SlotsLaws.{last-none, last-many, last-some}
 use borrow.Author.Needs.{needs}
 use Rattle.kept_slots.proofs.last_atqb.Statement.{statement}

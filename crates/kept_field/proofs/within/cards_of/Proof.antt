@@ -1,6 +1,6 @@
 -- `kept_field::within::cards_of` meets its contract. The loop's invariant: the cards before i are decoded, those from i on are of zeros. Assumes nothing.
 use Prim.Native.Nat.{_≤_, _-_, _*_}
-use mathlib.Core.Path.{_≡_, refl, ap, _∙_}
+use mathlib.Core.Path.{_≡_, ap, _∙_}
 use mathlib.Core.List.{_++_}
 use native.Mathlib.Omega.{arith}
 use denote.Ref.{now}

@@ -1,5 +1,5 @@
 -- `kept_slots::within::put_cards` meets its contract. The loop's invariant: the cards before i are written. Assumes nothing.
-use Prim.Native.Nat.{_≤_, _-_, _*_}
+use Prim.Native.Nat.{_≤_, _-_}
 use mathlib.Core.Path.{_≡_, refl, _∙_}
 use native.Mathlib.Omega.{arith}
 use denote.Ref.{now}

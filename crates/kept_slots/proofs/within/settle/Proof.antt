@@ -1,7 +1,6 @@
 -- `kept_slots::within::settle` meets its contract, by the laws `row-stays` and `row-kept`. Assumes nothing.
 use mathlib.Core.Path.{sym, ap, _∙_}
 use denote.Ref.{now}
-use Rattle.reader_b.specs.declared.TurnB.{TurnB}
 use Rattle.kept_b.specs.KeptReaderB.{stays}
 use Rattle.kept_slots.specs.SlotsLaws.{row-stays, row-kept}
 use borrow.Author.Needs.{needs}

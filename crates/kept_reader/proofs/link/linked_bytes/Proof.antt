@@ -1,9 +1,9 @@
--- `kept_reader::linked_bytes` meets its contract, field by field. Assumes nothing.
+-- `kept_reader::link::linked_bytes` meets its contract, field by field. Assumes nothing.
 use Rattle.kept_reader.specs.KeptReader.{linkedBytes}
 use Rattle.kept.specs.Kept.{word}
 use borrow.Author.Needs.{needs}
-use Rattle.kept_reader.proofs.linked_bytes.Statement.{statement}
-use Rattle.kept_reader.proofs.linked_bytes.Tie as tie
+use Rattle.kept_reader.proofs.link.linked_bytes.Statement.{statement}
+use Rattle.kept_reader.proofs.link.linked_bytes.Tie as tie
 
 flag-requires : tie.Need-flag-requires
 flag-requires c κs = search needs

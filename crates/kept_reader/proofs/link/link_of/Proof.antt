@@ -1,8 +1,8 @@
--- `kept_reader::link_of` meets its contract, by those of its parts. Assumes nothing.
+-- `kept_reader::link::link_of` meets its contract, by those of its parts. Assumes nothing.
 use Rattle.kept_reader.specs.KeptReader.{linkOf}
 use borrow.Author.Needs.{needs}
-use Rattle.kept_reader.proofs.link_of.Statement.{statement}
-use Rattle.kept_reader.proofs.link_of.Tie as tie
+use Rattle.kept_reader.proofs.link.link_of.Statement.{statement}
+use Rattle.kept_reader.proofs.link.link_of.Tie as tie
 
 at-requires : tie.Need-at-requires
 at-requires c κs = search needs

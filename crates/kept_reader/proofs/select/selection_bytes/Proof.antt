@@ -1,9 +1,9 @@
--- `kept_reader::selection_bytes` meets its contract, field by field. Assumes nothing.
+-- `kept_reader::select::selection_bytes` meets its contract, field by field. Assumes nothing.
 use Rattle.kept_reader.specs.KeptReader.{selectionBytes}
 use Rattle.kept.specs.Kept.{bytesAt}
 use borrow.Author.Needs.{needs}
-use Rattle.kept_reader.proofs.selection_bytes.Statement.{statement}
-use Rattle.kept_reader.proofs.selection_bytes.Tie as tie
+use Rattle.kept_reader.proofs.select.selection_bytes.Statement.{statement}
+use Rattle.kept_reader.proofs.select.selection_bytes.Tie as tie
 
 phase-tag-requires : tie.Need-phase-tag-requires
 phase-tag-requires c κs = search needs

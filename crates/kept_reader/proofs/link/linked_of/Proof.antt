@@ -1,8 +1,8 @@
--- `kept_reader::linked_of` meets its contract, field by field. Assumes nothing.
+-- `kept_reader::link::linked_of` meets its contract, field by field. Assumes nothing.
 use Rattle.kept_reader.specs.KeptReader.{linkedOf}
 use borrow.Author.Needs.{needs}
-use Rattle.kept_reader.proofs.linked_of.Statement.{statement}
-use Rattle.kept_reader.proofs.linked_of.Tie as tie
+use Rattle.kept_reader.proofs.link.linked_of.Statement.{statement}
+use Rattle.kept_reader.proofs.link.linked_of.Tie as tie
 
 at-requires : tie.Need-at-requires
 at-requires c κs = search needs

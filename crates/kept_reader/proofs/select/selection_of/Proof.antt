@@ -1,8 +1,8 @@
--- `kept_reader::selection_of` meets its contract, field by field. Assumes nothing.
+-- `kept_reader::select::selection_of` meets its contract, field by field. Assumes nothing.
 use Rattle.kept_reader.specs.KeptReader.{selectionOf}
 use borrow.Author.Needs.{needs}
-use Rattle.kept_reader.proofs.selection_of.Statement.{statement}
-use Rattle.kept_reader.proofs.selection_of.Tie as tie
+use Rattle.kept_reader.proofs.select.selection_of.Statement.{statement}
+use Rattle.kept_reader.proofs.select.selection_of.Tie as tie
 
 at-requires : tie.Need-at-requires
 at-requires c κs = search needs

@@ -1,8 +1,8 @@
--- `kept_reader::phase_of` meets its contract, number by number. Assumes nothing.
+-- `kept_reader::select::phase_of` meets its contract, number by number. Assumes nothing.
 use borrow.Author.Needs.{needs}
 use borrow.Author.Tests.{eq-eqb, ne-eqb}
-use Rattle.kept_reader.proofs.phase_of.Statement.{statement}
-use Rattle.kept_reader.proofs.phase_of.Tie as tie
+use Rattle.kept_reader.proofs.select.phase_of.Statement.{statement}
+use Rattle.kept_reader.proofs.select.phase_of.Tie as tie
 
 level-of-requires : tie.Need-level-of-requires
 level-of-requires c κs = search needs

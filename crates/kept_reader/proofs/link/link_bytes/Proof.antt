@@ -1,7 +1,7 @@
--- `kept_reader::link_bytes` meets its contract, case by case. Assumes nothing.
+-- `kept_reader::link::link_bytes` meets its contract, case by case. Assumes nothing.
 use borrow.Author.Needs.{needs}
-use Rattle.kept_reader.proofs.link_bytes.Statement.{statement}
-use Rattle.kept_reader.proofs.link_bytes.Tie as tie
+use Rattle.kept_reader.proofs.link.link_bytes.Statement.{statement}
+use Rattle.kept_reader.proofs.link.link_bytes.Tie as tie
 
 enum-told : tie.Need-enum-told
 enum-told c = search needs
