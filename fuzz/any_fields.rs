@@ -65,8 +65,8 @@ pub fn any_sweep(random: &mut Random) {
     let (log0, list0) = (bytes_of(random, &[40_960, 40_960, 40_960, 40_960, 40_961, 40_959]), bytes_of(random, &[352, 352, 352, 352, 353, 351]));
     let (mut state, mut row, mut log, mut list) = (lent(&before), lent(&cards), lent(&log0), lent(&list0));
     let call = if random.chance(50) { lac_sweep_remember } else { lac_sweep };
-    #[rustfmt::skip]
-    let got = unsafe { call(state.as_mut_ptr(), state.len(), row.as_mut_ptr(), row.len(), n, random.word(), log.as_mut_ptr(), log.len(), list.as_mut_ptr(), list.len()) };
+    let (s, c) = ((state.as_mut_ptr(), state.len()), (row.as_mut_ptr(), row.len()));
+    let got = unsafe { call(s.0, s.1, c.0, c.1, n, random.word(), log.as_mut_ptr(), log.len(), list.as_mut_ptr(), list.len()) };
     tally::note(got);
     assert!([-1, -6, -11].contains(&got) || (0..=n as i64).contains(&got), "a sweep of {n} gave {got}");
     if got < 0 {
@@ -81,14 +81,15 @@ pub fn any_sweep(random: &mut Random) {
 }
 
 pub fn any_b_inquiry(random: &mut Random) {
-    let (n, slots, wake, afi) = (random.pick(&[0, 1, 1, 2, 2, 3, 5, 32, 33, 40]), random.pick(&[1, 2, 4, 8, 16, 16, 3]), random.byte(), random.pick(&[0, 1, 0x10]));
+    let n = random.pick(&[0, 1, 1, 2, 2, 3, 5, 32, 33, 40]);
+    let (slots, wake, afi) = (random.pick(&[1, 2, 4, 8, 16, 16, 3]), random.byte(), random.pick(&[0, 1, 0x10]));
     let (before, cards) = (any_reader(random), any_row(random, n, [1, 5]));
     let room = if random.chance(85) { 208 + random.below(9) } else { random.below(208) };
     let list0 = random.bytes(room);
     let numbers = lent(&(0..n).map(|_| if random.chance(98) { 1 + random.below(slots as usize) as u8 } else { random.byte() }).collect::<Vec<u8>>());
     let (mut state, mut row, mut list) = (lent(&before), lent(&cards), lent(&list0));
-    #[rustfmt::skip]
-    let got = unsafe { lac_b_inquire(state.as_mut_ptr(), state.len(), wake, slots, afi, row.as_mut_ptr(), row.len(), numbers.as_ptr(), n, list.as_mut_ptr(), list.len()) };
+    let (s, c) = ((state.as_mut_ptr(), state.len()), (row.as_mut_ptr(), row.len()));
+    let got = unsafe { lac_b_inquire(s.0, s.1, wake, slots, afi, c.0, c.1, numbers.as_ptr(), n, list.as_mut_ptr(), list.len()) };
     tally::note(got);
     assert!([-1, -6, -11, slots as i64].contains(&got), "a request of {slots} slots over {n} gave {got}");
     if got < 0 {

@@ -164,7 +164,7 @@ fn field_takes(random: &mut Random, field: &mut [(Card, Box<[u8]>)], frame: &Row
         hold_b_card("Type B card", card, &before, state);
     }
     let mut heard = frames::merge(&rows);
-    match random.below(50) {
+    match random.below(30) {
         0 => heard = type_b::with_crc(&bytes_of(random, &[1, 11, 12, 13])),
         1 => heard = type_b::with_crc(&[random.byte() & 0xF0]),
         2..=4 if !heard.is_empty() => {

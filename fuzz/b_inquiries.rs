@@ -76,12 +76,12 @@ pub fn inquiry(random: &mut Random) {
     let (wake, afi) = (random.pick(&[0, 0, 1, 2, 255]), random.pick(&[0, 0, 0, 0x10, 0x11, 0x01, 0x20]));
     let (mut model, before) = ready_reader(random);
     let row0 = row_of(&cards, random);
-    let room = random.pick(&[LIST_ROOM, LIST_ROOM, LIST_ROOM, LIST_ROOM, LIST_ROOM, LIST_ROOM, LIST_ROOM + 1, 300, LIST_ROOM - 1, 13 * cards.len()]);
+    let room = if random.chance(75) { LIST_ROOM } else { random.pick(&[LIST_ROOM + 1, 300, LIST_ROOM - 1, 13 * cards.len()]) };
     let list0 = random.bytes(room);
     let (mut state, mut row, mut list) = (lent(&before), lent(&row0), lent(&list0));
     let numbers = lent(&cards.iter().map(|card| card.number).collect::<Vec<u8>>());
-    #[rustfmt::skip]
-    let got = unsafe { lac_b_inquire(state.as_mut_ptr(), state.len(), wake, slots, afi, row.as_mut_ptr(), row.len(), numbers.as_ptr(), numbers.len(), list.as_mut_ptr(), list.len()) };
+    let (s, c, m) = ((state.as_mut_ptr(), state.len()), (row.as_mut_ptr(), row.len()), (numbers.as_ptr(), numbers.len()));
+    let got = unsafe { lac_b_inquire(s.0, s.1, wake, slots, afi, c.0, c.1, m.0, m.1, list.as_mut_ptr(), list.len()) };
     tally::note(got);
 
     let (mut after, mut told) = (cards.clone(), list0.clone());

@@ -7,7 +7,7 @@ use crate::frames::{self, Row};
 use crate::hold::{hold, refused, wants};
 use crate::random::Random;
 use crate::refusal;
-use crate::rows::{any_row, likely_rows};
+use crate::rows::{any_row, bytes_of, likely_rows};
 use crate::states::{KEPT, ROW, STATE};
 use crate::tally;
 use crate::uid;
@@ -118,13 +118,14 @@ pub fn card_call(random: &mut Random) {
 }
 
 pub fn new_card(random: &mut Random) {
-    let uid = if random.chance(70) { random.uid() } else { let n = random.below(12); random.bytes(n) };
-    let (lent_uid, blocks, index) = (lent(&uid), random.below(2) as u8, random.below(11) as u8);
-    let before = random.bytes(STATE);
+    let uid = if random.chance(70) { random.uid() } else { bytes_of(random, &[0, 1, 3, 4, 5, 7, 8, 10, 11]) };
+    let (lent_uid, blocks, index) = (lent(&uid), random.pick(&[0, 1, 1, 2, 255]), random.below(11) as u8);
+    let before = bytes_of(random, &[STATE, STATE, STATE, STATE, STATE + 1, STATE - 1]);
     let mut state = lent(&before);
-    let got = unsafe { lac_card_new(state.as_mut_ptr(), STATE, lent_uid.as_ptr(), lent_uid.len(), blocks, index) };
+    let got = unsafe { lac_card_new(state.as_mut_ptr(), state.len(), lent_uid.as_ptr(), lent_uid.len(), blocks, index) };
     tally::note(got);
-    match Card::new(&uid, blocks != 0, index) {
+    let made = if before.len() < STATE { Err(refusal::ROOM) } else { Card::new(&uid, blocks != 0, index) };
+    match made {
         Err(r) => {
             assert_eq!((got, &state[..]), (-(r.number as i64), &before[..]));
         }

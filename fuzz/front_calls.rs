@@ -46,6 +46,7 @@ fn drawn(random: &mut Random) -> Drawn {
     let gate = if random.chance(92) { random.pick(&[1, 2]) } else { random.pick(&[0, 0, 3, 4, 255]) };
     let (mut floor, mut peak) = (if random.chance(60) { 0 } else { energy(random) }, energy(random));
     let mut value = match gate {
+        0 if random.chance(50) => random.pick(&NONE),
         2 if random.chance(90) => 0x3F80_0000 - random.pick(&[0, 1, 0x80_0000, 0x100_0000, 0x60_0000, 0x2000_0000]),
         _ => energy(random),
     };

@@ -73,7 +73,8 @@ pub fn memory_calls(random: &mut Random) {
             Answer::Refused(r) => (refused(r), next == model),
             other => panic!("a sweep gives no {other:?}"),
         };
-        assert_eq!((got, &out[..wanted.row.len()], &out[wanted.row.len()..]), (wanted.number, &wanted.row[..], &out0[wanted.row.len()..]), "the reader that remembers");
+        let sent = wanted.row.len();
+        assert_eq!((got, &out[..sent], &out[sent..]), (wanted.number, &wanted.row[..], &out0[sent..]), "the reader that remembers");
         if stays {
             assert!(state[..] == before[..] && cut[..] == before[..cut.len()], "a refused call wrote");
             continue;

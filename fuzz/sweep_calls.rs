@@ -19,8 +19,8 @@ pub fn sweep_call(random: &mut Random) {
     let (mut log, mut list) = (lent(&log0), lent(&list0));
     let tick = random.word();
     let call = if remember { lac_sweep_remember } else { lac_sweep };
-    #[rustfmt::skip]
-    let got = unsafe { call(state.as_mut_ptr(), state.len(), row.as_mut_ptr(), row.len(), field.n, tick, log.as_mut_ptr(), log.len(), list.as_mut_ptr(), list.len()) };
+    let (s, c) = ((state.as_mut_ptr(), state.len()), (row.as_mut_ptr(), row.len()));
+    let got = unsafe { call(s.0, s.1, c.0, c.1, field.n, tick, log.as_mut_ptr(), log.len(), list.as_mut_ptr(), list.len()) };
     tally::note(got);
 
     let mut cards = field.cards.clone();
