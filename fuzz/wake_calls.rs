@@ -3,9 +3,9 @@ use crate::c::*;
 use crate::card::Card;
 use crate::field::Field;
 use crate::random::Random;
-use crate::reader::Reader;
+use crate::reader::{Answer, Reader};
 use crate::refusal;
-use crate::states::{link_bytes, put, random_link, random_reader, reader_bytes, Known, KEPT, STATE};
+use crate::states::{link_bytes, put, random_link, random_reader, reader_bytes, Known, KEPT, ROW, STATE};
 use crate::sweep;
 use crate::tally;
 use crate::uid;
@@ -85,6 +85,12 @@ pub fn wake_call(random: &mut Random) {
     put(&mut after, 0, &reader_bytes(&model, &wanted_uid, sak, random)[..21]);
     put(&mut after, KEPT, &[if got < 0 { 0 } else { 2 }, 0, 0, 0, 0, 0, 0, 0, 0]);
     assert_eq!(state[..], after[..], "{what}: the reader");
+    // RATS is due then to a card that speaks blocks, and to no other.
+    if after[21..KEPT].iter().all(|&b| b == 0) {
+        let (mut next, mut out) = (lent(&state), lent(&[7; ROW]));
+        let sent = unsafe { lac_reader_rats(next.as_mut_ptr(), next.len(), 8, out.as_mut_ptr(), ROW) };
+        assert_eq!(sent, if let Answer::Send(row) = model.rats(8) { row.len() as i64 } else { -11 }, "{what}: RATS");
+    }
     if got < 0 {
         return;
     }
