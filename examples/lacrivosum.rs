@@ -1,6 +1,8 @@
-//! The library for C as safe Rust: a reader, a card, frames and both sweeps, each state in a value of its own. Nothing here can be called with memory
+//! The library for C as safe Rust: a reader, a card, frames, both sweeps and one card woken, each state in a value of its own; `type_b` has Type B. Nothing here can be called with memory
 //! that is not lent, and every answer is one of the kinds named here. What the functions do is said in include/lacrivosum.h.
 #![allow(dead_code)]
+
+pub mod type_b;
 
 pub const STATE_SIZE: usize = 64;
 pub const ROW_SIZE: usize = 2304;
@@ -37,6 +39,21 @@ mod c {
         pub fn lac_sweep(state: *mut u8, n: usize, cards: *mut u8, c: usize, count: usize, tick: u32, log: *mut u8, l: usize, list: *mut u8, u: usize) -> i64;
         #[rustfmt::skip]
         pub fn lac_sweep_remember(state: *mut u8, n: usize, cards: *mut u8, c: usize, count: usize, tick: u32, log: *mut u8, l: usize, list: *mut u8, u: usize) -> i64;
+        pub fn lac_wake(state: *mut u8, n: usize, uid: *const u8, u: usize, cards: *mut u8, c: usize, count: usize) -> i64;
+        pub fn lac_b_reader_request(state: *mut u8, n: usize, wake: u8, slots: u8, afi: u8, out: *mut u8, k: usize) -> i64;
+        pub fn lac_b_reader_attach(state: *mut u8, n: usize, atqb: *const u8, a: usize, index: u8, out: *mut u8, k: usize) -> i64;
+        pub fn lac_b_reader_halt(state: *mut u8, n: usize, pupi: *const u8, p: usize, out: *mut u8, k: usize) -> i64;
+        pub fn lac_b_reader_hear(state: *mut u8, n: usize, row: *const u8, r: usize, out: *mut u8, k: usize) -> i64;
+        pub fn lac_b_held(state: *const u8, n: usize) -> u8;
+        pub fn lac_b_atqb(state: *const u8, n: usize, out: *mut u8, k: usize) -> i64;
+        #[rustfmt::skip]
+        pub fn lac_b_card_new(state: *mut u8, n: usize, pupi: *const u8, p: usize, afi: u8, markers: u8, application: *const u8, a: usize, protocol: *const u8, q: usize) -> i64;
+        pub fn lac_b_card_power_on(state: *mut u8, n: usize) -> i64;
+        pub fn lac_b_card_power_off(state: *mut u8, n: usize) -> i64;
+        pub fn lac_b_card_take(state: *mut u8, n: usize, number: u8, row: *const u8, r: usize, out: *mut u8, k: usize) -> i64;
+        pub fn lac_b_card_state(state: *const u8, n: usize) -> u8;
+        #[rustfmt::skip]
+        pub fn lac_b_inquire(state: *mut u8, n: usize, wake: u8, slots: u8, afi: u8, cards: *mut u8, c: usize, numbers: *const u8, d: usize, list: *mut u8, l: usize) -> i64;
         pub fn lac_frame_write(bytes: *const u8, n: usize, out: *mut u8, k: usize) -> i64;
         pub fn lac_frame_write_crc(bytes: *const u8, n: usize, out: *mut u8, k: usize) -> i64;
         pub fn lac_frame_read(row: *const u8, n: usize, out: *mut u8, k: usize) -> i64;
@@ -153,8 +170,8 @@ impl Reader {
     pub fn event(&self) -> Event {
         event_in(&self.0)
     }
-    /// The byte that comes with refusal 3.
-    pub fn wrong_byte(&self) -> usize {
+    /// What came with the last answer: the byte of refusal 3, or a sweep's bytes of log.
+    pub fn length(&self) -> usize {
         unsafe { c::lac_length(self.0.as_ptr(), STATE_SIZE) as usize }
     }
     pub fn uid(&self) -> Vec<u8> {
@@ -216,23 +233,36 @@ pub struct Swept {
     pub frames: u64,
 }
 
-/// Sweeps a field of cards, changed in place; with a memory in fewer frames.
-pub fn sweep(cards: &mut [Card], tick: u32, remember: bool) -> Result<Swept, Refusal> {
-    let mut reader = Reader::new();
+/// Makes a call on the states of a field of cards, one behind the other, and gives the cards what it left.
+fn on_field(cards: &mut [Card], call: impl FnOnce(&mut [u8]) -> i64) -> Result<usize, Refusal> {
     let mut bytes: Vec<u8> = cards.iter().flat_map(|k| k.0).collect();
-    let (mut log, mut list) = (vec![0; LOG_ROOM], vec![0; LIST_ROOM]);
-    let call = if remember { c::lac_sweep_remember } else { c::lac_sweep };
-    #[rustfmt::skip]
-    let found = answer(unsafe {
-        call(reader.0.as_mut_ptr(), STATE_SIZE, bytes.as_mut_ptr(), bytes.len(), cards.len(), tick, log.as_mut_ptr(), log.len(), list.as_mut_ptr(), list.len())
-    })?;
+    let n = answer(call(&mut bytes))?;
     for (k, b) in cards.iter_mut().zip(bytes.chunks(STATE_SIZE)) {
         k.0.copy_from_slice(b);
     }
-    log.truncate(reader.wrong_byte());
+    Ok(n)
+}
+
+/// Sweeps a field of cards, changed in place; with a memory in fewer frames.
+pub fn sweep(cards: &mut [Card], tick: u32, remember: bool) -> Result<Swept, Refusal> {
+    let mut reader = Reader::new();
+    let (count, mut log, mut list) = (cards.len(), vec![0; LOG_ROOM], vec![0; LIST_ROOM]);
+    let call = if remember { c::lac_sweep_remember } else { c::lac_sweep };
+    #[rustfmt::skip]
+    let found = on_field(cards, |field| unsafe {
+        call(reader.0.as_mut_ptr(), STATE_SIZE, field.as_mut_ptr(), field.len(), count, tick, log.as_mut_ptr(), log.len(), list.as_mut_ptr(), list.len())
+    })?;
+    log.truncate(reader.length());
     let uids = list.chunks(11).take(found).map(|e| e[1..1 + e[0] as usize].to_vec()).collect();
     let frames = unsafe { c::lac_frames(reader.0.as_ptr(), STATE_SIZE) };
     Ok(Swept { uids, log, frames })
+}
+
+/// Wakes the one card of a field that has this UID: the reader that has selected it, and the frames that it sent. No other card is disturbed.
+pub fn wake(cards: &mut [Card], uid: &[u8]) -> Result<(Reader, usize), Refusal> {
+    let (mut reader, count) = (Reader::new(), cards.len());
+    let frames = on_field(cards, |field| unsafe { c::lac_wake(reader.0.as_mut_ptr(), STATE_SIZE, uid.as_ptr(), uid.len(), field.as_mut_ptr(), field.len(), count) })?;
+    Ok((reader, frames))
 }
 
 /// Bytes as a standard frame, and with CRC_A behind them.

@@ -1,4 +1,5 @@
-/* A field of 16 cards, swept by the plain sweep and by the one that remembers: the same UIDs, in fewer frames. */
+/* A field of 16 cards, swept by the plain sweep and by the one that remembers: the same UIDs, in fewer frames. Then one of the halted cards is woken by
+ * its UID, and no other is disturbed. */
 #include "lacrivosum.h"
 #include <stdio.h>
 #include <string.h>
@@ -51,6 +52,18 @@ static int halted(const uint8_t *cards) {
     return 1;
 }
 
+/* Wakes the card at place i by its UID: it alone is Active* then. */
+static int woken(uint8_t *cards, int i) {
+    uint8_t reader[LAC_STATE_SIZE] = {0}, uid[LAC_UID_SIZE];
+    int64_t n = lac_uid(cards + i * LAC_STATE_SIZE, LAC_STATE_SIZE, uid, sizeof uid);
+    int64_t frames = lac_wake(reader, sizeof reader, uid, (size_t)n, cards, CARDS * LAC_STATE_SIZE, CARDS);
+    int k, good = frames > 0 && lac_event(reader, sizeof reader) == LAC_SELECTED && lac_reader_sak(reader, sizeof reader) == 0x20;
+    for (k = 0; k < CARDS; k++)
+        good = good && lac_card_state(cards + k * LAC_STATE_SIZE, LAC_STATE_SIZE) == (k == i ? LAC_CARD_ACTIVE_STAR : LAC_CARD_HALT);
+    printf("card %d woken in %d frames: %s\n", i, (int)frames, good ? "it is Active*, all others are still halted" : "this is not as it should be");
+    return good;
+}
+
 int main(void) {
     uint8_t a[LAC_STATE_SIZE] = {0}, b[LAC_STATE_SIZE] = {0}; /* two new readers */
     int64_t found;
@@ -64,5 +77,5 @@ int main(void) {
     show(found);
     good = good && memcmp(list[0], list[1], sizeof list[0]) == 0 && memcmp(plain, remembered, sizeof plain) == 0 && halted(plain);
     printf("%s\n", good ? "both found the same UIDs and halted every card" : "this is not as it should be");
-    return !good;
+    return !(woken(plain, 5) && good);
 }

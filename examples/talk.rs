@@ -1,5 +1,7 @@
-//! A reader and a card play against each other: selection, a message of 4,096 bytes each way, a sweep of 16 cards, and damage of every kind.
+//! A reader and a card play against each other: selection, a message of 4,096 bytes each way, a sweep of 16 cards, one of them woken, Type B cards in
+//! their slots, and damage of every kind.
 mod lacrivosum;
+use lacrivosum::type_b::{CardB, Held, ReaderB};
 use lacrivosum::*;
 
 fn hex(bytes: &[u8]) -> String {
@@ -71,6 +73,33 @@ fn sweeps() -> Result<(), Refusal> {
         println!("found {}", hex(u));
     }
     println!("16 cards found and halted: {} frames, with a memory {}; logs of {} and {} bytes", a.frames, b.frames, a.log.len(), b.log.len());
+    let (reader, frames) = wake(&mut plain, &a.uids[9])?;
+    let stand: Vec<&str> = plain.iter().map(Card::state).collect();
+    assert!(reader.event() == Event::Selected && reader.uid() == a.uids[9]);
+    println!("{} woken in {frames} frames: {} of the cards in Active*, {} halted", hex(&reader.uid()), stand.iter().filter(|s| **s == "Active*").count(), stand.iter().filter(|s| **s == "Halt").count());
+    println!("another UID is refused {}", wake(&mut kept, &[1, 2, 3, 4]).err().expect("no card has it"));
+    Ok(())
+}
+
+/// A request with four slots over five Type B cards; those that were alone are attached one after the other.
+fn slots() -> Result<(), Refusal> {
+    let numbers = [4, 2, 1, 2, 3];
+    let mut field: Vec<(CardB, u8)> = numbers.iter().map(|&k| (CardB::new(&[0xB0, 0, k, 16 * k], 0x20, true, &[0; 4], &[0, 0x81, 0]), k)).collect();
+    field[1].0 = CardB::new(&[0xB1, 1, 1, 1], 0x20, true, &[0; 4], &[0, 0x81, 0]);
+    field.iter_mut().for_each(|(card, _)| card.power_on());
+    let mut reader = ReaderB::new();
+    for (i, held) in reader.inquire(false, 4, 0x20, &mut field)?.into_iter().enumerate() {
+        let Held::One(atqb) = held else {
+            println!("slot {}: {held:?}", i + 1);
+            continue;
+        };
+        let frame = reader.attach(&atqb, 8)?;
+        let answers: Result<Vec<Row>, Refusal> = field.iter_mut().map(|(card, number)| card.take(*number, &frame)).collect();
+        let heard = answers?.into_iter().find(|row| !row.is_empty()).unwrap_or_default();
+        reader.hear(&heard)?;
+        println!("slot {}: PUPI {}, {:?}", i + 1, hex(&atqb[1..5]), reader.event());
+    }
+    println!("the cards are {}", field.iter().map(|(card, _)| card.state()).collect::<Vec<_>>().join(", "));
     Ok(())
 }
 
@@ -104,7 +133,7 @@ fn damage() -> Result<(), Refusal> {
             let mut reader = before.clone();
             match reader.hear(&row, &[], &mut buffer) {
                 Ok(next) => println!("{what:8} {kind:28} taken: {} bits go out, {:?}", next.len(), reader.event()),
-                Err(e) if e.0 == 3 => println!("{what:8} {kind:28} refused {e}, byte {}", reader.wrong_byte()),
+                Err(e) if e.0 == 3 => println!("{what:8} {kind:28} refused {e}, byte {}", reader.length()),
                 Err(e) => println!("{what:8} {kind:28} refused {e}"),
             }
         }
@@ -116,7 +145,7 @@ fn damage() -> Result<(), Refusal> {
 }
 
 fn main() {
-    for part in [talk, sweeps, damage] {
+    for part in [talk, sweeps, slots, damage] {
         if let Err(e) = part() {
             println!("refused {e}");
             std::process::exit(1);

@@ -1,14 +1,15 @@
-//! States that the rules can have, drawn at random, and their bytes: a second telling of what stands where in a state.
-use crate::card::{Card, State};
-use crate::card_link::{self, Last, Mode};
+//! States that the rules can have, drawn at random, and their bytes: a second telling of what stands where in a state. Here what all of them share,
+//! and the reader; card_states.rs has the card, b_states.rs Type B.
 use crate::frames::{self, size_of_index};
 use crate::random::Random;
 use crate::reader::{Phase, Reader};
 use crate::reader_link::{Link, Stage};
 use crate::uid;
-use crate::Known;
 
 pub const STATE: usize = 64;
+
+/// The longest row that a call writes.
+pub const ROW: usize = 2304;
 
 /// So many bytes of a state say what the end is; event and length follow.
 pub const KEPT: usize = 45;
@@ -17,29 +18,36 @@ pub fn index_of(size: usize) -> u8 {
     (0..9).find(|&i| size_of_index(i) == size).expect("a size of the table")
 }
 
-fn put(to: &mut [u8], at: usize, bytes: &[u8]) {
+pub fn put(to: &mut [u8], at: usize, bytes: &[u8]) {
     to[at..at + bytes.len()].copy_from_slice(bytes);
 }
 
-fn put_uid(to: &mut [u8], size: u8, bytes: &[u8]) {
+pub fn put_uid(to: &mut [u8], size: u8, bytes: &[u8]) {
     to[9] = size;
     put(to, 10, bytes);
 }
 
 /// A state with anything where nothing is kept: event, length and what lies behind.
-fn blank(random: &mut Random) -> [u8; STATE] {
+pub fn blank(random: &mut Random) -> [u8; STATE] {
     let mut state = [0; STATE];
     put(&mut state, KEPT, &random.bytes(STATE - KEPT));
     state
 }
 
 /// A UID's size, told by its bytes; one that is not complete counts as of four.
-fn size_of(uid: &[u8]) -> u8 {
+pub fn size_of(uid: &[u8]) -> u8 {
     match uid.len() {
         7 => 1,
         10 => 2,
         _ => 0,
     }
+}
+
+/// The UID and SAK that a reader has told last, which the model keeps only while it selects.
+#[derive(Clone, Default)]
+pub struct Known {
+    pub uid: Vec<u8>,
+    pub sak: u8,
 }
 
 /// A reader's bytes. `uid` and `sak`: what the selection that it had ended with.
@@ -110,7 +118,7 @@ pub fn reader_bytes(reader: &Reader, uid: &[u8], sak: u8, random: &mut Random) -
     s
 }
 
-fn link_bytes(link: &Link) -> [u8; 24] {
+pub fn link_bytes(link: &Link) -> [u8; 24] {
     let (phase, turn) = match link.stage {
         Stage::Open => (0, 0),
         Stage::More => (1, 0),
@@ -130,7 +138,7 @@ fn link_bytes(link: &Link) -> [u8; 24] {
     b
 }
 
-fn random_link(random: &mut Random) -> Link {
+pub fn random_link(random: &mut Random) -> Link {
     let mut link = Link::new(size_of_index(random.below(9) as u8), size_of_index(random.below(9) as u8));
     link.number = random.below(2) as u8;
     link.stage = random.pick(&[Stage::Open, Stage::More, Stage::Last, Stage::Joining, Stage::Deselect]);
@@ -202,104 +210,4 @@ pub fn random_reader(random: &mut Random) -> (Reader, Known) {
         }
     }
     (reader, known)
-}
-
-// ---- cards
-
-pub fn plain_card(random: &mut Random) -> Card {
-    Card { uid: random.uid(), blocks: random.chance(70), index: random.below(9) as u8, state: State::Off }
-}
-
-pub fn card_bytes(card: &Card, random: &mut Random) -> [u8; STATE] {
-    let mut s = blank(random);
-    let (tag, level) = match &card.state {
-        State::Off => (0, 0),
-        State::Idle => (1, 0),
-        State::Ready(level) => (2, level - 1),
-        State::Active => (3, 0),
-        State::Halt => (4, 0),
-        State::ReadyStar(level) => (5, level - 1),
-        State::ActiveStar => (6, 0),
-        State::Protocol(_) => (7, 0),
-    };
-    s[0] = tag;
-    s[1] = level as u8;
-    s[3] = card.blocks as u8;
-    s[4] = card.index;
-    put_uid(&mut s, size_of(&card.uid), &card.uid);
-    if let State::Protocol(link) = &card.state {
-        s[2] = index_of(link.reader_size);
-        s[21] = card.index;
-        s[22] = index_of(link.reader_size);
-        s[23] = 1 - link.number;
-        let (phase, value) = match link.mode {
-            Mode::Receiving => (0, 0),
-            Mode::Owing => (1, 0),
-            Mode::WtxAsked(value) => (2, value),
-            Mode::Answering => (3, 0),
-        };
-        s[24] = phase;
-        s[25] = value;
-        // A card that owes its answer takes no frame, and has no block to send again.
-        let last = match link.last {
-            _ if link.mode == Mode::Owing => [0, 0, 0],
-            Last::Nothing => [0, 0, 0],
-            Last::I(chained) => [1, link.number, chained as u8],
-            Last::Ack => [2, link.number, 0],
-            Last::Wtx(value) => [5, value, 0],
-        };
-        put(&mut s, 26, &last);
-        put(&mut s, 29, &link.joined.to_le_bytes());
-        put(&mut s, 37, &link.place.to_le_bytes());
-    }
-    s
-}
-
-pub fn random_card(random: &mut Random) -> Card {
-    let mut card = plain_card(random);
-    let level = 1 + random.below(uid::level_count(&card.uid));
-    card.state = match random.below(10) {
-        0 => State::Off,
-        1 => State::Idle,
-        2 => State::Ready(level),
-        3 => State::Active,
-        4 => State::Halt,
-        5 => State::ReadyStar(level),
-        6 => State::ActiveStar,
-        _ => {
-            card.blocks = true;
-            State::Protocol(random_card_link(random))
-        }
-    };
-    card
-}
-
-fn random_card_link(random: &mut Random) -> card_link::Link {
-    let mut link = card_link::Link::new(size_of_index(random.below(9) as u8));
-    link.number = random.below(2) as u8;
-    match random.below(6) {
-        0 => {}
-        1 => {
-            // A message under way.
-            link.joined = random.pick(&[0, 1, 13, 4090, 4096]);
-            link.last = Last::Ack;
-        }
-        2 => link.mode = Mode::Owing,
-        3 => {
-            let value = 1 + random.below(59) as u8;
-            link.mode = Mode::WtxAsked(value);
-            link.last = Last::Wtx(value);
-        }
-        4 => {
-            // The last I of an answer is out.
-            link.last = Last::I(false);
-            link.place = random.pick(&[0, 13, 253, 4000]);
-        }
-        _ => {
-            link.mode = Mode::Answering;
-            link.last = Last::I(true);
-            link.place = random.pick(&[0, 13, 253, 4000]);
-        }
-    }
-    link
 }

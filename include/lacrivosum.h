@@ -42,6 +42,8 @@ extern "C" {
 #define LAC_B_FRAME_SIZE 88  /* bytes of `out` for a Type B reader: its longest frame, ATTRIB of 11 bytes */
 #define LAC_B_ANSWER_SIZE 112 /* bytes of `out` for a Type B card: its longest answer, ATQB of 14 bytes */
 #define LAC_B_ATQB_SIZE 12   /* bytes of an ATQB without CRC_B */
+#define LAC_B_MOST_SLOTS 16  /* slots of the longest request */
+#define LAC_B_LIST_ROOM 208  /* bytes of a request's list, 13 for each slot */
 #define LAC_MEMORY_SIZE 192  /* bytes of a reader that remembers (lac_memory_sweep) */
 #define LAC_SWEEP_ROW 81     /* bytes of its `out`: the longest frame of a sweep */
 #define LAC_NO_DELAY INT64_MIN /* what lac_delay answers where it is refused */
@@ -209,6 +211,17 @@ int64_t lac_sweep_remember(uint8_t *state, size_t state_len, uint8_t *cards, siz
  * a short state count as 0. */
 uint64_t lac_frames(const uint8_t *state, size_t state_len);
 
+/* Wakes one known card of a field: the reader sends WUPA and SELECT for each level of the UID, of 4, 7 or 10 bytes; the library plays the cards.
+ * `state` is a new reader's, `cards` a row of n cards' states as of lac_sweep. The card with that UID is then Active, or Active* if it was halted;
+ * every other card is what it was, and the reader is as after any selection, so that lac_reader_rats is due if b6 of the SAK is set.
+ *
+ * Over 0: how many frames the reader sent, one more than the UID has levels. lac_event is LAC_SELECTED; lac_uid and lac_reader_sak tell of the card.
+ * Of a card's state only its first 20 bytes are written, of the reader's the first 54.
+ * Refused, and nothing at all is written: LAC_ROOM, a state is too short, or `cards` for n of them; LAC_NOT_DUE, the reader is not new; LAC_ARGUMENT,
+ * the bytes are no valid UID, or the row is one that lac_sweep refuses so. LAC_SILENCE: no card has this UID; the reader has stopped, and no card's
+ * state is written. */
+int64_t lac_wake(uint8_t *state, size_t state_len, const uint8_t *uid, size_t uid_len, uint8_t *cards, size_t cards_len, size_t n);
+
 /* Type B. A reader and a card of their own kind, each in LAC_STATE_SIZE bytes too; any bytes at all are one Type B reader, and one Type B card.
  * Bytes all zero are a reader that is ready, and a card without power. A row holds data bits only, eight a byte, the lowest first: no parity,
  * start or stop bits. Numbers, lac_event and lac_length are as above; a Type B card has no events. A reader that is ready sends a request, ATTRIB
@@ -263,6 +276,20 @@ int64_t lac_b_card_take(uint8_t *state, size_t state_len, uint8_t number, const 
 
 /* The state of a card, one of enum lac_b_card_state_number. Bytes past the end of a short state count as 0. */
 uint8_t lac_b_card_state(const uint8_t *state, size_t state_len);
+
+/* A whole request over a field of Type B cards: REQB where `wake` is 0, else WUPB, with n slots, and then the marker of each other slot; the library
+ * plays the cards. `state` is a reader's that is ready, and is ready again then. `cards` is a row of cards' states, LAC_STATE_SIZE bytes each, one for
+ * each of `numbers`, the slots that the cards' hosts drew, 1 to n: at most LAC_MOST_CARDS, each Idle or Halt, no PUPI there twice. `list` has room
+ * for LAC_B_LIST_ROOM bytes, whatever n is.
+ *
+ * 0 or more: how many slots the list tells of, which is n. lac_event is LAC_B_SLOTS; lac_b_held and lac_b_atqb tell of the last slot. The list, from
+ * its front on, has 13 bytes for each slot: 0, 1 or 2 for no card, one, more; then the one's ATQB without CRC_B, else zeros. Of a card's state only
+ * its first 15 bytes are written, of the reader's the first 54.
+ * Refused, and nothing at all is written: LAC_ROOM, a state is too short, or `cards` for so many; LAC_NOT_DUE, the reader is not ready; LAC_ROOM, the
+ * list; LAC_ARGUMENT, n is not 1, 2, 4, 8 or 16, a number is not 1 to n, they are over LAC_MOST_CARDS, or a card is neither Idle nor Halt or has a
+ * PUPI that another one has. */
+int64_t lac_b_inquire(uint8_t *state, size_t state_len, uint8_t wake, uint8_t n, uint8_t afi, uint8_t *cards, size_t cards_len,
+                      const uint8_t *numbers, size_t numbers_len, uint8_t *list, size_t list_len);
 
 /* The reader of lac_sweep_remember, stepped by hand against cards of your own. Its state has its path too, the branches that it has not taken, and
  * is LAC_MEMORY_SIZE bytes: any bytes are one such reader, bytes all zero a new one, and a shorter state is refused by LAC_ROOM. lac_event,

@@ -1,7 +1,7 @@
 -- What is kept is read back. Assumes nothing.
-use mathlib.Core.Path.{_≡_, refl, ap, _∙_}
+use mathlib.Core.Path.{_≡_, refl, sym, ap, _∙_}
 use mathlib.Core.Bool.{Bool, true, false}
-use mathlib.Core.List.{List, [], _∷_, _++_}
+use mathlib.Core.List.{List, [], _∷_, _++_, append-nil}
 use Prim.Native.Nat.{ℕ, zero, suc, _+_, _*_, _/_, _%_, _<_, _≤_}
 use native.Mathlib.Nat.{zero-add}
 use native.Mathlib.Numerals.{add-one}
@@ -38,13 +38,23 @@ unfolding bytesAt
 bytes-tail zero x b p = refl
 bytes-tail (suc k) x b p = rw (add-one, add-one, bytes-tail k x b (suc p))
 
--- as many bytes as a row has are the row
-pub bytes-whole : (k : ℕ) (b : List ℕ) → length b ≡ k → bytesAt k b 0 ≡ b
+-- .. and those behind p are those of what stands there
+pub bytes-behind : (k : ℕ) (p b : List ℕ) (i : ℕ) → bytesAt k (p ++ b) (length p + i) ≡ bytesAt k b i
+bytes-behind k [] b i = rw zero-add
+bytes-behind k (x ∷ p) b i =
+    let e : suc (length p) + i ≡ suc (length p + i) = omega arith in
+    rw e (bytes-tail k x (p ++ b) (length p + i) ∙ bytes-behind k p b i)
+
+-- as many bytes as stand in front are they
+pub bytes-front : (k : ℕ) (b rest : List ℕ) → length b ≡ k → bytesAt k (b ++ rest) 0 ≡ b
 unfolding bytesAt
-bytes-whole zero [] h = refl
-bytes-whole zero (x ∷ b) h = absurd (omega arith)
-bytes-whole (suc k) [] h = absurd (omega arith)
-bytes-whole (suc k) (x ∷ b) h = ap (λ (l : List ℕ). x ∷ l) (bytes-tail k x b 0 ∙ bytes-whole k b (omega arith))
+bytes-front zero [] rest h = refl
+bytes-front zero (x ∷ b) rest h = absurd (omega arith)
+bytes-front (suc k) [] rest h = absurd (omega arith)
+bytes-front (suc k) (x ∷ b) rest h = ap (λ (l : List ℕ). x ∷ l) (bytes-tail k x (b ++ rest) 0 ∙ bytes-front k b rest (omega arith))
+
+pub bytes-whole : (k : ℕ) (b : List ℕ) → length b ≡ k → bytesAt k b 0 ≡ b
+bytes-whole k b h = ap (λ (l : List ℕ). bytesAt k l 0) (sym (append-nil b)) ∙ bytes-front k b [] h
 
 -- what k bytes hold
 unfoldable pub room : ℕ → ℕ

@@ -2,8 +2,9 @@
 pub mod within;
 
 ghost use mathlib.Core.Path.{_≡_};
-ghost use Prim.Native.Nat.{_+_, _%_, _*_};
+ghost use Prim.Native.Nat.{_+_, _%_, _*_, min};
 ghost use lib.ListN.{getD};
+ghost use Rattle.limits.specs.Limits.{mostCards};
 ghost use Rattle.refusal.specs.Refusal.{placeOf};
 ghost use Rattle.kept.specs.Kept.{flag, levelTag, levelOf, sizeTag, sizeOf, bytesAt, uidIn, word, number, refused, toldNumber, toldRefuses, toldEvent, toldLength};
 use block::Told;
@@ -17,6 +18,16 @@ pub const STATE_SIZE: usize = 64;
 
 // .. and the room for a UID.
 pub const UID_ROOM: usize = 10;
+
+// So many cards as a field's array holds.
+pub fn few(n: usize) -> usize
+    ensures { λ m. ⌜ m ≡ min n mostCards ⌝ }
+{
+    if n < limits::MOST_CARDS {
+        return n;
+    }
+    limits::MOST_CARDS
+}
 
 // The byte at a place, 0 past the end.
 pub fn at(b: &[u8], i: usize) -> u8

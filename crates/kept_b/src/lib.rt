@@ -88,7 +88,7 @@ fn answer_held(a: AnswerB) -> u8
 }
 
 // The number that a call gives: so many bits to send, or minus a refusal's number.
-fn answer_number(a: AnswerB) -> usize
+pub fn answer_number(a: AnswerB) -> usize
     ensures { λ r. ⌜ r ≡ answerNumber a ⌝ }
 {
     match a {
@@ -101,7 +101,7 @@ fn answer_number(a: AnswerB) -> usize
     }
 }
 
-fn answer_refuses(a: AnswerB) -> bool
+pub fn answer_refuses(a: AnswerB) -> bool
     ensures { λ r. ⌜ r ≡ answerRefuses a ⌝ }
 {
     match a {
@@ -181,7 +181,7 @@ fn answer_bytes(a: AnswerB) -> [u8; 9]
 }
 
 // Is a call on the reader x refused, and the reader still x?
-fn stays(x: ReaderB, t: TurnB) -> bool
+pub fn stays(x: ReaderB, t: TurnB) -> bool
     ensures { λ r. ⌜ r ≡ stays x t ⌝ }
 {
     let a = t.answer;

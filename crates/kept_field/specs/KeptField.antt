@@ -1,10 +1,10 @@
 -- A row of cards kept in lent bytes, one state of 64 bytes behind the other, and what a sweep over them leaves: in each card's state its first
 -- 20 bytes, and in the reader's state the reader, at 45 the event 3, at 46 the bytes of log written and at 54 the frames sent (eight bytes each).
-use Prim.Native.Nat.{ℕ, zero, suc, _-_, min}
+use Prim.Native.Nat.{ℕ}
 use mathlib.Core.Bool.{false, cond}
 use mathlib.Core.List.{List, [], _∷_, _++_}
 use mathlib.Core.Path.{_≡_}
-use lib.ListN.{length, take, drop, replicate}
+use lib.ListN.{length, take}
 use Rattle.limits.specs.Limits.{mostCards}
 use Rattle.rows.specs.Rows.{overlay}
 use Rattle.card.specs.declared.Card.{Card}
@@ -13,16 +13,16 @@ use Rattle.reader_link.specs.declared.Link.{Link}
 use Rattle.reader_link.specs.declared.LinkReader.{LinkReader}
 use Rattle.sweep.specs.declared.Start.{Start}
 use Rattle.sweep.specs.declared.Swept.{Swept}
-use Rattle.kept.specs.Kept.{stateSize, word, number, eventOf, lengthOf}
+use Rattle.kept.specs.Kept.{word, number, eventOf, lengthOf}
+use Rattle.kept.specs.States.{statesFrom, arrayOf, statesLeft}
 use Rattle.kept_card.specs.KeptCard.{cardBytes, cardIn}
 use Rattle.kept_reader.specs.KeptReader.{selectionBytes, selectionOf, linkBytes, linkOf, readerOf, selectionNumber, selectionRefuses}
 
 -- ---- the cards
 
--- the first n cards of a row of states: card i from the bytes at 64 * i on (law `card-at`)
+-- the first n cards of a row of states: card i from the bytes at 64 * i on (law `state-at` of crate kept)
 unfoldable pub cardsIn : ℕ → List ℕ → List Card
-cardsIn zero b = []
-cardsIn (suc n) b = cardIn b ∷ cardsIn n (drop stateSize b)
+cardsIn n b = statesFrom (λ i. cardIn) 0 n b
 
 -- a card of zeros
 abbrev pub noCard : Card
@@ -30,12 +30,11 @@ noCard = cardIn []
 
 -- the array that a sweep takes: as many of the cards as it holds, then cards of zeros
 unfoldable pub fieldIn : ℕ → List ℕ → List Card
-fieldIn n b = cardsIn (min n mostCards) b ++ replicate (mostCards - n) noCard
+fieldIn n b = arrayOf (λ i. cardIn) noCard mostCards n b
 
 -- cards written back, each over the front of its own state
 unfoldable pub cardsLeft : List ℕ → List Card → List ℕ
-cardsLeft b [] = b
-cardsLeft b (c ∷ l) = overlay (take stateSize b) 0 (cardBytes c) ++ cardsLeft (drop stateSize b) l
+cardsLeft b l = statesLeft cardBytes b l
 
 -- ---- the reader
 

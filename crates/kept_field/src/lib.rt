@@ -2,26 +2,15 @@
 pub mod within;
 
 ghost use mathlib.Core.Path.{_≡_};
-ghost use Prim.Native.Nat.{min, _<_};
-ghost use Rattle.limits.specs.Limits.{mostCards};
+ghost use Prim.Native.Nat.{_<_};
 ghost use Rattle.kept_field.specs.KeptField.{startIn, sweptTail};
 use sweep::Start;
-
-// So many cards as a sweep's array holds.
-fn few(n: usize) -> usize
-    ensures { λ m. ⌜ m ≡ min n mostCards ⌝ }
-{
-    if n < limits::MOST_CARDS {
-        return n;
-    }
-    limits::MOST_CARDS
-}
 
 // What a sweep begins with: the reader that lent bytes say, and the tick of the log's first record.
 pub fn start_of(state: &[u8], tick: u32) -> Start
     ensures { λ s. ⌜ s ≡ startIn (now (state .entry)) tick ⌝ }
 {
-    let r = kept_reader::selection_of(state);
+    let r = kept_reader::select::selection_of(state);
     Start {
         reader: r,
         tick: tick,

@@ -19,7 +19,7 @@ pub fn cards_of(b: &[u8], n: usize) -> [Card; MOST_CARDS]
 {
     let none = kept_card::card_of(&b[..0]);
     let mut cards = [none; MOST_CARDS];
-    let m = crate::few(n);
+    let m = kept::few(n);
     for i in 0..m {
         let c = kept_card::card_of(&b[kept::STATE_SIZE * i..]);
         cards[i] = c;
@@ -34,7 +34,7 @@ pub fn put_cards(cards: [Card; MOST_CARDS], n: usize, b: &mut [u8])
     ensures { λ _. ⌜ cardsIn (length (take n cards)) (now (b .exit)) ≡ take n cards ⌝ }
     ensures { λ _. ⌜ length cards ≡ mostCards ⌝ }
 {
-    let m = crate::few(n);
+    let m = kept::few(n);
     for i in 0..m {
         let c = cards[i];
         let k = kept_card::card_bytes(c);
@@ -48,8 +48,8 @@ fn keep(r: Reader, k: Link, logged: usize, frames: usize, state: &mut [u8])
     ensures { λ _. ⌜ now (state .exit) ≡ overlay (now (state .entry)) 0 (sweptBytes r k logged frames) ⌝ }
     ensures { λ _. ⌜ sweptIn (now (state .exit)) ≡ sweptKept r k logged frames ⌝ }
 {
-    let selection = kept_reader::selection_bytes(r);
-    let link = kept_reader::link_bytes(k);
+    let selection = kept_reader::select::selection_bytes(r);
+    let link = kept_reader::link::link_bytes(k);
     let tail = crate::swept_tail(logged, frames);
     rows::within::put(state, 0, &selection);
     rows::within::put(state, 21, &link);

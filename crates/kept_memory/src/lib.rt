@@ -96,8 +96,8 @@ fn stays(r: Reader, p: Path, m: Memory) -> bool
     let s = t.reader;
     let q = m.path;
     let refuses = kept_reader::selection_refuses(a);
-    let reader_was = kept_reader::selection_bytes(r);
-    let reader_is = kept_reader::selection_bytes(s);
+    let reader_was = kept_reader::select::selection_bytes(r);
+    let reader_is = kept_reader::select::selection_bytes(s);
     let path_was = path_bytes(p);
     let path_is = path_bytes(q);
     let reader_stays = rows::is_same(&reader_was, &reader_is);

@@ -30,7 +30,7 @@ fn keep(m: Memory, state: &mut [u8])
     let r = t.reader;
     let a = t.answer;
     let p = m.path;
-    let selection = kept_reader::selection_bytes(r);
+    let selection = kept_reader::select::selection_bytes(r);
     let told = crate::told_bytes(a);
     let path = crate::path_bytes(p);
     rows::within::put(state, 0, &selection);

@@ -18,8 +18,8 @@ fn keep(t: LinkTurn, state: &mut [u8])
     let r = x.reader;
     let k = x.link;
     let a = t.answer;
-    let selection = crate::selection_bytes(r);
-    let link = crate::link_bytes(k);
+    let selection = crate::select::selection_bytes(r);
+    let link = crate::link::link_bytes(k);
     let answer = crate::answer_bytes(a);
     rows::within::put(state, 0, &selection);
     rows::within::put(state, 21, &link);

@@ -2,10 +2,8 @@
 use mathlib.Core.Path.{_≡_, refl, sym, ap, _∙_}
 use mathlib.Core.Bool.{Bool, true, false, cond, not, _||_, false≢true}
 use mathlib.Core.List.{List, _++_}
-use Prim.Native.Nat.{ℕ, _+_, _-_, _*_, _/_, _<_, _≤_}
-use native.Mathlib.Omega.{arith}
-use lib.ListN.{length, take, drop, length-append, length-drop}
-use lib.Seq.{take-at, length-take-le}
+use Prim.Native.Nat.{ℕ, _+_, _-_, _/_, _<_, _≤_}
+use lib.ListN.{length, take, drop}
 use lib.Dec.{ltb}
 use borrow.Author.Tests.{lt-ltb, le-ltb, ltb-false, not-false}
 use Rattle.limits.specs.Limits.{mostCards, logRoom, listRoom}
@@ -16,7 +14,6 @@ use Rattle.reader.specs.declared.Phase.the-variants.{Finished}
 use Rattle.reader.specs.declared.Answer.the-variants.{Finishes}
 use Rattle.reader.specs.declared.Reader.{Reader}
 use Rattle.reader.specs.declared.Turn.{Turn}
-use Rattle.log.specs.Log.{logBytes, listBytes}
 use Rattle.sweep_rules.specs.Demand.{Demand3}
 use Rattle.sweep_rules.specs.Run.{Out, sweep}
 use Rattle.sweep_rules.specs.Terms.{within}
@@ -29,8 +26,9 @@ use Rattle.sweep.specs.declared.Swept.{Swept}
 use Rattle.memory_sweep.specs.Recalled.{recallOf}
 use Rattle.memory_sweep.specs.Promise.{Recalls}
 use Rattle.kept.specs.Kept as kept
-use Rattle.kept_reader.specs.KeptReader.{selectionOf, linkOf, selectionRefuses}
-use Rattle.kept_field.specs.KeptField.{startIn, cardsIn, fieldIn, sweptIn, sweptKept, sweptNumber, stateLeft, rowLeft, Says}
+use Rattle.kept.specs.StatesLaws.{array-parts}
+use Rattle.kept_reader.specs.KeptReader.{linkOf, selectionRefuses}
+use Rattle.kept_field.specs.KeptField.{startIn, cardsIn, fieldIn, sweptKept, sweptNumber, stateLeft, rowLeft, Says}
 use Rattle.kept_field.specs.FieldLaws.{field-front, length-field}
 use Rattle.lacrivosum.specs.Field.{FieldDone, fieldDone, noField, sweepDone, Unchanged, FieldTerms, FieldSays}
 
@@ -82,16 +80,11 @@ module _ (state cards : List ℕ) (n : ℕ) (log list : List ℕ) where
       let no : selectionRefuses (s .answer) ≡ false = ap (λ (c : Call). selectionRefuses (c .swept .answer)) e ∙ fin in
       let y = says no in
       let g : s .cards ≡ o .cards ++ drop n (fieldIn n cards) = ap (λ (c : Call). c .swept .cards) e in
-      let d : length (drop n (fieldIn n cards)) ≡ length (fieldIn n cards) - n = length-drop n (fieldIn n cards) in
-      let m : length (s .cards) ≡ length (o .cards) + length (drop n (fieldIn n cards)) =
-      ap length g ∙ length-append (o .cards) (drop n (fieldIn n cards)) in
-      let l : length (o .cards) ≡ n = omega (arith, d, m, y .2, length-field n cards) in
-      let z : take n (s .cards) ≡ o .cards = rw g (take-at (o .cards) (drop n (fieldIn n cards)) n l) in
-      let w : length (take n (s .cards)) ≡ n = length-take-le n (s .cards) (omega (arith, y .2)) in
+      let z = array-parts 32 n (fieldIn n cards) (o .cards) (s .cards) (length-field n cards) few g (y .2) in
       record {
         number = rw no at a ∙ ap (λ (c : Call). c .swept .found) e;
         state = y .0 ∙ ap (λ (c : Call). sweptKept (c .swept .reader) (linkOf state) (c .swept .logged) (c .swept .frames)) e;
-        cards = ap (λ k. cardsIn k cards₁) (sym w) ∙ y .1 ∙ z;
+        cards = ap (λ k. cardsIn k cards₁) (sym (z .1)) ∙ y .1 ∙ z .0;
         log = ap (λ (c : Call). c .log) e;
         list = ap (λ (c : Call). c .list) e;
       }

@@ -6,9 +6,11 @@ pub mod card_calls;
 pub mod delays;
 pub mod frames;
 pub mod fronts;
+pub mod inquiries;
 pub mod memories;
 pub mod sweeps;
 pub mod type_b;
+pub mod wakes;
 
 ghost use mathlib.Core.Path.{_≡_};
 ghost use mathlib.Core.Bool.{true, false};

@@ -20,7 +20,7 @@ pub extern "C" fn lac_memory_sweep(state: &mut [u8], out: &mut [u8]) -> usize
     if state.len() < kept_memory::MEMORY_SIZE {
         return kept::refused(Refusal::Room);
     }
-    let r = kept_reader::selection_of(state);
+    let r = kept_reader::select::selection_of(state);
     let p = kept_memory::within::path_of(state);
     let m = kept_memory::start_sweep(r, p, out);
     kept_memory::within::settle(r, p, m, state)
@@ -35,7 +35,7 @@ pub extern "C" fn lac_memory_hear(state: &mut [u8], row: &[u8], out: &mut [u8]) 
     if state.len() < kept_memory::MEMORY_SIZE {
         return kept::refused(Refusal::Room);
     }
-    let r = kept_reader::selection_of(state);
+    let r = kept_reader::select::selection_of(state);
     let p = kept_memory::within::path_of(state);
     let m = memory::hear(r, p, row, out);
     kept_memory::within::settle(r, p, m, state)

@@ -1,6 +1,6 @@
 -- `kept_field::within::cards_of` meets its contract. The loop's invariant: the cards before i are decoded, those from i on are of zeros. Assumes nothing.
 use Prim.Native.Nat.{_≤_, _-_, _*_}
-use mathlib.Core.Path.{_≡_, refl, ap, _∙_}
+use mathlib.Core.Path.{_≡_, ap, _∙_}
 use mathlib.Core.List.{_++_}
 use native.Mathlib.Omega.{arith}
 use denote.Ref.{now}
@@ -8,6 +8,7 @@ use borrow.Author.Needs.{needs}
 use lib.ListN.{length, replicate, length-set, length-drop, drop}
 use lib.Seq.{take-all}
 use Rattle.card.specs.declared.Card.{Card}
+use Rattle.kept.specs.States.{statesFrom}
 use Rattle.kept_card.specs.KeptCard.{cardIn}
 use Rattle.kept_field.specs.KeptField.{noCard, cardsIn}
 use Rattle.kept_field.specs.FieldLaws.{field-turn, field-done}
@@ -30,7 +31,7 @@ few-requires : tie.Need-few-requires Inv-loop μ-loop
 few-requires c κs = search needs
 
 loop-holds : tie.Need-loop-holds Inv-loop μ-loop
-unfolding cardsIn
+unfolding cardsIn statesFrom
 loop-holds c = (omega arith, omega arith, omega arith, search needs, ap (λ (x : Card). replicate 32 x) (c .before .card-of .ensures))
 
 mul-card-of : tie.Need-mul-card-of Inv-loop μ-loop

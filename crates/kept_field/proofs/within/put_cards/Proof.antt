@@ -1,12 +1,12 @@
 -- `kept_field::within::put_cards` meets its contract. The loop's invariant: the cards before i are written. Assumes nothing.
-use Prim.Native.Nat.{_≤_, _-_, _*_}
-use mathlib.Core.Path.{_≡_, refl, sym, _∙_}
+use Prim.Native.Nat.{_≤_, _-_}
+use mathlib.Core.Path.{_≡_, refl, _∙_}
 use native.Mathlib.Omega.{arith}
 use denote.Ref.{now}
 use borrow.Author.Needs.{needs}
 use lib.ListN.{length, take}
 use Rattle.rows.specs.Rows.{All}
-use Rattle.kept_card.specs.KeptCardLaws.{card-length}
+use Rattle.kept.specs.States.{statesLeft}
 use Rattle.kept_field.specs.KeptField.{cardsLeft}
 use Rattle.kept_field.specs.FieldLaws.{Whole, put-turn, put-done}
 use Rattle.kept_field.proofs.within.put_cards.Statement.{statement}
@@ -22,7 +22,7 @@ few-requires : tie.Need-few-requires Inv-loop μ-loop
 few-requires c κs = search needs
 
 loop-holds : tie.Need-loop-holds Inv-loop μ-loop
-unfolding cardsLeft
+unfolding cardsLeft statesLeft
 loop-holds c = (omega arith, omega arith, omega arith, search needs, refl, refl, tt)
 
 mul-c : tie.Need-mul-c Inv-loop μ-loop

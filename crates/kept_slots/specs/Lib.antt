@@ -1,0 +1,3 @@
+pub mod KeptSlots
+pub mod SlotsLaws
+pub mod EndLaws

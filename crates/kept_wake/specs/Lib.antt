@@ -1,0 +1,2 @@
+pub mod KeptWake
+pub mod WakeLaws
