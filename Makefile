@@ -78,13 +78,15 @@ type_b: toolchain
 # No part of the gate: a time is the machine's, and what else it does at that moment.
 speed: toolchain
 	@command -v rustc >/dev/null 2>&1 || { echo "there is no rustc: the programs that the core is measured against cannot be built"; exit 1; }
-	rt staticlib lacrivosum
+	@$(MAKE) --no-print-directory lib
 	$(LINKED) speed/main.rs -o target/speed
 	@target/speed
 	@if command -v size >/dev/null 2>&1; then echo && echo "the archive, in bytes" && size target/staticlib/liblacrivosum.a; fi
 
-# The core's reader and card for C: target/staticlib/liblacrivosum.a, to be linked with include/lacrivosum.h.
+# The core's reader and card for C: target/staticlib/liblacrivosum.a, to be linked with include/lacrivosum.h. rt staticlib would prove what it stands on one
+# crate after the other; rt check does it side by side.
 lib: toolchain
+	RT_JOBS=$${RT_JOBS:-4} rt check $$(sed -n 's/^lacrivosum://p' crates.txt)
 	rt staticlib lacrivosum
 
 # The programs of examples/, in C and in Rust, compiled with all warnings as errors and run with the library.

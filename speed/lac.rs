@@ -1,25 +1,9 @@
 // The core: the functions of include/lacrivosum.h that are measured, each lent slice a pointer and a length. A refusal is minus its number.
 use std::slice;
 
-extern "C" {
-    fn lac_crc_a(bytes: *const u8, n: usize) -> u16;
-    fn lac_crc_b(bytes: *const u8, n: usize) -> u16;
-    fn lac_frame_write(bytes: *const u8, n: usize, out: *mut u8, m: usize) -> i64;
-    fn lac_frame_write_crc(bytes: *const u8, n: usize, out: *mut u8, m: usize) -> i64;
-    fn lac_frame_read(row: *const u8, n: usize, out: *mut u8, m: usize) -> i64;
-    fn lac_frame_read_crc(row: *const u8, n: usize, out: *mut u8, m: usize) -> i64;
-    fn lac_sweep(s: *mut u8, n: usize, cards: *mut u8, m: usize, count: usize, tick: u32, log: *mut u8, k: usize, list: *mut u8, l: usize) -> i64;
-    fn lac_reader_select(s: *mut u8, n: usize, out: *mut u8, m: usize) -> i64;
-    fn lac_reader_rats(s: *mut u8, n: usize, index: u8, out: *mut u8, m: usize) -> i64;
-    fn lac_reader_send(s: *mut u8, n: usize, message: *const u8, k: usize, out: *mut u8, m: usize) -> i64;
-    fn lac_reader_hear(s: *mut u8, n: usize, row: *const u8, k: usize, message: *const u8, l: usize, buffer: *mut u8, b: usize, out: *mut u8, m: usize) -> i64;
-    fn lac_card_new(s: *mut u8, n: usize, uid: *const u8, k: usize, blocks: u8, index: u8) -> i64;
-    fn lac_card_power_on(s: *mut u8, n: usize) -> i64;
-    fn lac_card_take(s: *mut u8, n: usize, row: *const u8, k: usize, answer: *const u8, l: usize, buffer: *mut u8, b: usize, out: *mut u8, m: usize) -> i64;
-    fn lac_card_reply(s: *mut u8, n: usize, answer: *const u8, k: usize, out: *mut u8, m: usize) -> i64;
-    fn lac_event(s: *const u8, n: usize) -> u8;
-    fn lac_length(s: *const u8, n: usize) -> u64;
-}
+#[path = "../include/lacrivosum.rs"]
+mod c;
+use c::*;
 
 pub const STATE: usize = 64;
 const ROW: usize = 2304;
