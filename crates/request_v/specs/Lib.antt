@@ -1,0 +1,5 @@
+pub mod Flags
+pub mod Inventory
+pub mod InventoryLaws
+pub mod Request
+pub mod RequestLaws
