@@ -14,10 +14,10 @@ use borrow.Author.Tests.{eq-eqb, ne-eqb, eqb-true, leb-true, ltb-false}
 use Rattle.rows.specs.Rows.{any}
 use Rattle.rows.specs.ListLaws.{both}
 use Rattle.frame_b.specs.FrameB.{byteAt}
-use Rattle.frame_v.specs.FrameV.{bytesIn}
-use Rattle.request_v.specs.Flags.{flagsOf, isQuiet, isSelected}
-use Rattle.request_v.specs.Inventory.{lengthAt, mostMask, isInventory, matching}
-use Rattle.request_v.specs.Request.{isLock, anyLocked, absent, isOwn, meant, parametersAt, deedBy, deedOf}
+use Rattle.frame_v.specs.FrameV.{bytesIn, sound}
+use Rattle.request_v.specs.Flags.{flagsOf, formed, isOff, isQuiet, isSelected}
+use Rattle.request_v.specs.Inventory.{lengthAt, mostMask, isInventory, matching, inventoryDeed}
+use Rattle.request_v.specs.Request.{isLock, anyLocked, absent, isOwn, meant, parametersAt, requestDeed, deedBy, deedOf}
 use Rattle.request_v.specs.declared.Tag.{Tag}
 use Rattle.request_v.specs.declared.Flags.{Flags}
 
@@ -86,3 +86,9 @@ meant-long t q f h e = go (q .sixth) e
 pub deed-read : (t : Tag) (q : Flags) (locks f : List ℕ) (b : ℕ) → b ≡ byteAt 0 f → q ≡ flagsOf b → deedBy t q locks f ≡ deedOf t locks f
 unfolding deedOf
 deed-read t q locks f b eb eq = ap (λ x. deedBy t x locks f) (eq ∙ ap flagsOf eb)
+
+-- .. tell an inventory from the other requests
+pub by-flags : (t : Tag) (q : Flags) (locks f : List ℕ) (b : Bool) → isOff (t .state) ≡ false → sound f ≡ true → formed q ≡ true → q .inventory ≡ b
+    → cond b (inventoryDeed t q f) (requestDeed t q locks f) ≡ deedBy t q locks f
+unfolding deedBy
+by-flags t q locks f b o s r e = rw (o, s, r) (ap (λ x. cond x (inventoryDeed t q f) (requestDeed t q locks f)) (sym e))

@@ -4,7 +4,8 @@ use mathlib.Core.Path.{_≡_, refl, sym, ap, _∙_}
 use denote.Ref.{now}
 use Rattle.frame_v.specs.FrameVLaws.{sound-is}
 use Rattle.request_v.specs.Request.{deedBy, deedOf}
-use Rattle.request_v.specs.RequestLaws.{deed-read}
+use Rattle.request_v.specs.RequestLaws.{deed-read, by-flags}
+use mathlib.Core.Bool.{true, false}
 use borrow.Author.Needs.{needs}
 use native.Mathlib.Omega.{arith}
 use Rattle.request_v.proofs.within.deed.Statement.{statement}
@@ -41,15 +42,13 @@ inventory-deed-requires : tie.Need-inventory-deed-requires
 inventory-deed-requires c κs = sym (c .before .before .before .before .before .before .is-sound .ensures) ∙ not-false _ (c .before .before .before .before .before .if2 .left)
 
 returns-4 : tie.Need-returns-4
-unfolding deedBy
-returns-4 c = rw (← deed-read (c .before .before .before .before .before .before .before .before .before .before .before .before .args .t) (c .before .before .before .before .flags-of .result) (now (c .before .before .before .before .before .before .before .before .before .before .before .before .args .locks)) (now (c .before .before .before .before .before .before .before .before .before .before .before .before .args .row)) (c .before .before .before .before .before .byte .result) (c .before .before .before .before .before .byte .ensures) (c .before .before .before .before .flags-of .ensures), sym (c .before .before .before .before .before .before .before .before .before .is-off .ensures) ∙ c .before .before .before .before .before .before .before .before .if1 .left, sym (c .before .before .before .before .before .before .before .is-sound .ensures) ∙ not-false _ (c .before .before .before .before .before .before .if2 .left), sym (c .before .before .before .is-formed .ensures) ∙ not-false _ (c .before .before .if3 .left), c .before .if4 .taken) (c .inventory-deed .ensures)
+returns-4 c = c .inventory-deed .ensures ∙ by-flags (c .before .before .before .before .before .before .before .before .before .before .before .before .args .t) (c .before .before .before .before .flags-of .result) (now (c .before .before .before .before .before .before .before .before .before .before .before .before .args .locks)) (now (c .before .before .before .before .before .before .before .before .before .before .before .before .args .row)) true (sym (c .before .before .before .before .before .before .before .before .before .is-off .ensures) ∙ c .before .before .before .before .before .before .before .before .if1 .left) (sym (c .before .before .before .before .before .before .before .is-sound .ensures) ∙ not-false _ (c .before .before .before .before .before .before .if2 .left)) (sym (c .before .before .before .is-formed .ensures) ∙ not-false _ (c .before .before .if3 .left)) (c .before .if4 .taken) ∙ deed-read (c .before .before .before .before .before .before .before .before .before .before .before .before .args .t) (c .before .before .before .before .flags-of .result) (now (c .before .before .before .before .before .before .before .before .before .before .before .before .args .locks)) (now (c .before .before .before .before .before .before .before .before .before .before .before .before .args .row)) (c .before .before .before .before .before .byte .result) (c .before .before .before .before .before .byte .ensures) (c .before .before .before .before .flags-of .ensures)
 
 request-deed-requires : tie.Need-request-deed-requires
 request-deed-requires c κs = (sym (c .before .before .before .before .before .before .is-sound .ensures) ∙ not-false _ (c .before .before .before .before .before .if2 .left), c .before .before .before .before .before .before .before .before .before .before .before .pre)
 
 returns-5 : tie.Need-returns-5
-unfolding deedBy
-returns-5 c = rw (← deed-read (c .before .before .before .before .before .before .before .before .before .before .before .before .args .t) (c .before .before .before .before .flags-of .result) (now (c .before .before .before .before .before .before .before .before .before .before .before .before .args .locks)) (now (c .before .before .before .before .before .before .before .before .before .before .before .before .args .row)) (c .before .before .before .before .before .byte .result) (c .before .before .before .before .before .byte .ensures) (c .before .before .before .before .flags-of .ensures), sym (c .before .before .before .before .before .before .before .before .before .is-off .ensures) ∙ c .before .before .before .before .before .before .before .before .if1 .left, sym (c .before .before .before .before .before .before .before .is-sound .ensures) ∙ not-false _ (c .before .before .before .before .before .before .if2 .left), sym (c .before .before .before .is-formed .ensures) ∙ not-false _ (c .before .before .if3 .left), c .before .if4 .left) (c .request-deed .ensures)
+returns-5 c = c .request-deed .ensures ∙ by-flags (c .before .before .before .before .before .before .before .before .before .before .before .before .args .t) (c .before .before .before .before .flags-of .result) (now (c .before .before .before .before .before .before .before .before .before .before .before .before .args .locks)) (now (c .before .before .before .before .before .before .before .before .before .before .before .before .args .row)) false (sym (c .before .before .before .before .before .before .before .before .before .is-off .ensures) ∙ c .before .before .before .before .before .before .before .before .if1 .left) (sym (c .before .before .before .before .before .before .before .is-sound .ensures) ∙ not-false _ (c .before .before .before .before .before .before .if2 .left)) (sym (c .before .before .before .is-formed .ensures) ∙ not-false _ (c .before .before .if3 .left)) (c .before .if4 .left) ∙ deed-read (c .before .before .before .before .before .before .before .before .before .before .before .before .args .t) (c .before .before .before .before .flags-of .result) (now (c .before .before .before .before .before .before .before .before .before .before .before .before .args .locks)) (now (c .before .before .before .before .before .before .before .before .before .before .before .before .args .row)) (c .before .before .before .before .before .byte .result) (c .before .before .before .before .before .byte .ensures) (c .before .before .before .before .flags-of .ensures)
 
 pub deed-spec : {M : Type 1} → statement M
 deed-spec =
