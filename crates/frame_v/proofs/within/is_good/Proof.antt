@@ -41,7 +41,7 @@ is-same-requires : tie.Need-is-same-requires
 is-same-requires c κs = search needs
 
 returns : tie.Need-returns
-returns c = 
+returns c =
     let f = now (c .before .before .before .before .before .before .before .args .row) in
     rw (c .is-same .ensures, c .before .before .before .before .byte-at .ensures, c .before .before .before .byte-at2 .ensures) (last-good f _ (length f / 8 - 2) refl (c .before .before .before .before .before .before .before .pre .1) (c .before .before .before .before .before .row-crc-bytes .ensures))
 

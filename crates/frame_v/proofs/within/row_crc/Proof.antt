@@ -40,7 +40,7 @@ loop-less : tie.Need-loop-less Inv-loop μ-loop
 loop-less c = search needs
 
 loop-again : tie.Need-loop-again Inv-loop μ-loop
-loop-again c = 
+loop-again c =
     let l = c .before .before .before .loop in
     let a = c .before .before .before .before .before .args in
     let r = now (a .row) in
@@ -49,7 +49,7 @@ loop-again c =
 
 returns : tie.Need-returns Inv-loop μ-loop
 unfolding crcOf
-returns c = 
+returns c =
     let l = c .before .loop in
     let a = c .before .before .before .args in
     let r = now (a .row) in

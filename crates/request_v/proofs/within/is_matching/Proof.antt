@@ -34,7 +34,7 @@ is-same-requires c κs = search needs
 
 returns : tie.Need-returns
 unfolding matching
-returns c = 
+returns c =
     let a = c .before .before .before .before .before .args in
     let e : a .at + a .len - a .at ≡ a .len = omega arith in
     rw (c .is-same .ensures, e, c .before .before .before .uid-bits .ensures)

@@ -26,14 +26,14 @@ part-number-of-end : tie.Need-part-number-of-end
 part-number-of-end c = search needs
 
 number-of-requires : tie.Need-number-of-requires
-number-of-requires c κs = 
+number-of-requires c κs =
     let a = c .before .before .before .args in
     let e : a .len + 4 - a .len ≡ 4 = omega arith in
     (rw (e, length-take) (omega arith), clean-take (a .len + 4 - a .len) _ (clean-drop (a .len) _ (uid-clean _ _ (c .before .before .uid-bits .ensures))))
 
 returns : tie.Need-returns
 unfolding slotOf
-returns c = 
+returns c =
     let a = c .before .before .before .before .args in
     let e : a .len + 4 - a .len ≡ 4 = omega arith in
     rw (c .number-of .ensures, e, c .before .before .before .uid-bits .ensures)

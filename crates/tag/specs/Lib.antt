@@ -1,0 +1,7 @@
+pub mod Memory
+pub mod Tag
+pub mod Calls
+pub mod Safe
+pub mod SafeLaws
+pub mod MemoryLaws
+pub mod CallLaws
