@@ -98,7 +98,7 @@ fn uid_bits(uid: [u8; 8]) -> [u8; 64]
 }
 
 // Are the len bits at index at of a row the low bits of a UID?
-fn is_matching(uid: [u8; 8], row: &[u8], at: usize, len: usize) -> bool
+pub fn is_matching(uid: [u8; 8], row: &[u8], at: usize, len: usize) -> bool
     requires { ⌜ (at + len ≤ length (now row)) × (len ≤ 64) ⌝ }
     ensures { λ r. ⌜ r ≡ matching uid (now (row .entry)) at len ⌝ }
 {
