@@ -1,0 +1,6 @@
+pub mod Met
+pub mod ReaderV
+pub mod CallsV
+pub mod HearV
+pub mod MetLaws
+pub mod HearLaws

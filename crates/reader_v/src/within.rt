@@ -1,0 +1,310 @@
+// The reader's rules. Called by our own crates only: firmware calls those of the crate itself.
+ghost use mathlib.Core.Path.{_≡_};
+ghost use mathlib.Core.Bool.{true};
+ghost use Prim.Native.Nat.{_+_, _*_, _≤_, _<_};
+ghost use lib.ListN.{length, set};
+ghost use Rattle.rows.specs.Rows.{overlay};
+ghost use Rattle.reader_v.specs.Met.{flagOf, firstMet};
+ghost use Rattle.reader_v.specs.ReaderV.{blank, atRound, turn, stop, isReady, isDeep, turnOf, isMore, metAfter, telling, nextSlot, roundOf, finished, told, hearSlot, hearQuiet, doneAnswer, answerTurn, hear};
+ghost use Rattle.answer_v.specs.Heard.{readAnswer};
+use crate::AnswerR;
+use crate::PhaseV;
+use crate::ReaderV;
+use crate::TurnV;
+use answer_v::AnswerSays;
+use answer_v::SlotV;
+use answer_v::Turn;
+use refusal::Refusal;
+use selection_b::Held;
+use selection_b::SlotSays;
+use sent_v::Round;
+
+// ---- readers and turns
+
+pub fn blank(p: PhaseV) -> ReaderV
+    ensures { λ r. ⌜ r ≡ blank p ⌝ }
+{
+    let mask = [0u8; 8];
+    let met = [0u8; 240];
+    let k = Round {
+        one: false,
+        asks: false,
+        afi: 0,
+        len: 0,
+        mask: mask,
+    };
+    ReaderV {
+        phase: p,
+        round: k,
+        slot: 0,
+        count: 0,
+        status: false,
+        met: met,
+    }
+}
+
+pub fn turn(r: ReaderV, a: AnswerR) -> TurnV
+    ensures { λ q. ⌜ q ≡ turn r a ⌝ }
+{
+    let uid = [0u8; 8];
+    TurnV {
+        reader: r,
+        answer: a,
+        bits: 0,
+        dsfid: 0,
+        uid: uid,
+    }
+}
+
+// "reader stopped".
+fn stop(e: Refusal) -> TurnV
+    ensures { λ q. ⌜ q ≡ stop e ⌝ }
+{
+    turn(blank(PhaseV::Stopped), AnswerR::Declines(e))
+}
+
+// Is a call due?
+pub fn is_ready(p: PhaseV) -> bool
+    ensures { λ r. ⌜ r ≡ isReady p ⌝ }
+{
+    match p {
+        PhaseV::Ready => true,
+        PhaseV::InRound => false,
+        PhaseV::InSweep => false,
+        PhaseV::QuietSent => false,
+        PhaseV::ReadSent => false,
+        PhaseV::OtherSent => false,
+        PhaseV::Stopped => false,
+    }
+}
+
+// ---- slots that are still to come
+
+fn flag_of(len: u8, slot: u8) -> usize
+    ensures { λ r. ⌜ r ≡ flagOf len slot ⌝ }
+{
+    let d = len as usize / 4;
+    if d > 14 {
+        return slot as usize;
+    }
+    16 * (14 - d) + slot as usize
+}
+
+fn with_flag(met: [u8; 240], i: usize, v: u8) -> [u8; 240]
+    ensures { λ r. ⌜ r ≡ set met i v ⌝ }
+{
+    if i < 240 {
+        let mut m = met;
+        m[i] = v;
+        return m;
+    }
+    met
+}
+
+fn first_met(met: [u8; 240]) -> usize
+    ensures { λ r. ⌜ r ≡ firstMet met ⌝ }
+{
+    for i in 0..240usize {
+        if met[i] != 0 {
+            return i;
+        }
+    }
+    240
+}
+
+fn is_more(k: Held) -> bool
+    ensures { λ r. ⌜ r ≡ isMore k ⌝ }
+{
+    match k {
+        Held::None => false,
+        Held::One => false,
+        Held::More => true,
+    }
+}
+
+fn met_after(sweeps: bool, r: ReaderV, k: Held) -> [u8; 240]
+    ensures { λ m. ⌜ m ≡ metAfter sweeps r k ⌝ }
+{
+    let met = r.met;
+    if !sweeps {
+        return met;
+    }
+    if !is_more(k) {
+        return met;
+    }
+    let o = r.round;
+    with_flag(met, flag_of(o.len, r.slot), 1)
+}
+
+// The round of a flag.
+fn round_of(k: Round, i: usize) -> Round
+    requires { ⌜ i < 240 ⌝ }
+    ensures { λ r. ⌜ r ≡ roundOf k i ⌝ }
+{
+    let n = 4 * (14 - i / 16);
+    let old = k.mask;
+    let mask = sent_v::within::grown_mask(old, n, (i % 16) as u8);
+    Round {
+        one: false,
+        asks: k.asks,
+        afi: k.afi,
+        len: (n + 4) as u8,
+        mask: mask,
+    }
+}
+
+// ---- a slot
+
+fn telling(r: ReaderV, a: AnswerR, s: SlotV) -> TurnV
+    ensures { λ q. ⌜ q ≡ telling r a s ⌝ }
+{
+    let uid = s.uid;
+    TurnV {
+        reader: r,
+        answer: a,
+        bits: 0,
+        dsfid: s.dsfid,
+        uid: uid,
+    }
+}
+
+fn next_slot(r: ReaderV, m: [u8; 240]) -> ReaderV
+    requires { ⌜ r .slot < 15 ⌝ }
+    ensures { λ q. ⌜ q ≡ nextSlot r m ⌝ }
+{
+    let p = r.phase;
+    let k = r.round;
+    ReaderV {
+        phase: p,
+        round: k,
+        slot: r.slot + 1,
+        count: 0,
+        status: false,
+        met: m,
+    }
+}
+
+fn at_round(p: PhaseV, k: Round, m: [u8; 240]) -> ReaderV
+    ensures { λ r. ⌜ r ≡ atRound p k m ⌝ }
+{
+    ReaderV {
+        phase: p,
+        round: k,
+        slot: 0,
+        count: 0,
+        status: false,
+        met: m,
+    }
+}
+
+// A round is finished.
+fn finished(sweeps: bool, r: ReaderV, k: Held, s: SlotV, m: [u8; 240]) -> TurnV
+    ensures { λ q. ⌜ q ≡ finished sweeps r k s m ⌝ }
+{
+    if !sweeps {
+        return telling(blank(PhaseV::Ready), AnswerR::Ends(k), s);
+    }
+    let i = first_met(m);
+    if i < 240 {
+        let o = r.round;
+        let next = at_round(PhaseV::InSweep, round_of(o, i), with_flag(m, i, 0));
+        return telling(next, AnswerR::NextRound(k), s);
+    }
+    telling(blank(PhaseV::Ready), AnswerR::Ends(k), s)
+}
+
+// What a slot held is told.
+fn told(sweeps: bool, r: ReaderV, k: Held, s: SlotV) -> TurnV
+    ensures { λ q. ⌜ q ≡ told sweeps r k s ⌝ }
+{
+    let m = met_after(sweeps, r, k);
+    let o = r.round;
+    if o.one {
+        return finished(sweeps, r, k, s, m);
+    }
+    if r.slot < 15 {
+        return telling(next_slot(r, m), AnswerR::NextSlot(k), s);
+    }
+    finished(sweeps, r, k, s, m)
+}
+
+fn turn_of(sweeps: bool, r: ReaderV) -> Turn
+    ensures { λ q. ⌜ q ≡ turnOf sweeps r ⌝ }
+{
+    let o = r.round;
+    let mask = o.mask;
+    Turn {
+        one: o.one,
+        deep: is_deep(sweeps, o.len),
+        len: o.len,
+        mask: mask,
+        slot: r.slot,
+    }
+}
+
+fn is_deep(sweeps: bool, len: u8) -> bool
+    ensures { λ q. ⌜ q ≡ isDeep sweeps len ⌝ }
+{
+    if sweeps {
+        return 60 <= len;
+    }
+    false
+}
+
+fn hear_slot(sweeps: bool, r: ReaderV, row: &[u8]) -> TurnV
+    ensures { λ q. ⌜ q ≡ hearSlot sweeps r (now (row .entry)) ⌝ }
+{
+    let s = answer_v::read_slot(turn_of(sweeps, r), row);
+    let says = s.says;
+    match says {
+        SlotSays::Holds(k) => told(sweeps, r, k, s),
+        SlotSays::NotSlot(e) => stop(e),
+    }
+}
+
+// ---- other answers
+
+fn hear_quiet(row: &[u8]) -> TurnV
+    ensures { λ q. ⌜ q ≡ hearQuiet (now (row .entry)) ⌝ }
+{
+    if row.len() == 0 {
+        return turn(blank(PhaseV::Ready), AnswerR::Quieted);
+    }
+    stop(Refusal::Forbidden)
+}
+
+fn done_answer(reads: bool, n: usize) -> AnswerR
+    ensures { λ a. ⌜ a ≡ doneAnswer reads n ⌝ }
+{
+    if reads {
+        return AnswerR::Data(n);
+    }
+    AnswerR::Done
+}
+
+fn hear_answer(reads: bool, count: u8, status: bool, row: &[u8]) -> TurnV
+    ensures { λ q. ⌜ q ≡ answerTurn reads (readAnswer reads count status (now (row .entry))) ⌝ }
+{
+    let s = answer_v::read_answer(reads, count, status, row);
+    match s {
+        AnswerSays::Good(n) => turn(blank(PhaseV::Ready), done_answer(reads, n)),
+        AnswerSays::Fails(e) => turn(blank(PhaseV::Ready), AnswerR::TagError(e)),
+        AnswerSays::NotGood(e) => stop(e),
+    }
+}
+
+// What a reader does with a row, by what it awaits.
+pub fn hear_rules(r: ReaderV, row: &[u8]) -> TurnV
+    ensures { λ q. ⌜ q ≡ hear r (now (row .entry)) ⌝ }
+{
+    let p = r.phase;
+    match p {
+        PhaseV::Ready => turn(r, AnswerR::Declines(Refusal::NotDue)),
+        PhaseV::InRound => hear_slot(false, r, row),
+        PhaseV::InSweep => hear_slot(true, r, row),
+        PhaseV::QuietSent => hear_quiet(row),
+        PhaseV::ReadSent => hear_answer(true, r.count, r.status, row),
+        PhaseV::OtherSent => hear_answer(false, 0, false, row),
+        PhaseV::Stopped => turn(r, AnswerR::Declines(Refusal::NotDue)),
+    }
+}
