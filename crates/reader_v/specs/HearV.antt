@@ -47,8 +47,11 @@ dataIn Done h = []
 dataIn (TagError e) h = []
 dataIn (Declines e) h = []
 
+abbrev pub withBits : TurnV → ℕ → TurnV
+withBits t n = record { reader = t .reader; answer = t .answer; bits = n; dsfid = t .dsfid; uid = t .uid }
+
 abbrev pub sized : TurnV → TurnV
-sized t = record { reader = t .reader; answer = t .answer; bits = length (outFrame t); dsfid = t .dsfid; uid = t .uid }
+sized t = withBits t (length (outFrame t))
 
 -- ---- the call
 

@@ -4,3 +4,5 @@ pub mod CallsV
 pub mod HearV
 pub mod MetLaws
 pub mod HearLaws
+pub mod SafeV
+pub mod SafeLaws

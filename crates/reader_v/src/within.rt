@@ -1,12 +1,14 @@
 // The reader's rules. Called by our own crates only: firmware calls those of the crate itself.
 ghost use mathlib.Core.Path.{_≡_};
-ghost use mathlib.Core.Bool.{true};
+ghost use mathlib.Core.Bool.{true, cond};
 ghost use Prim.Native.Nat.{_+_, _*_, _≤_, _<_};
 ghost use lib.ListN.{length, set};
 ghost use Rattle.rows.specs.Rows.{overlay};
 ghost use Rattle.reader_v.specs.Met.{flagOf, firstMet};
 ghost use Rattle.reader_v.specs.ReaderV.{blank, atRound, turn, stop, isReady, isDeep, turnOf, isMore, metAfter, telling, nextSlot, roundOf, finished, told, hearSlot, hearQuiet, doneAnswer, answerTurn, hear};
 ghost use Rattle.answer_v.specs.Heard.{readAnswer};
+ghost use Rattle.reader_v.specs.HearV.{outFrame, dataIn, dataRoom, isShort, withBits};
+ghost use Rattle.reader_v.specs.SafeV.{Safe};
 use crate::AnswerR;
 use crate::PhaseV;
 use crate::ReaderV;
@@ -306,5 +308,105 @@ pub fn hear_rules(r: ReaderV, row: &[u8]) -> TurnV
         PhaseV::ReadSent => hear_answer(true, r.count, r.status, row),
         PhaseV::OtherSent => hear_answer(false, 0, false, row),
         PhaseV::Stopped => turn(r, AnswerR::Declines(Refusal::NotDue)),
+    }
+}
+
+// ---- the call with which a row is heard
+
+// The bytes of a read go to the front of the lent room.
+pub fn put_data(t: TurnV, row: &[u8], bytes: &mut [u8])
+    requires { ⌜ Safe (t .answer) (t .reader) (now row) (length (now bytes)) ⌝ }
+    ensures { λ _. ⌜ now (bytes .exit) ≡ overlay (now (bytes .entry)) 0 (dataIn (t .answer) (now (row .entry))) ⌝ }
+{
+    let a = t.answer;
+    match a {
+        AnswerR::Sends => {},
+        AnswerR::NextSlot(_) => {},
+        AnswerR::NextRound(_) => {},
+        AnswerR::Ends(_) => {},
+        AnswerR::Quieted => {},
+        AnswerR::Data(n) => frame_b::within::bytes_of(&row[8..], n, bytes),
+        AnswerR::Done => {},
+        AnswerR::TagError(_) => {},
+        AnswerR::Declines(_) => {},
+    }
+}
+
+// The request of a sweep's next round, where it goes out. The answer is how many bits it has.
+pub fn put_next(t: TurnV, row: &[u8], room: usize, out: &mut [u8]) -> usize
+    requires { ⌜ Safe (t .answer) (t .reader) (now row) room × (112 ≤ length (now out)) ⌝ }
+    ensures { λ n. ⌜ n ≡ length (outFrame t) ⌝ }
+    ensures { λ n. ⌜ now (out .exit) ≡ overlay (now (out .entry)) 0 (outFrame t) ⌝ }
+{
+    let a = t.answer;
+    let r = t.reader;
+    match a {
+        AnswerR::Sends => 0,
+        AnswerR::NextSlot(_) => 0,
+        AnswerR::NextRound(_) => {
+            let k = r.round;
+            sent_v::within::put_round(k, out)
+        }
+        AnswerR::Ends(_) => 0,
+        AnswerR::Quieted => 0,
+        AnswerR::Data(_) => 0,
+        AnswerR::Done => 0,
+        AnswerR::TagError(_) => 0,
+        AnswerR::Declines(_) => 0,
+    }
+}
+
+fn widest(status: bool) -> usize
+    ensures { λ r. ⌜ r ≡ cond status 33 32 ⌝ }
+    ensures { λ r. ⌜ r ≤ 33 ⌝ }
+{
+    if status {
+        return 33;
+    }
+    32
+}
+
+fn read_room(r: ReaderV) -> usize
+    ensures { λ q. ⌜ q ≡ (r .count + 1) * cond (r .status) 33 32 ⌝ }
+{
+    (r.count as usize + 1) * widest(r.status)
+}
+
+fn data_room(p: PhaseV, r: ReaderV) -> usize
+    ensures { λ q. ⌜ q ≡ dataRoom p r ⌝ }
+{
+    match p {
+        PhaseV::Ready => 0,
+        PhaseV::InRound => 0,
+        PhaseV::InSweep => 0,
+        PhaseV::QuietSent => 0,
+        PhaseV::ReadSent => read_room(r),
+        PhaseV::OtherSent => 0,
+        PhaseV::Stopped => 0,
+    }
+}
+
+pub fn is_short(r: ReaderV, room: usize, out: usize) -> bool
+    ensures { λ q. ⌜ q ≡ isShort r room out ⌝ }
+{
+    let p = r.phase;
+    if room < data_room(p, r) {
+        return true;
+    }
+    out < 112
+}
+
+pub fn sized(t: TurnV, n: usize) -> TurnV
+    ensures { λ q. ⌜ q ≡ withBits t n ⌝ }
+{
+    let r = t.reader;
+    let a = t.answer;
+    let uid = t.uid;
+    TurnV {
+        reader: r,
+        answer: a,
+        bits: n,
+        dsfid: t.dsfid,
+        uid: uid,
     }
 }
