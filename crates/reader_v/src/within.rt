@@ -2,13 +2,15 @@
 ghost use mathlib.Core.Path.{_≡_};
 ghost use mathlib.Core.Bool.{true, cond};
 ghost use Prim.Native.Nat.{_+_, _*_, _≤_, _<_};
-ghost use lib.ListN.{length, set};
+ghost use lib.ListN.{length, set, replicate};
+ghost use lib.Dec.{ltb};
 ghost use Rattle.rows.specs.Rows.{overlay};
 ghost use Rattle.reader_v.specs.Met.{flagOf, firstMet};
-ghost use Rattle.reader_v.specs.ReaderV.{blank, atRound, turn, stop, isReady, isDeep, turnOf, isMore, metAfter, telling, nextSlot, roundOf, finished, told, hearSlot, hearQuiet, doneAnswer, answerTurn, hear};
+ghost use Rattle.reader_v.specs.ReaderV.{blank, atRound, reading, turn, stop, isReady, isDeep, turnOf, isMore, metAfter, telling, nextSlot, roundOf, finished, told, hearSlot, hearQuiet, doneAnswer, answerTurn, hear};
 ghost use Rattle.answer_v.specs.Heard.{readAnswer};
 ghost use Rattle.reader_v.specs.HearV.{outFrame, dataIn, dataRoom, isShort, withBits};
 ghost use Rattle.reader_v.specs.SafeV.{Safe};
+ghost use Rattle.reader_v.specs.CallsV.{Called, roundCall, requestCall, askedFor, isRound, isCount, lessOne, isFilling, roundFor, headFor};
 use crate::AnswerR;
 use crate::PhaseV;
 use crate::ReaderV;
@@ -19,6 +21,8 @@ use answer_v::Turn;
 use refusal::Refusal;
 use selection_b::Held;
 use selection_b::SlotSays;
+use sent_v::Head;
+use sent_v::Mode;
 use sent_v::Round;
 
 // ---- readers and turns
@@ -408,5 +412,161 @@ pub fn sized(t: TurnV, n: usize) -> TurnV
         bits: n,
         dsfid: t.dsfid,
         uid: uid,
+    }
+}
+
+// ---- calls
+
+// Tests 11, 1, 6; then an inventory goes out, and the reader is the next one.
+pub fn send_round(r: ReaderV, good: bool, k: Round, next: ReaderV, out: &mut [u8]) -> TurnV
+    requires { ⌜ (good ≡ true → k .len ≤ 64) ⌝ }
+    ensures { λ q. ⌜ Called r (roundCall good k next) (now (out .entry)) q (now (out .exit)) ⌝ }
+{
+    let p = r.phase;
+    if !is_ready(p) {
+        return turn(r, AnswerR::Declines(Refusal::NotDue));
+    }
+    if out.len() < 112 {
+        return turn(r, AnswerR::Declines(Refusal::Room));
+    }
+    if !good {
+        return turn(r, AnswerR::Declines(Refusal::Argument));
+    }
+    let n = sent_v::within::put_round(k, out);
+    sized(turn(next, AnswerR::Sends), n)
+}
+
+// Has a row of so many bits no room for a request with so many bytes of data?
+fn is_narrow(room: usize, n: usize) -> bool
+    ensures { λ b. ⌜ b ≡ ltb room (askedFor n) ⌝ }
+{
+    if room < 112 {
+        return true;
+    }
+    (room - 112) / 8 < n
+}
+
+// .. any other request.
+pub fn send_request(
+    r: ReaderV,
+    good: bool,
+    k: Head,
+    parameters: &[u8],
+    bytes: &[u8],
+    next: ReaderV,
+    out: &mut [u8],
+) -> TurnV
+    requires { ⌜ length (now parameters) ≤ 2 ⌝ }
+    ensures { λ q. ⌜ Called r (requestCall good k (now (parameters .entry)) (now (bytes .entry)) next) (now (out .entry)) q (now (out .exit)) ⌝ }
+{
+    let p = r.phase;
+    if !is_ready(p) {
+        return turn(r, AnswerR::Declines(Refusal::NotDue));
+    }
+    if is_narrow(out.len(), bytes.len()) {
+        return turn(r, AnswerR::Declines(Refusal::Room));
+    }
+    if !good {
+        return turn(r, AnswerR::Declines(Refusal::Argument));
+    }
+    let n = sent_v::within::put_request(k, parameters, bytes, out);
+    sized(turn(next, AnswerR::Sends), n)
+}
+
+// ---- arguments
+
+pub fn is_round(slots: u8, len: u8) -> bool
+    ensures { λ b. ⌜ b ≡ isRound slots len ⌝ }
+{
+    if slots == 1 {
+        return len <= 64;
+    }
+    if slots == 16 {
+        return len <= 60;
+    }
+    false
+}
+
+pub fn is_count(count: u16) -> bool
+    ensures { λ b. ⌜ b ≡ isCount count ⌝ }
+{
+    if count < 1 {
+        return false;
+    }
+    count <= 256
+}
+
+pub fn less_one(count: u16) -> u8
+    ensures { λ n. ⌜ n ≡ lessOne count ⌝ }
+{
+    if count < 1 {
+        return 0;
+    }
+    ((count - 1) % 256) as u8
+}
+
+pub fn is_filling(count: u16, n: usize) -> bool
+    ensures { λ b. ⌜ b ≡ isFilling count n ⌝ }
+{
+    if !is_count(count) {
+        return false;
+    }
+    if count < 1 {
+        return false;
+    }
+    let c = count as usize;
+    if n % c != 0 {
+        return false;
+    }
+    if n / c < 1 {
+        return false;
+    }
+    n / c <= 32
+}
+
+pub fn round_for(one: bool, asks: bool, afi: u8, len: u8, mask: [u8; 8]) -> Round
+    ensures { λ k. ⌜ k ≡ roundFor one asks afi len mask ⌝ }
+{
+    Round {
+        one: one,
+        asks: asks,
+        afi: afi,
+        len: len,
+        mask: mask,
+    }
+}
+
+pub fn start(p: PhaseV, k: Round) -> ReaderV
+    ensures { λ r. ⌜ r ≡ atRound p k (replicate 240 0) ⌝ }
+{
+    let m = [0u8; 240];
+    at_round(p, k, m)
+}
+
+pub fn head_for(m: Mode, uid: [u8; 8], option: bool, code: u8) -> Head
+    ensures { λ k. ⌜ k ≡ headFor m uid option code ⌝ }
+{
+    Head {
+        mode: m,
+        uid: uid,
+        option: option,
+        code: code,
+    }
+}
+
+pub fn reading(count: u8, status: bool) -> ReaderV
+    ensures { λ r. ⌜ r ≡ reading count status ⌝ }
+{
+    let b = blank(PhaseV::ReadSent);
+    let p = b.phase;
+    let k = b.round;
+    let m = b.met;
+    ReaderV {
+        phase: p,
+        round: k,
+        slot: 0,
+        count: count,
+        status: status,
+        met: m,
     }
 }

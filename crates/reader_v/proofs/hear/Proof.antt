@@ -18,7 +18,7 @@ turn-requires c κs = search needs
 
 returns : tie.Need-returns
 unfolding hearCall heardData heardRow
-returns c = 
+returns c =
     let a = c .before .before .before .before .before .before .args in
     let h = now (a .row) in
     let x = now (a .bytes) in
@@ -34,7 +34,7 @@ turn-requires-2 c κs = search needs
 
 returns-2 : tie.Need-returns-2
 unfolding hearCall heardData heardRow
-returns-2 c = 
+returns-2 c =
     let a = c .before .before .before .before .before .before .before .before .args in
     let h = now (a .row) in
     let x = now (a .bytes) in
@@ -63,7 +63,7 @@ same-length-2 c = search needs
 
 returns-3 : tie.Need-returns-3
 unfolding hearCall heardData heardRow
-returns-3 c = 
+returns-3 c =
     let a = c .before .before .before .before .before .before .before .before .before .before .before .before .before .before .before .before .before .args in
     let h = now (a .row) in
     let x = now (a .bytes) in

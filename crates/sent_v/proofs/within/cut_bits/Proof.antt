@@ -31,7 +31,7 @@ put-requires : tie.Need-put-requires
 put-requires c κs = rw length-take (omega arith)
 
 returns : tie.Need-returns
-returns c = 
+returns c =
     let w = bits-whole (c .before .before .before .before .before .before .before .before .args .t1) _ (search needs) (c .before .before .before .before .before .put-bits .ensures) in
     cut-is _ _ (c .before .put .ensures ∙ ap (λ r. overlay (replicate 64 0) 0 (take (c .before .before .before .before .before .before .before .before .args .len) r)) w)
 

@@ -34,7 +34,7 @@ add-n : tie.Need-add-n
 add-n c = search needs
 
 put-crc-requires : tie.Need-put-crc-requires
-put-crc-requires c κs = 
+put-crc-requires c κs =
     let a = now (c .before .before .before .before .before .before .before .before .before .before .before .before .before .before .before .before .before .args .a) in
     let b = now (c .before .before .before .before .before .before .before .before .before .before .before .before .before .before .before .before .before .args .b) in
     let d = now (c .before .before .before .before .before .before .before .before .before .before .before .before .before .before .before .before .before .args .d) in
@@ -51,12 +51,11 @@ same-length : tie.Need-same-length
 same-length c = search needs
 
 returns : tie.Need-returns
-returns c = 
+returns c =
     let a = now (c .before .before .before .before .before .before .before .before .before .before .before .before .before .before .before .before .before .before .before .before .args .a) in
     let b = now (c .before .before .before .before .before .before .before .before .before .before .before .before .before .before .before .before .before .before .before .before .args .b) in
     let d = now (c .before .before .before .before .before .before .before .before .before .before .before .before .before .before .before .before .before .before .before .before .args .d) in
-    let o = parts-put (now (c .before .before .before .before .before .before .before .before .before .before .before .before .before .before .before .before .before .before .before .before .args .out)) a b d _ _ _ (c .before .before .before .before .before .before .before .before .before .before .before .before .before .before .before .before .before .before .before .before .pre) (c .before .before .before .before .before .before .before .before .before .before .before .before .before .before .put-bits .ensures) (c .before .before .before .before .before .before .before .before .before .before .put-bits2 .ensures) (c .before .before .before .before .before .before .put-bits3 .ensures) in
-    (
+    let o = parts-put (now (c .before .before .before .before .before .before .before .before .before .before .before .before .before .before .before .before .before .before .before .before .args .out)) a b d _ _ _ (c .before .before .before .before .before .before .before .before .before .before .before .before .before .before .before .before .before .before .before .before .pre) (c .before .before .before .before .before .before .before .before .before .before .before .before .before .before .put-bits .ensures) (c .before .before .before .before .before .before .before .before .before .before .put-bits2 .ensures) (c .before .before .before .before .before .before .put-bits3 .ensures) in (
       omega (arith, length-frame (a ++ (b ++ d)), parts-length a b d),
       closed (now (c .before .before .before .before .before .before .before .before .before .before .before .before .before .before .before .before .before .before .before .before .args .out)) (a ++ (b ++ d)) _ _ (length a + length b + length d) (parts-bytes a b d (bytes-at a (c .before .before .before .before .before .before .before .before .before .before .before .before .before .before .before .before .before .before .before .shared-slice-known .given)) (bytes-at b (c .before .before .before .before .before .before .before .before .before .before .before .before .before .before .before .before .before .before .shared-slice-known2 .given)) (bytes-at d (c .before .before .before .before .before .before .before .before .before .before .before .before .before .before .before .before .before .shared-slice-known3 .given))) (parts-length a b d) (c .before .before .before .before .before .before .before .before .before .before .before .before .before .before .before .before .before .before .before .before .pre) o (c .before .before .put-crc .ensures),
     )

@@ -53,7 +53,7 @@ same-length c = search needs
 
 returns : tie.Need-returns
 unfolding roundBytes
-returns c = 
+returns c =
     let p = c .before .before .put-parts .ensures in
     rw (c .before .before .before .before .before .before .before .before .before .before .before .before .round-flags .ensures, c .before .before .before .before .before .before .before .before .before .before .before .round-length .ensures .0, c .before .before .before .before .before .before .before .before .cut-mask .ensures) at p
 
