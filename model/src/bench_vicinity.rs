@@ -210,7 +210,8 @@ impl Program for BenchVicinity {
                 if answer.is_empty() {
                     format!("silent ; {state}")
                 } else {
-                    let bytes: Vec<u8> = answer.chunks(8).map(|bits| bits.iter().rev().fold(0, |sum, bit| 2 * sum + bit)).collect();
+                    let bytes: Vec<u8> =
+                        answer.chunks(8).map(|bits| bits.iter().rev().fold(0, |sum, bit| 2 * sum + bit)).collect();
                     format!("answer {} ; {state}", show_hex(&bytes))
                 }
             }

@@ -83,7 +83,8 @@ fn unfit(field: &[Tag]) -> Option<&'static str> {
 
 /// The claim, from the UIDs alone, and the number of rounds; each tag is as it was, but for a round that was under way.
 fn check(before: &[Tag], after: &[Tag], afi: Option<u8>, found: &[Uid], rounds: usize) {
-    let admitted = |tag: &&Tag| tag.state == State::Ready && afi.map_or(true, |asked| tag.afi.is_some_and(|own| admits(asked, own)));
+    let admitted =
+        |tag: &&Tag| tag.state == State::Ready && afi.map_or(true, |asked| tag.afi.is_some_and(|own| admits(asked, own)));
     let ready: Vec<Row> = before.iter().filter(admitted).map(|tag| plain(&tag.uid)).collect();
     let mut heard = Vec::new();
     assert_eq!(order(&ready, 0, &mut heard), rounds, "the rounds");
@@ -131,7 +132,8 @@ mod tests {
     /// Five UIDs that end in 011, 021, 012, 111, 003: heard as 012, 003, 021, 011, 111.
     #[test]
     fn the_order_heard() {
-        let mut field = tags(&["11000000000104E0", "21000000000104E0", "12000000000104E0", "11010000000104E0", "03000000000104E0"]);
+        let mut field =
+            tags(&["11000000000104E0", "21000000000104E0", "12000000000104E0", "11010000000104E0", "03000000000104E0"]);
         let mut list = vec![0xFF; 360];
         let found = sweep(&mut Reader::Ready, &mut field, &mut list, None).unwrap();
         let heard: Vec<String> = found.iter().map(|uid| show_hex(&uid[..2])).collect();

@@ -56,7 +56,11 @@ pub enum Reader {
 pub enum Said {
     Sends(Frame),
     /// What the slot held, and what goes out for the next slot or round.
-    Slot { slot: u8, held: Held, next: Option<Frame> },
+    Slot {
+        slot: u8,
+        held: Held,
+        next: Option<Frame>,
+    },
     Quiet,
     Data(Vec<u8>),
     Good,
@@ -208,7 +212,8 @@ impl Reader {
             Reader::Silence => Err(refusal::FORBIDDEN),
             Reader::Data { blocks, status } => {
                 let most = (1..=32).map(|size| blocks * (size + status as usize));
-                answered(row, &most.collect::<Vec<usize>>()).map(|(error, data)| if error { Said::Error(data[0]) } else { Said::Data(data) })
+                answered(row, &most.collect::<Vec<usize>>())
+                    .map(|(error, data)| if error { Said::Error(data[0]) } else { Said::Data(data) })
             }
             Reader::Word => answered(row, &[0]).map(|(error, data)| if error { Said::Error(data[0]) } else { Said::Good }),
         };
@@ -249,7 +254,11 @@ impl Round {
                 sweep.masks.push([&self.mask[..], &slot_bits(met)].concat());
             }
             if let Some(mask) = sweep.masks.pop() {
-                note("Vicinity sweep", "further round", if mask.len() > self.mask.len() { "below this one" } else { "beside or above" });
+                note(
+                    "Vicinity sweep",
+                    "further round",
+                    if mask.len() > self.mask.len() { "below this one" } else { "beside or above" },
+                );
                 self.slot = 0;
                 self.mask = mask;
                 let frame = inventory(self.slots, &self.mask, self.afi);
@@ -341,7 +350,10 @@ mod tests {
             (Call::Write { mode: own(), block: 11, data: hex("11223344") }, "22210123456789AB04E00B11223344381B"),
             (Call::Lock { mode: own(), block: 11 }, "22220123456789AB04E00BADE2"),
             (Call::Reads { mode: own(), first: 11, count: 2, status: false }, "22230123456789AB04E00B016DCA"),
-            (Call::Writes { mode: own(), first: 11, count: 2, data: hex("1122334455667788") }, "22240123456789AB04E00B01112233445566778816D6"),
+            (
+                Call::Writes { mode: own(), first: 11, count: 2, data: hex("1122334455667788") },
+                "22240123456789AB04E00B01112233445566778816D6",
+            ),
             (Call::Select(uid), "22250123456789AB04E0DBAD"),
             (Call::Reset(own()), "22260123456789AB04E0DC7B"),
             (Call::Reset(Mode::Any), "0226C378"),

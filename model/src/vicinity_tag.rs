@@ -167,34 +167,34 @@ impl Tag {
             return Row::new();
         }
         let in_round = self.round.take().is_some();
-        let silent = |state: State, why: &str| {
+        let seen = |state: State, why: &str| {
             note("Vicinity row", state.name(), why);
             if in_round {
                 note("Vicinity round", "ended", why);
             }
         };
         let Some(bytes) = checked(row) else {
-            silent(self.state, if row.is_empty() { "empty" } else { "damaged" });
+            seen(self.state, if row.is_empty() { "empty" } else { "damaged" });
             return Row::new();
         };
         let [flags, code, ref rest @ ..] = bytes[..] else {
-            silent(self.state, "under four bytes");
+            seen(self.state, "under four bytes");
             return Row::new();
         };
         let flags = Flags(flags);
         if flags.bit(4) || flags.bit(8) {
-            silent(self.state, "b4 or b8");
+            seen(self.state, "b4 or b8");
             return Row::new();
         }
         if flags.bit(3) {
-            silent(self.state, "inventory flag");
+            seen(self.state, "inventory flag");
             return self.inventory(flags, code, rest).unwrap_or_default();
         }
         if flags.bit(5) && flags.bit(6) {
-            silent(self.state, "both flags");
+            seen(self.state, "both flags");
             return Row::new();
         }
-        silent(self.state, "request");
+        seen(self.state, "request");
         match self.request(flags, code, rest) {
             Some(answer) => with_crc(&answer),
             None => Row::new(),
