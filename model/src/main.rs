@@ -41,7 +41,7 @@ model vectors_frame | vectors_front | vectors_sweep | vectors_exchange | vectors
 model write DIR                          write the stored scripts and their answers
 model check DIR                          compare the stored ones with what would be written
 model coverage                           what the stored scripts reach
-model scripts card|reader|field|exchange|lossy|front|type_b COUNT SEED   random scripts for larger comparisons";
+model scripts card|reader|field|exchange|lossy|front|type_b|vicinity COUNT SEED   random scripts for larger comparisons";
 
 fn report(outcome: Result<(), String>) {
     if let Err(what) = outcome {
@@ -61,7 +61,8 @@ fn random_scripts(kind: &str, count: &str, seed: &str) -> Result<(), String> {
         "lossy" => scripts::lossy::random_scripts(count, seed).input,
         "front" => scripts::front::random_scripts(count, seed).input,
         "type_b" => scripts::type_b::random_scripts(count, seed).input,
-        _ => return Err("scripts for card, reader, field, exchange, lossy, front or type_b".to_string()),
+        "vicinity" => scripts::vicinity::random_scripts(count, seed).input,
+        _ => return Err("scripts for card, reader, field, exchange, lossy, front, type_b or vicinity".to_string()),
     };
     print!("{text}");
     Ok(())

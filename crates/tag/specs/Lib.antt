@@ -4,5 +4,7 @@ pub mod Calls
 pub mod Safe
 pub mod SafeLaws
 pub mod TagTable
+pub mod Written
+pub mod WrittenLaws
 pub mod MemoryLaws
 pub mod CallLaws
