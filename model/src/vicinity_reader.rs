@@ -123,6 +123,9 @@ impl Call {
     }
 }
 
+/// Lengths of a mask beside the limits, to be counted one by one.
+pub const MASKS: [u8; 9] = [0, 1, 4, 59, 60, 61, 63, 64, 65];
+
 /// Flags: b2, the Address or the Select flag, the Option flag; then the code, the UID where it is addressed, and the rest.
 fn request(mode: &Mode, option: bool, code: u8, rest: &[u8]) -> Vec<u8> {
     let option = if option { 0x40 } else { 0x00 };
@@ -182,7 +185,8 @@ impl Reader {
             _ => Err(refusal::ARGUMENT),
         };
         if matches!(slots, 1 | 16) {
-            note("Vicinity mask", &format!("{slots} slots"), &length.to_string());
+            let column = if MASKS.contains(&length) { length.to_string() } else { "another".to_string() };
+            note("Vicinity mask", if slots == 1 { "1 slot" } else { "16 slots" }, &column);
         }
         self.start("inventory", next)
     }
