@@ -12,6 +12,7 @@ pub mod reader;
 pub mod reader_blocks;
 pub mod type_b;
 pub mod vicinity;
+pub mod vicinity_reader;
 
 use crate::frames::{self, Row, COLLIDED};
 use crate::language::{show_hex, show_row};

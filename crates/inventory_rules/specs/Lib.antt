@@ -1,0 +1,3 @@
+pub mod RunV
+pub mod Claim
+pub mod RequestLaws
