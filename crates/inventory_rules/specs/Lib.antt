@@ -1,3 +1,5 @@
 pub mod RunV
 pub mod Claim
 pub mod RequestLaws
+pub mod InRound
+pub mod TagLaws

@@ -384,7 +384,7 @@ fn states(s: &mut S) {
         // Select of another UID, not good and then good.
         alone(s, &format!("1 1 {state}"));
         take(s, &to(TWO, 0x22, 0x25, &[0x00]));
-        for flags in [0x62, 0x12, 0x02, 0x2A] {
+        for flags in [0x62, 0x12, 0x02, 0x2A, 0x32] {
             take(s, &to(TWO, flags, 0x25, &[]));
         }
         take(s, &to("11000000000104E1", 0x20, 0x25, &[]));
@@ -429,7 +429,7 @@ fn counts(s: &mut S) {
     s.say("memory 1");
     s.remark("the longest blocks");
     alone(s, "256 32");
-    for (first, count) in [(255, 1), (1, 40)] {
+    for (first, count) in [(255, 1), (0, 255)] {
         let data: Vec<u8> = (0..32 * count).map(|i| (i * 5 + first) as u8).collect();
         s.say(&format!("writes {ONE} {first} {count} {}", show_hex(&data)));
         s.say("air");
