@@ -378,6 +378,36 @@ mod tests {
         }
     }
 
+    /// What each call makes of an answer: one block, two, each with status and without, and a word.
+    #[test]
+    fn answers() {
+        let data = |blocks, status| Reader::Data { blocks, status };
+        let read = |text: &str| Ok(Said::Data(hex(text)));
+        for (reader, bytes, said) in [
+            (data(1, false), "0005", read("05")),
+            (data(1, false), "0105", Err(refusal::FORBIDDEN)),
+            (data(1, false), "01A0", Ok(Said::Error(0xA0))),
+            (data(1, false), "00", Err(refusal::LENGTH)),
+            (data(1, true), "0005", Err(refusal::FORBIDDEN)),
+            (data(1, true), "000105", read("0105")),
+            (data(2, false), "0005", Err(refusal::FORBIDDEN)),
+            (data(2, false), "000506", read("0506")),
+            (data(2, false), "00050607", Err(refusal::LENGTH)),
+            (data(2, true), "000506", Err(refusal::LENGTH)),
+            (data(2, true), "0000050106", read("00050106")),
+            (data(2, true), "0100050106", Err(refusal::FORBIDDEN)),
+            (Reader::Word, "00", Ok(Said::Good)),
+            (Reader::Word, "01", Err(refusal::FORBIDDEN)),
+            (Reader::Word, "0001", Err(refusal::FORBIDDEN)),
+            (Reader::Word, "0112", Ok(Said::Error(0x12))),
+            (Reader::Word, "000506", Err(refusal::LENGTH)),
+        ] {
+            let mut heard = reader.clone();
+            assert_eq!(heard.hear(&with_crc(&hex(bytes))), said, "{reader:?} {bytes}");
+            assert_eq!(heard, if said.is_ok() { Reader::Ready } else { Reader::Stopped });
+        }
+    }
+
     #[test]
     fn error_codes() {
         let codes: Vec<u8> = (0..=255).filter(|&code| is_error(code)).collect();

@@ -469,6 +469,64 @@ mod tests {
         }
     }
 
+    /// The first error that fits, of a tag whose block 1 is locked, addressed and to any: None is silence.
+    #[test]
+    fn the_order_of_errors() {
+        let mut tag = tag();
+        tag.locked[1] = true;
+        let before = tag.clone();
+        for (option, code, rest, addressed, any) in [
+            (0x40, 0x27, "-", Some(0x01), None),
+            (0x40, 0x20, "FF00", Some(0x02), None),
+            (0x40, 0x21, "FF112233", Some(0x02), None),
+            (0x40, 0x24, "0101AABBCCDD", Some(0x02), None),
+            (0x40, 0x25, "00", Some(0x02), None),
+            (0x40, 0x21, "1011223344", Some(0x10), Some(0x10)),
+            (0x00, 0x23, "FFFF", Some(0x10), Some(0x10)),
+            (0x40, 0x24, "0F011122334455667788", Some(0x10), Some(0x10)),
+            (0x40, 0x22, "01", Some(0x11), Some(0x11)),
+            (0x40, 0x24, "00011122334455667788", Some(0x12), Some(0x12)),
+            (0x40, 0x22, "00", Some(0x03), Some(0x03)),
+            (0x40, 0x26, "-", Some(0x03), Some(0x03)),
+            (0x40, 0x25, "-", Some(0x03), None),
+            (0x40, 0x02, "-", None, None),
+        ] {
+            for (flags, error) in [(0x22, addressed), (0x02, any)] {
+                let uid = if flags == 0x22 { &before.uid[..] } else { &[] };
+                let answer = tag.take(&with_crc(&[&[flags | option, code][..], uid, &hex(rest)].concat()));
+                assert_eq!(answer, error.map_or(Row::new(), |error| with_crc(&[0x01, error])), "{flags:02X} {code:02X} {rest}");
+                assert_eq!(tag, before);
+            }
+        }
+    }
+
+    /// Where each good frame leads from ready, quiet and selected.
+    #[test]
+    fn the_states() {
+        let own = "0123456789AB04E0";
+        let other = "0123456789AB04E1";
+        use State::{Quiet, Ready, Selected};
+        for (frame, to) in [
+            (format!("2202{own}"), [Quiet, Quiet, Quiet]),
+            (format!("2225{own}"), [Selected, Selected, Selected]),
+            (format!("2226{own}"), [Ready, Ready, Ready]),
+            ("0226".to_string(), [Ready, Quiet, Ready]),
+            ("1226".to_string(), [Ready, Quiet, Ready]),
+            (format!("2225{other}"), [Ready, Quiet, Ready]),
+            (format!("2202{other}"), [Ready, Quiet, Selected]),
+            (format!("3225{other}"), [Ready, Quiet, Selected]),
+            (format!("6225{other}"), [Ready, Quiet, Selected]),
+            (format!("2225{other}00"), [Ready, Quiet, Selected]),
+            ("260100".to_string(), [Ready, Quiet, Selected]),
+        ] {
+            for (from, to) in [Ready, Quiet, Selected].into_iter().zip(to) {
+                let mut tag = Tag { state: from, ..tag() };
+                tag.take(&with_crc(&hex(&frame)));
+                assert_eq!(tag.state, to, "{frame} {from:?}");
+            }
+        }
+    }
+
     /// A round of 16 slots has 15 EOFs, and the tag is as before behind the last.
     #[test]
     fn a_round() {
