@@ -3,3 +3,4 @@ pub mod Claim
 pub mod RequestLaws
 pub mod InRound
 pub mod TagLaws
+pub mod SlotLaws

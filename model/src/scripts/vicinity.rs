@@ -441,11 +441,11 @@ fn counts(s: &mut S) {
 fn random_script(s: &mut S, random: &mut Random) {
     all(s, "clear; new");
     let mut uids: Vec<String> = Vec::new();
-    for i in 0..random.below(5) {
+    for i in 0..random.pick(&[0, 1, 1, 2, 2, 3, 4, 6]) {
         let uid = if i > 0 && random.chance(8) { random.pick(&uids) } else { near(random) };
         let state = random.pick(&["ready", "ready", "ready", "ready", "quiet", "selected", "off"]);
         let afi = random.pick(&["none", "20", "21"]);
-        let (blocks, size) = (1 + random.below(4), random.pick(&[1, 2, 2, 2, 4]));
+        let (blocks, size) = (random.pick(&[1, 3, 4, 4, 4, 6]), random.pick(&[1, 2, 2, 2, 2, 2, 4]));
         s.say(&format!("tag {uid} {blocks} {size} {state} {afi} {:02X}", random.byte()));
         uids.push(uid);
     }
@@ -474,12 +474,12 @@ fn go_on(s: &mut S, random: &mut Random) {
 fn turn(s: &mut S, random: &mut Random, uids: &[String]) {
     let uid = if uids.is_empty() || random.chance(5) { near(random) } else { random.pick(uids) };
     let mode = random.pick(&[uid.as_str(), uid.as_str(), "any", "any", "selected"]);
-    let block = random.below(5);
-    let count = 1 + random.below(4);
-    let size = random.pick(&[1, 2, 2, 2, 4]);
+    let block = random.pick(&[0, 0, 1, 1, 2, 3, 5]);
+    let count = 1 + random.below(3);
+    let size = random.pick(&[1, 2, 2, 2, 2, 2, 4]);
     let status = random.pick(&["", "", " status"]);
     let afi = random.pick(&["", "", "", " 00", " 20", " 21"]);
-    let call = match random.below(18) {
+    let call = match random.below(19) {
         0 | 1 => format!("field sweep{afi}"),
         2 => {
             let other = random.below(66);
@@ -494,7 +494,7 @@ fn turn(s: &mut S, random: &mut Random, uids: &[String]) {
         9 => format!("reads {mode} {block} {count}{status}"),
         10 => format!("write {mode} {block} {}", show_hex(&random.bytes(size))),
         11 => format!("writes {mode} {block} {count} {}", show_hex(&random.bytes(count * size))),
-        12 => format!("lock {mode} {block}"),
+        12 | 18 => format!("lock {mode} {block}"),
         13 | 14 if !uids.is_empty() => {
             let place = 1 + random.below(uids.len());
             let flags = random.pick(&[0x26, 0x06, 0x36, 0x22, 0x22, 0x02, 0x12, 0x62, 0x42, 0x66, 0x32, 0x2A]);
