@@ -69,7 +69,7 @@ pub fn bench_scripts() {
 
 /// Plays the script of Type B again, for what it reaches.
 pub fn type_b_script() {
-    let input = scripts::type_b::script(SEED + 8).input;
+    let input = scripts::type_b::script(SEED + 10).input;
     crate::coverage::forget();
     let mut replayed = Script::new(crate::bench_type_b::BenchTypeB::new());
     input.lines().for_each(|line| drop(replayed.say(line)));

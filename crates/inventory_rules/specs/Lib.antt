@@ -4,3 +4,5 @@ pub mod RequestLaws
 pub mod InRound
 pub mod TagLaws
 pub mod SlotLaws
+pub mod Rounds
+pub mod RoundLaws

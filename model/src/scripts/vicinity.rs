@@ -225,9 +225,14 @@ fn afi(s: &mut S) {
 /// EOFs in a round and outside, and every row that ends one.
 fn rounds(s: &mut S) {
     s.remark("rounds: the slot of each tag, and EOFs behind the last");
-    for (state, first, eofs) in
-        [("ready", "01", 3), ("ready", "00", 2), ("ready", "0F", 17), ("selected", "0E", 17), ("quiet", "02", 3)]
-    {
+    for (state, first, eofs) in [
+        ("ready", "01", 3),
+        ("ready", "00", 2),
+        ("selected", "00", 1),
+        ("ready", "0F", 17),
+        ("selected", "0E", 17),
+        ("quiet", "02", 3),
+    ] {
         s.say("clear");
         s.say(&format!("tag {first}000000000104E0 1 1 {state}"));
         s.say("take 1 eof");
