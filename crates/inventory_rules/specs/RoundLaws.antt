@@ -1,6 +1,7 @@
 -- A whole round over a field: each slot is told as its tags make it, and every tag is what it was. Assumes nothing.
 use mathlib.Core.Path.{_≡_, refl, sym, ap, _∙_}
 use Prim.Native.Nat.{ℕ, zero, suc, _+_, _-_, _≤_, _<_}
+use native.Mathlib.Nat.{zero-add}
 use native.Mathlib.Numerals.{add-one}
 use native.Mathlib.Omega.{arith}
 use mathlib.Core.Bool.{Bool, true, false, cond, not, _&&_}
@@ -111,11 +112,11 @@ module _ (sweeps asks : Bool) (afi len : ℕ) (mask : List ℕ) (ha : afi < 256)
   told-last m = refl
 
   -- what follows it
-  follow-last : (m : List ℕ) (us : List Tag) (fuel : ℕ) (x : Told)
-      → (t : TurnV) → t ≡ finished sweeps (readerAt sweeps (roundFor false asks afi len mask) 15 m) (x .held) (slotV x) m
+  follow-last : (n m : List ℕ) (us : List Tag) (fuel : ℕ) (x : Told)
+      → (t : TurnV) → t ≡ finished sweeps (readerAt sweeps (roundFor false asks afi len mask) 15 n) (x .held) (slotV x) m
       → follow (t .answer) t us (run fuel (t .reader) us) ≡ before x (after sweeps (roundFor false asks afi len mask) m fuel us)
   unfolding finished after
-  follow-last m us fuel x t e = rw e (go (sweeps && ltb (firstMet m) flags))
+  follow-last n m us fuel x t e = rw e (go (sweeps && ltb (firstMet m) flags))
     where
       K : Round
       K = roundFor false asks afi len mask
@@ -127,3 +128,45 @@ module _ (sweeps asks : Bool) (afi len : ℕ) (mask : List ℕ) (ha : afi < 256)
           ≡ before x (cond b (run fuel (rules.atRound InSweep (rules.roundOf K (firstMet m)) (set m (firstMet m) 0)) us) (ended us (rules.blank Ready) 0))
       go true = refl
       go false = refl
+
+  -- ---- the run
+
+  run-by : (f : ℕ) (r : ReaderV) (us vs : List Tag) (t : TurnV) → hear r (heardOf r us) ≡ t → tagsAfter r us ≡ vs → run (suc f) r us ≡ follow (t .answer) t vs (run f (t .reader) vs)
+  unfolding run
+  run-by f r us vs t e d = rw (e, d)
+
+  module _ (hears : Hears) where
+    heard : (s : ℕ) (m : List ℕ) → s < 16
+        → hear (readerAt sweeps (roundFor false asks afi len mask) s m) (heardOf (readerAt sweeps (roundFor false asks afi len mask) s m) (tagsAt (roundFor false asks afi len mask) s ts))
+        ≡ rules.told sweeps (readerAt sweeps (roundFor false asks afi len mask) s m) (held s .held) (slotV (held s))
+    heard s m h = rw (sent-in s m h) (hear-told s m (merge (map (sent (roundFor false asks afi len mask) s) ts)) (hears s h))
+
+    step-next : (s f : ℕ) (m : List ℕ) → s < 15
+        → run (suc f) (readerAt sweeps (roundFor false asks afi len mask) s m) (tagsAt (roundFor false asks afi len mask) s ts)
+        ≡ before (held s) (run f (readerAt sweeps (roundFor false asks afi len mask) (s + 1) (metBy sweeps (roundFor false asks afi len mask) ts s m)) (tagsAt (roundFor false asks afi len mask) (s + 1) ts))
+    step-next s f m h =
+        rw (add-one s) (run-by f _ _ (tagsAt (roundFor false asks afi len mask) (suc s) ts)
+        (telling (readerAt sweeps (roundFor false asks afi len mask) (suc s) (metBy sweeps (roundFor false asks afi len mask) ts s m)) (NextSlot (held s .held)) (slotV (held s)))
+        (heard s m (omega arith) ∙ rw add-one at (told-next s m h)) (tags-next s m))
+
+    step-last : (f : ℕ) (m : List ℕ)
+        → run (suc f) (readerAt sweeps (roundFor false asks afi len mask) 15 m) (tagsAt (roundFor false asks afi len mask) 15 ts)
+        ≡ before (held 15) (after sweeps (roundFor false asks afi len mask) (metBy sweeps (roundFor false asks afi len mask) ts 15 m) f (tagsAt (roundFor false asks afi len mask) 16 ts))
+    step-last f m =
+        let t : TurnV = finished sweeps (readerAt sweeps (roundFor false asks afi len mask) 15 m) (held 15 .held) (slotV (held 15)) (metBy sweeps (roundFor false asks afi len mask) ts 15 m) in
+        run-by f _ _ (tagsAt (roundFor false asks afi len mask) 16 ts) t (heard 15 m (omega arith) ∙ told-last m) (tags-next 15 m)
+        ∙ follow-last m (metBy sweeps (roundFor false asks afi len mask) ts 15 m) (tagsAt (roundFor false asks afi len mask) 16 ts) f (held 15) t refl
+
+    -- n slots more behind slot s
+    pub round-run : (n s f : ℕ) (m : List ℕ) → s + n ≡ 15
+        → run (suc (n + f)) (readerAt sweeps (roundFor false asks afi len mask) s m) (tagsAt (roundFor false asks afi len mask) s ts)
+        ≡ befores (map (λ s. toldOf (inSlot (roundFor false asks afi len mask) s ts)) (slotsFrom s (suc n)))
+        (after sweeps (roundFor false asks afi len mask) (metFrom sweeps (roundFor false asks afi len mask) ts s (suc n) m) f (tagsAt (roundFor false asks afi len mask) 16 ts))
+    unfolding slotsFrom befores metFrom
+    round-run zero s f m e =
+        let z : s ≡ 15 = omega arith in
+        rw (z, zero-add) (step-last f m)
+    round-run (suc n) s f m e =
+        let z : suc n + f ≡ suc (n + f) = omega arith in
+        rw z (step-next s (suc (n + f)) m (omega arith)
+        ∙ ap (before (held s)) (round-run n (s + 1) f (metBy sweeps (roundFor false asks afi len mask) ts s m) (omega arith)))
