@@ -3,14 +3,16 @@
 use mathlib.Core.Path.{_≡_}
 use Prim.Native.Nat.{ℕ, zero, suc, _+_, _≤_, _<_}
 use mathlib.Core.Bool.{Bool, true, false, cond, not, _&&_}
-use mathlib.Core.List.{List, [], _∷_, map}
+use mathlib.Core.List.{List, [], _∷_, _++_, map}
 use lib.ListN.{length, take, replicate}
 use lib.Dec.{eqb}
-use Rattle.rows.specs.Rows.{All, Bytes, any, same}
-use Rattle.frame.specs.Frame.{airBits}
+use Rattle.rows.specs.Rows.{All, Bytes, any, same, fill}
+use Rattle.parity.specs.Bits.{bitsOf}
+use Rattle.frame.specs.Frame.{airBits, bytesOf}
 use Rattle.selection_b.specs.TakenB.{admits}
 use Rattle.request_v.specs.Flags.{listens}
 use Rattle.request_v.specs.Inventory.{slotOf}
+use Rattle.reader_v.specs.ReaderV.{isMore}
 use Rattle.sent_v.specs.declared.Round.{Round}
 use Rattle.selection_b.specs.declared.Held.the-variants.{None, One, More}
 use Rattle.request_v.specs.declared.Tag.{Tag}
@@ -71,3 +73,21 @@ toldOf (t ∷ u ∷ ts) = record { held = More; dsfid = 0; uid = replicate 8 0 }
 unfoldable pub slotsFrom : ℕ → ℕ → List ℕ
 slotsFrom s zero = []
 slotsFrom s (suc n) = s ∷ slotsFrom (s + 1) n
+
+-- ---- a sweep
+
+-- the round with mask bits m
+unfoldable pub roundAt : Bool → ℕ → List ℕ → Round
+roundAt asks afi m = record { one = false; asks = asks; afi = afi; len = length m; mask = bytesOf 8 (fill 64 m) }
+
+unfoldable pub flat {ℓ} : {A : Type ℓ} → List (List A) → List A
+flat [] = []
+flat (x ∷ l) = x ++ flat l
+
+-- what is to be told of the tags that the mask m fits, d half bytes of the UID being left: "a round is finished, then its met slots are taken in rising order,
+-- each to its end"
+unfoldable pub sweepTold : Bool → ℕ → ℕ → List ℕ → List Tag → List Told
+sweepTold asks afi zero m ts = []
+sweepTold asks afi (suc d) m ts =
+    map (λ s. toldOf (inSlot (roundAt asks afi m) s ts)) (slotsFrom 0 16)
+    ++ flat (map (λ s. cond (isMore (toldOf (inSlot (roundAt asks afi m) s ts) .held)) (sweepTold asks afi d (m ++ bitsOf 4 s) ts) []) (slotsFrom 0 16))

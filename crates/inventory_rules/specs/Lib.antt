@@ -6,3 +6,4 @@ pub mod TagLaws
 pub mod SlotLaws
 pub mod Rounds
 pub mod RoundLaws
+pub mod FlagLaws

@@ -202,6 +202,12 @@ fn masks(s: &mut S) {
             s.say(&format!("take {place} eof"));
         }
     }
+    s.remark("over 60 bits and 16 slots: no round, though the UID's bits run out in slot 0");
+    all(s, "clear; tag F1DEBC9A78563400 1 1");
+    for length in [60, 61, 62, 63, 64] {
+        s.say(&format!("take 1 crc 0601{length:02X}F1DEBC9A78563400"));
+        s.say("take 1 eof");
+    }
 }
 
 /// The AFI: by the request on one side and the tag's own, or none, on the other.
