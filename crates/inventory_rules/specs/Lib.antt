@@ -7,3 +7,5 @@ pub mod SlotLaws
 pub mod Rounds
 pub mod RoundLaws
 pub mod FlagLaws
+pub mod MaskLaws
+pub mod SweepLaws

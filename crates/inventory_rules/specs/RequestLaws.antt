@@ -43,7 +43,7 @@ airBits-take (suc n) (b ∷ l) =
     let e : 8 * suc n ≡ length (bitsOf 8 b) + 8 * n = rw length-bits (omega arith) in
     rw e (ap (λ r. bitsOf 8 b ++ r) (airBits-take n l) ∙ sym (take-append-add (bitsOf 8 b) (airBits l) (8 * n)))
 
-fill-bits : (l : List ℕ) → Bits l → Bits (fill 64 l)
+pub fill-bits : (l : List ℕ) → Bits l → Bits (fill 64 l)
 unfolding fill
 fill-bits l b = all-append (λ x. x < 2) l (replicate (64 - length l) 0) b (none (64 - length l))
   where
@@ -51,7 +51,7 @@ fill-bits l b = all-append (λ x. x < 2) l (replicate (64 - length l) 0) b (none
     none zero = tt
     none (suc n) = (omega arith, none n)
 
-length-fill : (l : List ℕ) → length l ≤ 64 → length (fill 64 l) ≡ 64
+pub length-fill : (l : List ℕ) → length l ≤ 64 → length (fill 64 l) ≡ 64
 unfolding fill
 length-fill l h = rw (length-append, length-replicate) (omega arith)
 

@@ -70,7 +70,7 @@ module _ (sweeps asks : Bool) (afi len : ℕ) (mask : List ℕ) (ha : afi < 256)
       map-same (t ∷ l) = cc (rw (add-one) at (answers-eof (roundFor false asks afi len mask) t s (omega arith)), map-same l)
 
   -- behind the last slot they are what they were
-  tags-over : All (λ t. rests (t .state) ≡ true) ts → tagsAt (roundFor false asks afi len mask) 16 ts ≡ ts
+  pub tags-over : All (λ t. rests (t .state) ≡ true) ts → tagsAt (roundFor false asks afi len mask) 16 ts ≡ ts
   unfolding tagsAt
   tags-over a = over ts a
     where

@@ -86,14 +86,14 @@ module _ (k : Round) (deep : Bool) (s : ℕ) where
 
   module _ (t : Tag) (h : Typed t) (l : k .len ≤ 60) (b : s < 16) (e : place k t ≡ s) where
     -- it takes part, and this is its slot
-    part : (takesPart k t ≡ true) × (slotOf (t .uid) (k .len) ≡ s)
+    pub part : (takesPart k t ≡ true) × (slotOf (t .uid) (k .len) ≡ s)
     part = go (takesPart k t) refl (unfold place in e)
       where
         go : (x : Bool) → takesPart k t ≡ x → cond x (slotOf (t .uid) (k .len)) 16 ≡ s → (takesPart k t ≡ true) × (slotOf (t .uid) (k .len) ≡ s)
         go true p q = (p, q)
         go false p q = absurd (omega arith)
 
-    masked : same (take (k .len) (airBits (k .mask))) (take (k .len) (airBits (t .uid))) ≡ true
+    pub masked : same (take (k .len) (airBits (k .mask))) (take (k .len) (airBits (t .uid))) ≡ true
     masked =
         let a : Bool = cond (k .asks) (t .supports && admits (k .afi) (t .afi)) true in
         let m : Bool = same (take (k .len) (airBits (k .mask))) (take (k .len) (airBits (t .uid))) in
