@@ -9,3 +9,6 @@ pub mod RoundLaws
 pub mod FlagLaws
 pub mod MaskLaws
 pub mod SweepLaws
+pub mod Sweep
+pub mod ClaimLaws
+pub mod Example

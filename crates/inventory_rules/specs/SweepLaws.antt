@@ -151,7 +151,7 @@ module _ (asks : Bool) (afi : ℕ) (ha : afi < 256) (ts : List Tag) (ht : All Ty
         rw (z, befores-append first-tells (rest 0 16))
         (first-round (length (rest 0 16) + f) ∙ ap (befores first-tells) (slots-done 16 0 f m refl bm (omega arith) (omega arith) (take-length m)))
 
-  sweep-done : (d : ℕ) → 1 ≤ d → Done d
+  pub sweep-done : (d : ℕ) → 1 ≤ d → Done d
   unfolding sweepTold rest of-slot first-tells
   sweep-done zero h = absurd (omega arith)
   sweep-done (suc d) h = λ m F f bm lm lF cF. all-told d (sweep-done d) m F bm lm lF cF f
