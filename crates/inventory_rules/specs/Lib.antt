@@ -12,3 +12,5 @@ pub mod SweepLaws
 pub mod Sweep
 pub mod ClaimLaws
 pub mod Example
+pub mod Found
+pub mod CountLaws

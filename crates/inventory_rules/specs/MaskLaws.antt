@@ -66,11 +66,12 @@ module _ (asks : Bool) (afi : ℕ) where
 bits-tell : (x y : List ℕ) → Bytes x → Bytes y → length x ≡ 8 → length y ≡ 8 → airBits x ≡ airBits y → x ≡ y
 bits-tell x y bx bh lx ly e = sym (rw lx at (bytes-bits x bx)) ∙ ap (bytesOf 8) e ∙ rw ly at (bytes-bits y bh)
 
+pub four-back : (w : List ℕ) → Bits w → length w ≡ 4 → bitsOf 4 (unbits w) ≡ w
+unfolding fill
+four-back w b l = bits-unbits 4 w b (omega arith) ∙ rw l (append-nil w)
+
 four-tell : (u v : List ℕ) → Bits u → Bits v → length u ≡ 4 → length v ≡ 4 → unbits u ≡ unbits v → u ≡ v
-four-tell u v bu bv lu lv e = sym (whole u bu lu) ∙ ap (bitsOf 4) e ∙ whole v bv lv
-  where
-    whole : (w : List ℕ) → Bits w → length w ≡ 4 → bitsOf 4 (unbits w) ≡ w
-    whole w b l = bits-unbits 4 w b (omega arith) ∙ (unfold fill in rw l (append-nil w))
+four-tell u v bu bv lu lv e = sym (four-back u bu lu) ∙ ap (bitsOf 4) e ∙ four-back v bv lv
 
 module _ (k : Round) (s : ℕ) (hs : s < 16) (l : k .len ≡ 60) where
   same-tag : (t u : Tag) → Typed t → Typed u → place k t ≡ s → place k u ≡ s → t .uid ≡ u .uid

@@ -30,7 +30,7 @@ use Rattle.inventory_rules.specs.RequestLaws.{round-deed}
 
 -- ---- slots
 
-slot-lt : (uid : List ℕ) (len : ℕ) → slotOf uid len < 16
+pub slot-lt : (uid : List ℕ) (len : ℕ) → slotOf uid len < 16
 unfolding slotOf
 slot-lt uid len = unbits-lt 4 (take 4 (drop len (airBits uid))) (all-take (λ x. x < 2) 4 (drop len (airBits uid)) (all-drop (λ x. x < 2) len (airBits uid) (bits-airBits uid))) (rw length-take (omega arith))
 
