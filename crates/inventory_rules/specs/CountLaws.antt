@@ -5,7 +5,8 @@ use native.Mathlib.Nat.{zero-add}
 use native.Mathlib.Omega.{arith}
 use mathlib.Core.Bool.{Bool, true, false, cond, _&&_, true≢false}
 use mathlib.Core.List.{List, [], _∷_, _++_, append-assoc, map}
-use lib.ListN.{length, take, drop, length-append, length-take, length-drop}
+use lib.ListN.{length, take, drop, replicate, length-append, length-take, length-drop}
+use lib.Seq.{take-append-seam}
 use lib.Dec.{eqb}
 use borrow.Author.Tests.{eq-eqb, ne-eqb, eqb-true, eqb-false}
 use Rattle.rows.specs.Rows.{All, Bits, Bytes, fill, same}
@@ -141,3 +142,87 @@ same-four s r h b l = go (eqb (unbits r) s) refl
     go : (x : Bool) → eqb (unbits r) s ≡ x → same (bitsOf 4 s) r ≡ x
     go true e = rw (← eqb-true (unbits r) s e, four-back r b l) (same-refl r)
     go false e = same-ne (bitsOf 4 s) r (λ q. eqb-false (unbits r) s e (ap unbits (sym q) ∙ unbits-bits 4 s (omega arith)))
+
+module _ (asks : Bool) (afi : ℕ) where
+  -- the mask of a round, as bits
+  takes-as : (m : List ℕ) (t : Tag) → Bits m → length m ≤ 64
+      → takesPart (roundAt asks afi m) t ≡ (listens (t .state) && (cond asks (t .supports && admits afi (t .afi)) true && same m (take (length m) (airBits (t .uid)))))
+  unfolding takesPart roundAt
+  takes-as m t b h =
+      let e : take (length m) (airBits (bytesOf 8 (fill 64 m))) ≡ m = ap (take (length m)) (mask-air m b h) ∙ front m in
+      rw e
+    where
+      front : (m : List ℕ) → take (length m) (fill 64 m) ≡ m
+      front m = unfold fill in take-append-seam m (replicate (64 - length m) 0)
+
+  one-slot : (l a b : Bool) (p s : ℕ) → s < 16 → (l && (a && (b && eqb p s))) ≡ eqb (cond (l && (a && b)) p 16) s
+  one-slot true true true p s h = refl
+  one-slot true true false p s h = sym (ne-eqb 16 s (λ e. omega arith))
+  one-slot true false b p s h = sym (ne-eqb 16 s (λ e. omega arith))
+  one-slot false a b p s h = sym (ne-eqb 16 s (λ e. omega arith))
+
+  grown-part : (m : List ℕ) (s : ℕ) (t : Tag) → Bits m → length m + 4 ≤ 64 → s < 16 → Typed t → takesPart (roundAt asks afi (m ++ bitsOf 4 s)) t ≡ eqb (place (roundAt asks afi m) t) s
+  unfolding place
+  grown-part m s t b h hs ty =
+      let r : List ℕ = airBits (t .uid) in
+      let l : Bool = listens (t .state) in
+      let a : Bool = cond asks (t .supports && admits afi (t .afi)) true in
+      let n : length (m ++ bitsOf 4 s) ≡ length m + length (bitsOf 4 s) = length-append m (bitsOf 4 s) in
+      let f : length (bitsOf 4 s) ≡ 4 = length-bits 4 s in
+      let q : length (airBits (t .uid)) ≡ 64 = rw length-airBits (omega (arith, ty .eight)) in
+      let four : List ℕ = take 4 (drop (length m) (airBits (t .uid))) in
+      let lf : length (take 4 (drop (length m) (airBits (t .uid)))) ≡ 4 = rw (length-take, length-drop) (omega arith) in
+      let bf : Bits (take 4 (drop (length m) (airBits (t .uid)))) = all-take (λ v. v < 2) 4 (drop (length m) (airBits (t .uid))) (all-drop (λ v. v < 2) (length m) (airBits (t .uid)) (bits-airBits (t .uid))) in
+      let z : same (m ++ bitsOf 4 s) (take (length (m ++ bitsOf 4 s)) (airBits (t .uid))) ≡ (same m (take (length m) (airBits (t .uid))) && eqb (unbits (take 4 (drop (length m) (airBits (t .uid))))) s) =
+      rw n (same-parts m (bitsOf 4 s) (airBits (t .uid)) (omega arith) ∙ rw f (ap (λ x. same m (take (length m) (airBits (t .uid))) && x) (same-four s (take 4 (drop (length m) (airBits (t .uid)))) hs bf lf))) in
+      takes-as (m ++ bitsOf 4 s) t (all-append (λ v. v < 2) m (bitsOf 4 s) b (bits-bits 4 s)) (omega arith)
+      ∙ ap (λ x. listens (t .state) && (cond asks (t .supports && admits afi (t .afi)) true && x)) z
+      ∙ one-slot (listens (t .state)) (cond asks (t .supports && admits afi (t .afi)) true) (same m (take (length m) (airBits (t .uid)))) (unbits (take 4 (drop (length m) (airBits (t .uid))))) s hs
+      ∙ ap (λ x. eqb (cond x (unbits (take 4 (drop (length m) (airBits (t .uid))))) 16) s) (sym (takes-as m t b (omega arith)))
+      ∙ (unfold slotOf roundAt in refl)
+
+  -- the tags of a slot are those that take part in its round
+  part-slot : (m : List ℕ) (s : ℕ) (ts : List Tag) → Bits m → length m + 4 ≤ 64 → s < 16 → All Typed ts → partOf (roundAt asks afi (m ++ bitsOf 4 s)) ts ≡ inSlot (roundAt asks afi m) s ts
+  unfolding partOf inSlot
+  part-slot m s [] b h hs ty = refl
+  part-slot m s (t ∷ ts) b h hs ty = rw (grown-part m s t b h hs (ty .0), part-slot m s ts b h hs (ty .1))
+
+-- ---- a slot: one tag is told, of more the round of the lengthened mask tells
+
+slot-count : (u : List ℕ) (cs : List Tag) (B : List Told) → (isMore (toldOf cs .held) ≡ true → count u (foundIn B) ≡ count u (uidsOf cs))
+    → count u (foundOf (toldOf cs .held) (toldOf cs .uid)) + count u (foundIn (cond (isMore (toldOf cs .held)) B [])) ≡ count u (uidsOf cs)
+unfolding foundIn uidsOf count
+slot-count u [] B h = refl
+slot-count u (t ∷ []) B h = omega arith
+slot-count u (t ∷ v ∷ cs) B h = rw zero-add (h refl)
+
+module _ (u : List ℕ) (asks : Bool) (afi : ℕ) (ts : List Tag) (ht : All Typed ts) (hp : apart ts ≡ true) where
+  sweep-count : (d : ℕ) → 1 ≤ d → (m : List ℕ) → Bits m → length m + 4 * d ≡ 64 → count u (foundIn (sweepTold asks afi d m ts)) ≡ count u (uidsOf (partOf (roundAt asks afi m) ts))
+  unfolding sweepTold
+  sweep-count zero h m b l = absurd (omega arith)
+  sweep-count (suc d) h m b l =
+      let held : ℕ → Told = λ s. toldOf (inSlot (roundAt asks afi m) s ts) in
+      ap (count u) (found-append (map (λ s. toldOf (inSlot (roundAt asks afi m) s ts)) (slotsFrom 0 16)) _)
+      ∙ count-append u (foundIn (map (λ s. toldOf (inSlot (roundAt asks afi m) s ts)) (slotsFrom 0 16))) _
+      ∙ ap₂ (λ x y. x + y) (count-tells u (λ s. toldOf (inSlot (roundAt asks afi m) s ts)) 16 0)
+      (count-flat u (λ s. cond (isMore (toldOf (inSlot (roundAt asks afi m) s ts) .held)) (sweepTold asks afi d (m ++ bitsOf 4 s) ts) []) 16 0)
+      ∙ total-add (λ s. count u (foundOf (toldOf (inSlot (roundAt asks afi m) s ts) .held) (toldOf (inSlot (roundAt asks afi m) s ts) .uid)))
+      (λ s. count u (foundIn (cond (isMore (toldOf (inSlot (roundAt asks afi m) s ts) .held)) (sweepTold asks afi d (m ++ bitsOf 4 s) ts) []))) 16 0
+      ∙ total-same _ (λ s. count u (uidsOf (inSlot (roundAt asks afi m) s ts))) 16 0 (λ s i. each s i (λ k b′ l′. sweep-count d k (m ++ bitsOf 4 s) b′ l′))
+      ∙ count-slots u (roundAt asks afi m) ts
+    where
+      each : (s : ℕ) → s < 0 + 16
+          → (1 ≤ d → Bits (m ++ bitsOf 4 s) → length (m ++ bitsOf 4 s) + 4 * d ≡ 64 → count u (foundIn (sweepTold asks afi d (m ++ bitsOf 4 s) ts)) ≡ count u (uidsOf (partOf (roundAt asks afi (m ++ bitsOf 4 s)) ts)))
+          → count u (foundOf (toldOf (inSlot (roundAt asks afi m) s ts) .held) (toldOf (inSlot (roundAt asks afi m) s ts) .uid))
+          + count u (foundIn (cond (isMore (toldOf (inSlot (roundAt asks afi m) s ts) .held)) (sweepTold asks afi d (m ++ bitsOf 4 s) ts) []))
+          ≡ count u (uidsOf (inSlot (roundAt asks afi m) s ts))
+      each s i ih = slot-count u (inSlot (roundAt asks afi m) s ts) (sweepTold asks afi d (m ++ bitsOf 4 s) ts) (λ x. grown (eqb (length m) 60) refl x)
+        where
+          grown : (y : Bool) → eqb (length m) 60 ≡ y → isMore (toldOf (inSlot (roundAt asks afi m) s ts) .held) ≡ true
+              → count u (foundIn (sweepTold asks afi d (m ++ bitsOf 4 s) ts)) ≡ count u (uidsOf (inSlot (roundAt asks afi m) s ts))
+          grown true e x = absurd (true≢false (sym x ∙ no-more (roundAt asks afi m) s (omega arith) (unfold roundAt in eqb-true (length m) 60 e) ts ht hp))
+          grown false e x =
+              let z = eqb-false (length m) 60 e in
+              let n : length (m ++ bitsOf 4 s) ≡ length m + 4 = rw (length-append, length-bits) in
+              ih (omega (arith, z)) (all-append (λ v. v < 2) m (bitsOf 4 s) b (bits-bits 4 s)) (omega arith)
+              ∙ ap (λ l. count u (uidsOf l)) (part-slot asks afi m s ts b (omega arith) (omega arith) ht)
