@@ -197,7 +197,7 @@ slot-count u (t ∷ []) B h = omega arith
 slot-count u (t ∷ v ∷ cs) B h = rw zero-add (h refl)
 
 module _ (u : List ℕ) (asks : Bool) (afi : ℕ) (ts : List Tag) (ht : All Typed ts) (hp : apart ts ≡ true) where
-  sweep-count : (d : ℕ) → 1 ≤ d → (m : List ℕ) → Bits m → length m + 4 * d ≡ 64 → count u (foundIn (sweepTold asks afi d m ts)) ≡ count u (uidsOf (partOf (roundAt asks afi m) ts))
+  pub sweep-count : (d : ℕ) → 1 ≤ d → (m : List ℕ) → Bits m → length m + 4 * d ≡ 64 → count u (foundIn (sweepTold asks afi d m ts)) ≡ count u (uidsOf (partOf (roundAt asks afi m) ts))
   unfolding sweepTold
   sweep-count zero h m b l = absurd (omega arith)
   sweep-count (suc d) h m b l =

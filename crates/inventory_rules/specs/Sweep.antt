@@ -12,6 +12,7 @@ use Rattle.reader_v.specs.CallsV.{firstRound, roundFor}
 use Rattle.request_v.specs.declared.Tag.{Tag}
 use Rattle.reader_v.specs.declared.PhaseV.the-variants.{Ready, InRound, InSweep}
 use Rattle.inventory_rules.specs.RunV.{Told, Out, run}
+use Rattle.inventory_rules.specs.Found.{foundIn, count, partOf, uidsOf}
 use Rattle.inventory_rules.specs.Claim.{Typed, rests, apart, inSlot, toldOf, slotsFrom, sweepTold}
 
 -- ---- the terms
@@ -51,3 +52,10 @@ roundTold asks afi len mask ts = map (λ s. toldOf (inSlot (roundFor false asks 
 -- "a round is finished, then its met slots are taken in rising order, each to its end", from no mask on: 16 half bytes are left
 abbrev pub allTold : Bool → ℕ → List Tag → List Told
 allTold asks afi ts = sweepTold asks afi 16 [] ts
+
+-- "lists every ready tag that the AFI admits, each once and no other, in the order heard": the UIDs of the slots that held one tag are, in number, those of the tags
+-- that take part in a round without a mask, whatever UID u is looked for; and since UIDs differ, none is there twice
+pub record SweepClaim (asks : Bool) (afi : ℕ) (ts : List Tag) (o : Out) : Type 0 where
+  pub told : Claim (allTold asks afi ts) ts o
+  pub each : (u : List ℕ) → count u (foundIn (o .slots)) ≡ count u (uidsOf (partOf (firstRound asks afi) ts))
+  pub once : (u : List ℕ) → count u (foundIn (o .slots)) ≤ 1
