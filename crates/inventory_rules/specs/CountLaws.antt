@@ -103,9 +103,6 @@ module _ (u : List ℕ) where
   unfolding partOf uidsOf count place
   count-part k t ts = go (takesPart k t)
     where
-      c : ℕ
-      c = cond (same u (t .uid)) 1 0
-
       go : (b : Bool) → total (λ i. cond (eqb (cond b (slotOf (t .uid) (k .len)) 16) i) (cond (same u (t .uid)) 1 0) 0) 0 16 + count u (uidsOf (partOf k ts)) ≡ count u (uidsOf (cond b (t ∷ partOf k ts) (partOf k ts)))
       go true = rw (total-one (slotOf (t .uid) (k .len)) (cond (same u (t .uid)) 1 0) 16 0 (omega arith) (omega (arith, slot-lt (t .uid) (k .len))))
       go false = rw (total-far 16 (cond (same u (t .uid)) 1 0) 16 0 (omega arith)) (omega arith)
@@ -164,13 +161,9 @@ module _ (asks : Bool) (afi : ℕ) where
   grown-part : (m : List ℕ) (s : ℕ) (t : Tag) → Bits m → length m + 4 ≤ 64 → s < 16 → Typed t → takesPart (roundAt asks afi (m ++ bitsOf 4 s)) t ≡ eqb (place (roundAt asks afi m) t) s
   unfolding place
   grown-part m s t b h hs ty =
-      let r : List ℕ = airBits (t .uid) in
-      let l : Bool = listens (t .state) in
-      let a : Bool = cond asks (t .supports && admits afi (t .afi)) true in
       let n : length (m ++ bitsOf 4 s) ≡ length m + length (bitsOf 4 s) = length-append m (bitsOf 4 s) in
       let f : length (bitsOf 4 s) ≡ 4 = length-bits 4 s in
       let q : length (airBits (t .uid)) ≡ 64 = rw length-airBits (omega (arith, ty .eight)) in
-      let four : List ℕ = take 4 (drop (length m) (airBits (t .uid))) in
       let lf : length (take 4 (drop (length m) (airBits (t .uid)))) ≡ 4 = rw (length-take, length-drop) (omega arith) in
       let bf : Bits (take 4 (drop (length m) (airBits (t .uid)))) = all-take (λ v. v < 2) 4 (drop (length m) (airBits (t .uid))) (all-drop (λ v. v < 2) (length m) (airBits (t .uid)) (bits-airBits (t .uid))) in
       let z : same (m ++ bitsOf 4 s) (take (length (m ++ bitsOf 4 s)) (airBits (t .uid))) ≡ (same m (take (length m) (airBits (t .uid))) && eqb (unbits (take 4 (drop (length m) (airBits (t .uid))))) s) =
@@ -201,7 +194,6 @@ module _ (u : List ℕ) (asks : Bool) (afi : ℕ) (ts : List Tag) (ht : All Type
   unfolding sweepTold
   sweep-count zero h m b l = absurd (omega arith)
   sweep-count (suc d) h m b l =
-      let held : ℕ → Told = λ s. toldOf (inSlot (roundAt asks afi m) s ts) in
       ap (count u) (found-append (map (λ s. toldOf (inSlot (roundAt asks afi m) s ts)) (slotsFrom 0 16)) _)
       ∙ count-append u (foundIn (map (λ s. toldOf (inSlot (roundAt asks afi m) s ts)) (slotsFrom 0 16))) _
       ∙ ap₂ (λ x y. x + y) (count-tells u (λ s. toldOf (inSlot (roundAt asks afi m) s ts)) 16 0)

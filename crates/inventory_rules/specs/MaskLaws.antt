@@ -122,9 +122,6 @@ module _ (k : Round) (s : ℕ) (hs : s < 16) (l : k .len ≡ 60) where
 pub hears-sweep : (asks : Bool) (afi len : ℕ) (mask : List ℕ) (ha : afi < 256) (l : len ≤ 60) (hm : length mask ≡ 8) (ts : List Tag) → All Typed ts → apart ts ≡ true → Hears true asks afi len mask ha l hm ts
 hears-sweep asks afi len mask ha l hm ts h a s b = go (leb 60 len) refl
   where
-    k : Round
-    k = roundFor false asks afi len mask
-
     go : (x : Bool) → leb 60 len ≡ x → readSlot (awaited (roundFor false asks afi len mask) x s) (merge (map (sent (roundFor false asks afi len mask) s) ts)) ≡ slotV (toldOf (inSlot (roundFor false asks afi len mask) s ts))
     go true e = hears-deep (roundFor false asks afi len mask) s b (omega (arith, leb-true 60 len e)) ts h a
     go false e = hears-slot (roundFor false asks afi len mask) s l b ts h a

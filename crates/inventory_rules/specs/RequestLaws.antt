@@ -67,9 +67,6 @@ module _ (mask : List ℕ) (len : ℕ) (h : len ≤ 64) (e : length mask ≡ 8) 
   unfolding cutMask mask-bits
   cut-air = bits-bytes-all 8 (fill 64 (take len (airBits mask))) (fill-bits _ (cut-bits mask len)) (length-fill _ (rw (length-take, length-airBits) (omega arith)))
 
-  sent-bytes : List ℕ
-  sent-bytes = take ((len + 7) / 8) (cutMask mask len)
-
   length-cut : length (cutMask mask len) ≡ 8
   unfolding cutMask
   length-cut = length-bytes 8 (fill 64 (take len (airBits mask)))

@@ -37,9 +37,6 @@ use Rattle.inventory_rules.specs.SlotLaws.{row, sent, slotV, awaited}
 use Rattle.inventory_rules.specs.Rounds.{phaseOf, readerAt, tagsAt, befores, metBy, metFrom, after}
 
 module _ (sweeps asks : Bool) (afi len : ℕ) (mask : List ℕ) (ha : afi < 256) (hl : len ≤ 60) (hm : length mask ≡ 8) (ts : List Tag) where
-  k : Round
-  k = roundFor false asks afi len mask
-
   -- ---- the tags from slot to slot
 
   tags-next : (s : ℕ) (m : List ℕ) → tagsAfter (readerAt sweeps (roundFor false asks afi len mask) s m) (tagsAt (roundFor false asks afi len mask) s ts) ≡ tagsAt (roundFor false asks afi len mask) (suc s) ts

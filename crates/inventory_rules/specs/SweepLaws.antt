@@ -67,9 +67,6 @@ module _ (asks : Bool) (afi : ℕ) (ha : afi < 256) (ts : List Tag) (ht : All Ty
   after-set p X i g k a b c e = rw (a, lt-ltb i flags b, c, e)
 
   module _ (d : ℕ) (done : 1 ≤ d → Done d) (m F : List ℕ) (bm : Bits m) (lm : length m + 4 * suc d ≡ 64) (lF : length F ≡ 240) (cF : Clear (16 * (15 - length m / 4)) F) where
-    told-in : ℕ → Bool
-    told-in s = isMore (toldOf (inSlot (roundAt asks afi m) s ts) .held)
-
     of-slot : ℕ → List Told
     of-slot s = cond (isMore (toldOf (inSlot (roundAt asks afi m) s ts) .held)) (sweepTold asks afi d (m ++ bitsOf 4 s) ts) []
 

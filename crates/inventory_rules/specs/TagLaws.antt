@@ -93,9 +93,6 @@ deed-row true p t = go (eqb p 0) refl
 deed-row false p t = refl
 
 module _ (asks : Bool) (afi len : ℕ) (mask : List ℕ) (ha : afi < 256) (h : len ≤ 60) (e : length mask ≡ 8) (t : Tag) where
-  round : Round
-  round = roundFor false asks afi len mask
-
   pub takes-request : takes t [] (roundFrame (roundFor false asks afi len mask)) ≡ inRound (roundFor false asks afi len mask) 0 t
   unfolding takes inRound place
   takes-request = rw (round-deed afi len mask ha h e t asks) (ap (withState t) (deed-state (takesPart (roundFor false asks afi len mask) t) (slotOf (t .uid) len) (t .state) (slot-lt (t .uid) len)))
