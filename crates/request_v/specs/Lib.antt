@@ -3,3 +3,4 @@ pub mod Inventory
 pub mod InventoryLaws
 pub mod Request
 pub mod RequestLaws
+pub mod DeedTable
