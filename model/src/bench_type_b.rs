@@ -16,11 +16,11 @@ pub struct BenchTypeB {
     list: Vec<u8>,
 }
 
-fn exactly<const N: usize>(word: &str) -> Option<[u8; N]> {
+pub fn exactly<const N: usize>(word: &str) -> Option<[u8; N]> {
     read_hex(word)?.try_into().ok()
 }
 
-fn row_line(words: &[&str]) -> Option<Row> {
+pub fn row_line(words: &[&str]) -> Option<Row> {
     match *words {
         ["row", row] => read_row(row),
         ["bytes", bytes] => read_hex(bytes).map(|b| type_b::plain(&b)),

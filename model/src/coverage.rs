@@ -267,6 +267,99 @@ fn expected_of_type_b() -> Vec<Key> {
     keys
 }
 
+/// The places of T-10 that `bench_vicinity` must reach: every rule of the tag, every test of the reader, every refusal of the sweep over a field.
+fn expected_of_vicinity() -> Vec<Key> {
+    let mut keys = Vec::new();
+    let mut add = |table: &str, rows: &[&str], columns: &[&str]| {
+        for row in rows {
+            keys.extend(columns.iter().map(|column| (format!("Vicinity {table}"), row.to_string(), column.to_string())));
+        }
+    };
+
+    // The tag: rows, power, EOFs and what ends a round.
+    let taking = ["ready", "quiet", "selected"];
+    let rows = ["empty", "damaged", "under four bytes", "b4 or b8", "both flags", "inventory flag", "request"];
+    add("row", &taking, &rows);
+    add("row", &["off"], &["silent"]);
+    add("power", &["off", "ready", "quiet", "selected"], &["on", "off"]);
+    add("EOF", &["off", "ready", "quiet", "selected"], &["no round"]);
+    add("EOF", &["ready", "selected"], &["its slot", "another slot"]);
+    add("round", &["ended"], &rows);
+    add("round", &["ended"], &["power", "last slot"]);
+
+    // Inventory of 1 and of 16 slots.
+    let silent = ["code", "Option flag", "no AFI", "AFI not supported", "AFI not admitted", "no mask length", "mask too long"];
+    for table in ["1 slot", "16 slots"] {
+        add(table, &["quiet"], &["quiet"]);
+        add(table, &["ready", "selected"], &silent);
+        add(table, &["ready", "selected"], &["mask bytes missing", "bytes behind the mask", "meant", "not meant"]);
+    }
+
+    // Requests: the modes, and what each code is answered in each of them.
+    add("mode", &taking, &["addressed", "another UID", "UID cut"]);
+    add("mode", &["ready", "selected"], &["any"]);
+    add("mode", &["selected"], &["Select flag"]);
+    add("mode", &["ready", "quiet"], &["Select flag, not taken"]);
+    add("mode", &["quiet"], &["any, not taken"]);
+    add("Select of another", &taking, &["good", "not good"]);
+    add("quiet", &taking, &["own UID"]);
+    add("Select", &taking, &["addressed"]);
+    add("Reset", &taking, &["addressed"]);
+    add("Reset", &["ready"], &["any"]);
+    add("Reset", &["selected"], &["any", "Select flag"]);
+    for mode in ["addressed", "Select flag", "any"] {
+        let row = |code: &str| format!("{code}, {mode}");
+        // An unknown code and a wrong length: an error, but for a request to any.
+        let (unknown, length) = if mode == "any" { ("silent", "silent") } else { ("01", "02") };
+        add("code", &[&row("other")], &[unknown]);
+        add("code", &[&row("01")], &["silent"]);
+        add("code", &[&row("02")], &["silent, as it was"]);
+        for code in ["20", "23"] {
+            add("code", &[&row(code)], &[length, "10", "00", "00, Option flag"]);
+        }
+        for code in ["21", "24"] {
+            add("code", &[&row(code)], &[length, "10", "12", "03", "00"]);
+        }
+        add("code", &[&row("22")], &[length, "10", "11", "03", "00"]);
+        add("code", &[&row("26")], &[length, "03", "00"]);
+        add("code", &[&row("25")], if mode == "addressed" { &["02", "03", "00"] } else { &["silent"] });
+    }
+    add("code", &["02, addressed"], &["silent, quiet"]);
+
+    // The reader: its calls and the rows that it hears, by what it awaits.
+    let slots = ["slot of 16", "the one slot", "slot of a sweep"];
+    let others = ["silence", "data", "data with status", "word", "stopped"];
+    for call in ["inventory", "sweep", "quiet", "select", "reset", "read", "reads", "write", "writes", "lock"] {
+        let table = format!("call {call}");
+        add(&table, &["ready"], &["taken"]);
+        add(&table, &slots, &["11"]);
+        add(&table, &others, &["11"]);
+        if matches!(call, "inventory" | "write" | "writes") {
+            add(&table, &["ready"], &["6"]);
+        }
+    }
+    add("mask", &["1 slot", "16 slots"], &["0", "1", "4", "59", "60", "61", "63", "64", "65", "another"]);
+    add("heard", &slots, &["none", "one", "more", "2", "4", "9"]);
+    add("heard", &["silence"], &["good", "9"]);
+    add("heard", &["data", "data with status", "word"], &["good", "error", "7", "2", "8", "4", "9"]);
+    add("heard", &["ready", "stopped"], &["11"]);
+    add("slot's answer", &["1 slot"], &["flags", "mask"]);
+    add("slot's answer", &["16 slots"], &["flags", "mask", "slot"]);
+
+    // The sweep: tags that met at every depth, the next round, several tags at once, and the call over a field.
+    let depths: Vec<String> = (0..=15).map(|depth| (4 * depth).to_string()).collect();
+    add("met", &["mask bits"], &depths.iter().map(|depth| depth.as_str()).collect::<Vec<_>>());
+    add("sweep", &["further round"], &["below this one", "beside or above"]);
+    add("together", &["request"], &["equal", "different", "of different lengths"]);
+    add("together", &["slot"], &["equal", "different"]);
+    add("field", &["11"], &slots);
+    add("field", &["11"], &others);
+    add("field", &["1"], &["list"]);
+    add("field", &["6"], &["too many", "selected", "UID twice"]);
+    add("field", &["taken"], &["AFI", "no AFI", "ready", "quiet", "off", "not admitted", "as many as the limit"]);
+    keys
+}
+
 /// The places that `vectors_calls` must reach: every refusal of every call, and what a bench cannot lend.
 fn expected_of_calls() -> Vec<Key> {
     let mut keys = Vec::new();
@@ -331,9 +424,12 @@ pub fn report() -> Result<(), String> {
     let fronts = reached();
     crate::write::type_b_script();
     let type_b = reached();
+    crate::write::vicinity_script();
+    let vicinity = reached();
     let mut expected = expected();
     expected.extend(expected_of_front());
     expected.extend(expected_of_type_b());
+    expected.extend(expected_of_vicinity());
     let of_calls = expected_of_calls();
     let mut missing = Vec::new();
     let mut table = String::new();
@@ -344,6 +440,7 @@ pub fn report() -> Result<(), String> {
             false if key.0.starts_with("field") => &fields,
             false if key.0.starts_with("front") => &fronts,
             false if key.0.starts_with("Type B") => &type_b,
+            false if key.0.starts_with("Vicinity") => &vicinity,
             false => &benches,
         };
         if *key.0 != table {
@@ -357,7 +454,7 @@ pub fn report() -> Result<(), String> {
         }
     }
     for (key, count) in
-        benches.iter().chain(&exchanges).chain(&fronts).chain(&type_b).chain(calls.iter().filter(|(key, _)| key.0.starts_with("call")))
+        benches.iter().chain(&exchanges).chain(&fronts).chain(&type_b).chain(&vicinity).chain(calls.iter().filter(|(key, _)| key.0.starts_with("call")))
     {
         if !expected.contains(key) && !of_calls.contains(key) {
             missing.push(format!("reached {count} times but not in the list: {} / {} / {}", key.0, key.1, key.2));

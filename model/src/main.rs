@@ -5,6 +5,7 @@ mod bench_front;
 mod bench_reader;
 mod bench_sweep;
 mod bench_type_b;
+mod bench_vicinity;
 mod blocks;
 mod card;
 mod card_link;
@@ -29,15 +30,18 @@ mod uid;
 mod vectors_calls;
 mod vectors_exchange;
 mod vectors_frame;
+mod vicinity_field;
+mod vicinity_reader;
+mod vicinity_tag;
 mod write;
 
 const USAGE: &str = "\
-model vectors_frame | vectors_front | vectors_sweep | vectors_exchange | vectors_calls | bench_sweep | bench_card | bench_reader | bench_front | bench_type_b
+model vectors_frame | vectors_front | vectors_sweep | vectors_exchange | vectors_calls | bench_sweep | bench_card | bench_reader | bench_front | bench_type_b | bench_vicinity
                                          play a script from standard input
 model write DIR                          write the stored scripts and their answers
 model check DIR                          compare the stored ones with what would be written
 model coverage                           what the stored scripts reach
-model scripts card|reader|field|exchange|lossy|front|type_b COUNT SEED   random scripts for larger comparisons";
+model scripts card|reader|field|exchange|lossy|front|type_b|vicinity COUNT SEED   random scripts for larger comparisons";
 
 fn report(outcome: Result<(), String>) {
     if let Err(what) = outcome {
@@ -57,7 +61,8 @@ fn random_scripts(kind: &str, count: &str, seed: &str) -> Result<(), String> {
         "lossy" => scripts::lossy::random_scripts(count, seed).input,
         "front" => scripts::front::random_scripts(count, seed).input,
         "type_b" => scripts::type_b::random_scripts(count, seed).input,
-        _ => return Err("scripts for card, reader, field, exchange, lossy, front or type_b".to_string()),
+        "vicinity" => scripts::vicinity::random_scripts(count, seed).input,
+        _ => return Err("scripts for card, reader, field, exchange, lossy, front, type_b or vicinity".to_string()),
     };
     print!("{text}");
     Ok(())
@@ -77,6 +82,7 @@ fn main() {
         ["vectors_front"] => language::play(bench_front::VectorsFront::new()),
         ["bench_reader"] => language::play(bench_reader::BenchReader::new()),
         ["bench_type_b"] => language::play(bench_type_b::BenchTypeB::new()),
+        ["bench_vicinity"] => language::play(bench_vicinity::BenchVicinity::new()),
         ["write", folder] => report(write::write(folder)),
         ["check", folder] => report(write::check(folder)),
         ["coverage"] => report(coverage::report()),

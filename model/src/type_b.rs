@@ -35,7 +35,7 @@ fn bytes_of(row: &[u8]) -> Option<Vec<u8>> {
 }
 
 /// The same without CRC_B, where that is right.
-fn checked(row: &[u8]) -> Option<Vec<u8>> {
+pub fn checked(row: &[u8]) -> Option<Vec<u8>> {
     let bytes = bytes_of(row)?;
     let end = bytes.len().checked_sub(2)?;
     (crc_b(&bytes[..end])[..] == bytes[end..]).then(|| bytes[..end].to_vec())

@@ -33,6 +33,7 @@ pub fn all() -> Vec<Stored> {
         stored("bench_front", scripts::front::script(SEED + 8)),
         stored("vectors_front", scripts::front::selections(SEED + 9)),
         stored("bench_type_b", scripts::type_b::script(SEED + 10)),
+        stored("bench_vicinity", scripts::vicinity::script(SEED + 11)),
     ]
 }
 
@@ -68,9 +69,17 @@ pub fn bench_scripts() {
 
 /// Plays the script of Type B again, for what it reaches.
 pub fn type_b_script() {
-    let input = scripts::type_b::script(SEED + 8).input;
+    let input = scripts::type_b::script(SEED + 10).input;
     crate::coverage::forget();
     let mut replayed = Script::new(crate::bench_type_b::BenchTypeB::new());
+    input.lines().for_each(|line| drop(replayed.say(line)));
+}
+
+/// Plays the script of the vicinity tags again, for what it reaches.
+pub fn vicinity_script() {
+    let input = scripts::vicinity::script(SEED + 11).input;
+    crate::coverage::forget();
+    let mut replayed = Script::new(crate::bench_vicinity::BenchVicinity::new());
     input.lines().for_each(|line| drop(replayed.say(line)));
 }
 

@@ -11,6 +11,8 @@ pub mod lossy;
 pub mod reader;
 pub mod reader_blocks;
 pub mod type_b;
+pub mod vicinity;
+pub mod vicinity_reader;
 
 use crate::frames::{self, Row, COLLIDED};
 use crate::language::{show_hex, show_row};

@@ -1,0 +1,2 @@
+pub mod FrameV
+pub mod FrameVLaws

@@ -1,0 +1,6 @@
+pub mod Flags
+pub mod Inventory
+pub mod InventoryLaws
+pub mod Request
+pub mod RequestLaws
+pub mod DeedTable

@@ -1,0 +1,10 @@
+pub mod Memory
+pub mod Tag
+pub mod Calls
+pub mod Safe
+pub mod SafeLaws
+pub mod TagTable
+pub mod Written
+pub mod WrittenLaws
+pub mod MemoryLaws
+pub mod CallLaws
