@@ -74,13 +74,7 @@ pub fn bit_at(log: &[u8], start: usize, i: usize) -> u8
 pub fn record_at(log: &[u8], at: usize) -> Record
     ensures { λ r. ⌜ r ≡ recordAt tickSize (now (log .entry)) at ⌝ }
 {
-    if log.len() <= at {
-        return Record::End;
-    }
-    if log.len() < at + 2 + 4 {
-        return Record::Cut;
-    }
-    reading::after_header(log, at + 2 + 4, log[at], log[at + 1])
+    within::record_in(log, 4, at)
 }
 
 // T-09: the tick of the record at a place of the log: when the reader's last pause ended, the card's answer began, or the wait ran out. A byte

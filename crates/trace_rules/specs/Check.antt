@@ -22,6 +22,8 @@ use Rattle.trace_rules.specs.declared.Verdict.the-variants.{Clean, Fault
 use Rattle.trace_rules.specs.declared.Checked.{Checked}
 use Rattle.trace_rules.specs.declared.Passed.{Passed}
 use Rattle.trace_rules.specs.declared.Passed.the-variants.{Behind, Not}
+use Rattle.trace_rules.specs.declared.Compared.{Compared}
+use Rattle.trace_rules.specs.declared.Compared.the-variants.{Same, First, Second}
 use Rattle.trace_rules.specs.Trace.{stampSize, heardRow, sentPassed, heardPassed, start, checked, walk}
 
 -- ---- the sweep over the listed cards
@@ -30,18 +32,28 @@ use Rattle.trace_rules.specs.Trace.{stampSize, heardRow, sentPassed, hea
 abbrev pub heardAs : List ℕ → List ℕ → Record → Passed
 heardAs l h x = cond (same (heardRow l x) h) (heardPassed x) (Not Forbidden)
 
--- a verdict where a record is not as it should be, else what comes of the place behind it
-abbrev pub ifPassed : Verdict → (ℕ → Verdict) → Passed → Verdict
-ifPassed v rest (Behind at) = rest at
-ifPassed v rest (Not e) = v
+-- the two records of an exchange, held to those at a place
+abbrev pub heardCompared : Passed → Compared
+heardCompared (Behind at) = Same at
+heardCompared (Not e) = Second
+
+abbrev pub sentCompared : ℕ → List ℕ → List ℕ → Passed → Compared
+sentCompared w l h (Behind at) = heardCompared (heardAs l h (recordAt w l at))
+sentCompared w l h (Not e) = First
+
+unfoldable pub compared : ℕ → List ℕ → Exchange → ℕ → Compared
+compared w l e at = sentCompared w l (e .heard) (sentPassed l (e .sent) (recordAt w l at))
+
+-- i records are before the two; what is behind them decides where they are as they should be
+abbrev pub comparedThen : ℕ → (ℕ → Verdict) → Compared → Verdict
+comparedThen i rest (Same at) = rest at
+comparedThen i rest First = Fault i Forbidden
+comparedThen i rest Second = Fault (i + 1) Forbidden
 
 -- "the first record that differs", ticks apart, from the records of these exchanges: from a place on, i records being before it
 unfoldable pub differs : ℕ → List ℕ → ℕ → List Exchange → ℕ → Verdict
 differs w l i [] at = cond (leb (length l) at) Clean (Fault i Forbidden)
-differs w l i (e ∷ es) at =
-    ifPassed (Fault i Forbidden)
-    (λ b. ifPassed (Fault (i + 1) Forbidden) (differs w l (i + 2) es) (heardAs l (e .heard) (recordAt w l b)))
-    (sentPassed l (e .sent) (recordAt w l at))
+differs w l i (e ∷ es) at = comparedThen i (differs w l (i + 2) es) (compared w l e at)
 
 -- ---- the check
 

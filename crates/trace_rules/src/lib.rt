@@ -9,10 +9,7 @@ use refusal::Refusal;
 // counted from 0, reader's records and heard ones together, and the refusal.
 pub enum Verdict {
     Clean,
-    Fault {
-        record: usize,
-        refusal: Refusal,
-    },
+    Fault { record: usize, refusal: Refusal },
 }
 
 // A checked log: the cards that were found in it, up to the fault if there is one, as many as found says, in the order found, each idle, and
@@ -41,13 +38,18 @@ pub struct Place {
 pub enum Says {
     Goes,
     Content,
-    Faults {
-        on: usize,
-        refusal: Refusal,
-    },
+    Faults { on: usize, refusal: Refusal },
 }
 
 pub struct Stepped {
     pub place: Place,
     pub says: Says,
+}
+
+// Two records of the sweep over the listed cards, held to those of the log: both are there, with the place behind them, or the first of the two
+// is not, or the second.
+pub enum Compared {
+    Same(usize),
+    First,
+    Second,
 }

@@ -1,9 +1,9 @@
--- `log::record_at` meets its contract. Assumes nothing.
+-- `log::within::record_in` meets its contract. Assumes nothing.
 use borrow.Author.Needs.{needs}
 use borrow.Author.Tests.{lt-ltb, le-ltb, le-leb, lt-leb}
 use Rattle.log.specs.Reading.{recordAt}
-use Rattle.log.proofs.record_at.Statement.{statement}
-use Rattle.log.proofs.record_at.Tie as tie
+use Rattle.log.proofs.within.record_in.Statement.{statement}
+use Rattle.log.proofs.within.record_in.Tie as tie
 
 returns : tie.Need-returns
 unfolding recordAt
@@ -41,8 +41,8 @@ returns-3 : tie.Need-returns-3
 unfolding recordAt
 returns-3 c = rw (lt-leb _ _ (c .before .before .before .before .if1 .left), le-ltb _ _ (c .before .before .before .if2 .left), c .after-header .ensures)
 
-pub record-at-spec : {M : Type 1} → statement M
-record-at-spec =
+pub record-in-spec : {M : Type 1} → statement M
+record-in-spec =
     tie.close
     (tie.spec
     returns
