@@ -1,1 +1,3 @@
+pub mod Reads
+pub mod Loops
 pub mod ReadLaws

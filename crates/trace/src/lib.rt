@@ -5,7 +5,12 @@ mod replay;
 mod walk;
 
 ghost use mathlib.Core.Path.{_≡_};
-ghost use Rattle.trace_rules.specs.Check.{check, refused, checkLog, checkedSays};
+ghost use Prim.Native.Nat.{_≤_};
+ghost use lib.ListN.{length};
+ghost use Rattle.limits.specs.Limits.{mostCards, logRoom};
+ghost use Rattle.log.specs.Calls.{tickSize};
+ghost use Rattle.trace_rules.specs.declared.Verdict.the-variants.{Clean};
+ghost use Rattle.trace_rules.specs.Check.{check, refused, checkLog, judged};
 use refusal::Refusal;
 pub use trace_rules::Checked;
 pub use trace_rules::Verdict;
@@ -14,16 +19,7 @@ pub use trace_rules::Verdict;
 fn refused(e: Refusal) -> Checked
     ensures { λ c. ⌜ c ≡ refused e ⌝ }
 {
-    let p = walk::start();
-    let cards = p.cards;
-    Checked {
-        verdict: Verdict::Fault {
-            record: 0,
-            refusal: e,
-        },
-        cards: cards,
-        found: 0,
-    }
+    walk::checked(Verdict::Fault { record: 0, refusal: e }, walk::start())
 }
 
 // Checks all of an input: a first byte, 0 for a log without ticks, 1 for one with, and the log.
@@ -44,7 +40,10 @@ pub fn check(input: &[u8]) -> Checked
 }
 
 // Checks a log whose records have stamps of so many bytes.
-fn check_log(log: &[u8], stamp: usize) -> Checked {
+fn check_log(log: &[u8], stamp: usize) -> Checked
+    requires { ⌜ (stamp ≤ tickSize) × (length (now log) ≤ logRoom) ⌝ }
+    ensures { λ c. ⌜ c ≡ checkLog stamp (now (log .entry)) ⌝ }
+{
     let c = walk::walk(log, stamp);
     let v = c.verdict;
     match v {
@@ -57,7 +56,10 @@ fn check_log(log: &[u8], stamp: usize) -> Checked {
 }
 
 // The reader is content throughout: what the plain sweep over the listed cards says.
-fn judged(log: &[u8], stamp: usize, c: Checked) -> Checked {
+fn judged(log: &[u8], stamp: usize, c: Checked) -> Checked
+    requires { ⌜ (stamp ≤ tickSize) × (c .found ≤ mostCards) ⌝ }
+    ensures { λ r. ⌜ r ≡ judged stamp (now (log .entry)) c Clean ⌝ }
+{
     let cards = c.cards;
     let v = replay::replay(log, stamp, cards, c.found);
     Checked {

@@ -1,4 +1,15 @@
-// The plain sweep over the listed cards, record by record against the log.
+// The plain sweep over the listed cards, record by record against the log. Some functions have a condition, and their callers' proofs show that
+// they meet it.
+ghost use mathlib.Core.Path.{_≡_};
+ghost use Prim.Native.Nat.{_≤_, _<_, _^_};
+ghost use lib.ListN.{take};
+ghost use Rattle.limits.specs.Limits.{mostCards};
+ghost use Rattle.log.specs.Calls.{tickSize};
+ghost use Rattle.log.specs.Log.{sentHeard};
+ghost use Rattle.log.specs.Reading.{recordAt};
+ghost use Rattle.sweep_rules.specs.Run.{sweep};
+ghost use Rattle.trace_rules.specs.Check.{heardAs, heardCompared, compared, differs};
+ghost use Rattle.trace.specs.Loops.{played, nextPlace, isSame, playsOn, finish};
 use card::Card;
 use limits::MOST_CARDS;
 use reader::Phase;
@@ -16,7 +27,10 @@ pub struct Played {
 }
 
 // The record of what was heard, if it is this row.
-fn heard_as(log: &[u8], stamp: usize, at: usize, heard: &[u8]) -> Compared {
+fn heard_as(log: &[u8], stamp: usize, at: usize, heard: &[u8]) -> Compared
+    requires { ⌜ stamp ≤ tickSize ⌝ }
+    ensures { λ c. ⌜ c ≡ heardCompared (heardAs (now (log .entry)) (now (heard .entry)) (recordAt stamp (now (log .entry)) at)) ⌝ }
+{
     let mut row = [0u8; 8191];
     let h = crate::reading::heard_at(log, stamp, at, &mut row);
     let n = h.bits;
@@ -31,7 +45,10 @@ fn heard_as(log: &[u8], stamp: usize, at: usize, heard: &[u8]) -> Compared {
 }
 
 // An exchange held to the two records at a place.
-fn compare(log: &[u8], stamp: usize, at: usize, frame: &[u8], heard: &[u8]) -> Compared {
+fn compare(log: &[u8], stamp: usize, at: usize, frame: &[u8], heard: &[u8]) -> Compared
+    requires { ⌜ stamp ≤ tickSize ⌝ }
+    ensures { λ c. ⌜ c ≡ compared stamp (now (log .entry)) (sentHeard (now (frame .entry)) (now (heard .entry))) at ⌝ }
+{
     let passed = crate::reading::sent_at(log, stamp, at, frame);
     match passed {
         Passed::Behind(next) => heard_as(log, stamp, next, heard),
@@ -40,14 +57,10 @@ fn compare(log: &[u8], stamp: usize, at: usize, frame: &[u8], heard: &[u8]) -> C
 }
 
 // The reader's frame, taken by the first n cards, and what it does with what it heard.
-fn play(
-    log: &[u8],
-    stamp: usize,
-    at: usize,
-    t: Turn,
-    cards: [Card; MOST_CARDS],
-    n: usize,
-) -> Played {
+fn play(log: &[u8], stamp: usize, at: usize, t: Turn, cards: [Card; MOST_CARDS], n: usize) -> Played
+    requires { ⌜ (stamp ≤ tickSize) × (n ≤ mostCards) ⌝ }
+    ensures { λ p. ⌜ p ≡ played stamp (now (log .entry)) at t cards n ⌝ }
+{
     let r = t.reader;
     let mut frame = [0u8; 81];
     reader::within::put_frame(r, &mut frame);
@@ -66,7 +79,9 @@ fn play(
 }
 
 // The place of the records that come next; 0 where none do.
-fn next_place(c: Compared) -> usize {
+fn next_place(c: Compared) -> usize
+    ensures { λ n. ⌜ n ≡ nextPlace c ⌝ }
+{
     match c {
         Compared::Same(at) => at,
         Compared::First => 0,
@@ -74,7 +89,9 @@ fn next_place(c: Compared) -> usize {
     }
 }
 
-fn is_same(c: Compared) -> bool {
+fn is_same(c: Compared) -> bool
+    ensures { λ b. ⌜ b ≡ isSame c ⌝ }
+{
     match c {
         Compared::Same(_) => true,
         Compared::First => false,
@@ -83,7 +100,9 @@ fn is_same(c: Compared) -> bool {
 }
 
 // Does the sweep go on, after so many frames?
-fn goes_on(p: Played, frames: usize) -> bool {
+fn goes_on(p: Played, frames: usize) -> bool
+    ensures { λ b. ⌜ b ≡ playsOn p frames ⌝ }
+{
     if frames < limits::MOST_FRAMES {
         let c = p.compared;
         if is_same(c) {
@@ -96,7 +115,10 @@ fn goes_on(p: Played, frames: usize) -> bool {
 }
 
 // What the last exchange says, before which there are i records, in a log of so many bytes.
-fn verdict(i: usize, p: Played, size: usize) -> Verdict {
+fn verdict(i: usize, p: Played, size: usize) -> Verdict
+    requires { ⌜ i < 2 ^ 32 ⌝ }
+    ensures { λ v. ⌜ v ≡ finish i size p ⌝ }
+{
     let c = p.compared;
     match c {
         Compared::Same(at) => {
@@ -120,7 +142,10 @@ fn verdict(i: usize, p: Played, size: usize) -> Verdict {
 }
 
 // The first record in which the log differs from the plain sweep over the first n cards.
-pub fn replay(log: &[u8], stamp: usize, cards: [Card; MOST_CARDS], n: usize) -> Verdict {
+pub fn replay(log: &[u8], stamp: usize, cards: [Card; MOST_CARDS], n: usize) -> Verdict
+    requires { ⌜ (stamp ≤ tickSize) × (n ≤ mostCards) ⌝ }
+    ensures { λ v. ⌜ v ≡ differs stamp (now (log .entry)) 0 (sweep (take n cards) .exchanges) 0 ⌝ }
+{
     let first = reader::within::sends(reader::within::blank(Phase::ReqaSent, true));
     let mut p = play(log, stamp, 0, first, cards, n);
     let mut frames: usize = 1;

@@ -24,6 +24,7 @@ use Rattle.reader.specs.declared.Answer.the-variants.{Sends, Finds, Selects, Fi
 use Rattle.reader.specs.declared.Turn.{Turn}
 use Rattle.refusal.specs.declared.Refusal.{Refusal}
 use Rattle.refusal.specs.declared.Refusal.the-variants.{Length, Argument, Forbidden, NotDue}
+use Rattle.uid.specs.declared.Uid.{Uid}
 use Rattle.uid.specs.declared.UidSize.the-variants.{Single}
 use Rattle.trace_rules.specs.declared.Verdict.{Verdict}
 use Rattle.trace_rules.specs.declared.Verdict.the-variants.{Clean as Good, Fault}
@@ -105,13 +106,13 @@ withCard p at r = record { at = at; reader = r; cards = set (p .cards) (p .found
 abbrev pub cardsIn : Place → List Card
 cardsIn p = take (p .found) (p .cards)
 
--- one of these cards has the UID of that reader
-unfoldable pub isListed : Reader → List Card → Bool
-isListed r cs = any (λ c. same (uidBytes (r .uid)) (uidBytes (c .uid))) cs
+-- one of these cards has that UID
+unfoldable pub isListed : Uid → List Card → Bool
+isListed u cs = any (λ c. same (uidBytes u) (uidBytes (c .uid))) cs
 
 -- "a card that is repeated or past the limit is 6 at its last SAK"
 unfoldable pub lists : Place → ℕ → Reader → Stepped
-lists p at r = cond (leb mostCards (p .found) || isListed r (cardsIn p)) (faults p 1 Argument) (goes (withCard p at r))
+lists p at r = cond (leb mostCards (p .found) || isListed (r .uid) (cardsIn p)) (faults p 1 Argument) (goes (withCard p at r))
 
 -- silence after REQA ends the sweep: "bytes after the end, cut or not, are 11"
 unfoldable pub ends : List ℕ → Place → ℕ → Reader → Stepped

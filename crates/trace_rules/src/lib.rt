@@ -38,7 +38,7 @@ pub struct Place {
 pub enum Says {
     Goes,
     Content,
-    Faults { on: usize, refusal: Refusal },
+    Faults { on: u8, refusal: Refusal },
 }
 
 pub struct Stepped {
