@@ -1,61 +1,54 @@
+use mathlib.Core.Path.{_≡_, refl, sym, ap, _∙_}
+use denote.Ref.{now}
+use native.Mathlib.Omega.{arith}
+use lib.ListN.{length-take}
+use Rattle.sweep_steps.specs.ExchangeLaws.{front-of}
+use Rattle.trace_rules.specs.Trace.{step}
 use borrow.Author.Needs.{needs}
 use Rattle.trace.proofs.walk.step.Statement.{statement}
 use Rattle.trace.proofs.walk.step.Tie as tie
-use Rattle.trace.proofs.walk.step.Reads as reads
-use Rattle.trace.proofs.walk.step.Lts as lts
-use Rattle.reader.proofs.within.frame_bits.Reads as frame-bits-reads
-use Rattle.reader.proofs.within.put_frame.Reads as put-frame-reads
-use Rattle.trace.proofs.reading.sent_at.Reads as sent-at-reads
-use Rattle.trace.proofs.walk.faults.Reads as faults-reads
-use Rattle.trace.proofs.walk.heard_step.Reads as heard-step-reads
 
--- src/walk.rt:199:34
 slice-aggregate-put-frame : tie.Need-slice-aggregate-put-frame
 slice-aggregate-put-frame c = search needs
 
--- src/walk.rt:199:5
 put-frame-requires : tie.Need-put-frame-requires
 put-frame-requires c κs = search needs
 
--- src/walk.rt:200:9
 frame-bits-requires : tie.Need-frame-bits-requires
 frame-bits-requires c κs = search needs
 
--- src/walk.rt:201:60
 array-share-prefix-frame : tie.Need-array-share-prefix-frame
-array-share-prefix-frame c = ?
+array-share-prefix-frame c = (front-of _ _ _ _ (c .frame-bits .ensures) (c .before .before .put-frame .ensures)) .fits
 
--- src/walk.rt:201:60
 slice-aggregate-sent-at : tie.Need-slice-aggregate-sent-at
-slice-aggregate-sent-at c = ?
+slice-aggregate-sent-at c = rw length-take (omega (arith, (front-of _ _ _ _ (c .before .frame-bits .ensures) (c .before .before .before .put-frame .ensures)) .fits))
 
--- src/walk.rt:201:9
 sent-at-requires : tie.Need-sent-at-requires
 sent-at-requires c κs = search needs
 
--- src/walk.rt:203:24
 enum-known-passed : tie.Need-enum-known-passed
 enum-known-passed c = search needs
 
--- src/walk.rt:203:31
 heard-step-requires : tie.Need-heard-step-requires
 heard-step-requires c κs = search needs
 
--- src/walk.rt:204:21
 enum-known-passed-2 : tie.Need-enum-known-passed-2
 enum-known-passed-2 c = search needs
 
--- src/walk.rt:204:27
 faults-requires : tie.Need-faults-requires
 faults-requires c κs = search needs
 
--- src/walk.rt:193:1
 returns : tie.Need-returns
-returns c = ?
+unfolding step
+returns c = 
+    let u = front-of _ _ _ _ (c .before .before .before .before .before .before .frame-bits .ensures) (c .before .before .before .before .before .before .before .before .put-frame .ensures) in
+    rw (rw (u .bits) at (sym (c .before .before .before .before .sent-at .ensures) ∙ c .before .before .passed .given .1)) (c .heard-step .ensures)
 
--- src/walk.rt:193:1
 returns-2 : tie.Need-returns-2
-returns-2 c = ?
+unfolding step
+returns-2 c = 
+    let u = front-of _ _ _ _ (c .before .before .before .before .before .before .frame-bits .ensures) (c .before .before .before .before .before .before .before .before .put-frame .ensures) in
+    rw (rw (u .bits) at (sym (c .before .before .before .before .sent-at .ensures) ∙ c .before .before .passed2 .given .1)) (c .faults .ensures)
 
 pub step-spec : {M : Type 1} → statement M
 step-spec =

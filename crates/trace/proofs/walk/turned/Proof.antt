@@ -1,77 +1,61 @@
+use mathlib.Core.Path.{_≡_, refl, sym, ap, _∙_}
+use Rattle.trace_rules.specs.Trace.{goes, turned}
 use borrow.Author.Needs.{needs}
 use Rattle.trace.proofs.walk.turned.Statement.{statement}
 use Rattle.trace.proofs.walk.turned.Tie as tie
-use Rattle.trace.proofs.walk.turned.Reads as reads
-use Rattle.trace.proofs.walk.turned.Lts as lts
-use Rattle.trace.proofs.walk.ends.Reads as ends-reads
-use Rattle.trace.proofs.walk.faults.Reads as faults-reads
-use Rattle.trace.proofs.walk.goes.Reads as goes-reads
-use Rattle.trace.proofs.walk.lists.Reads as lists-reads
-use Rattle.trace.proofs.walk.onward.Reads as onward-reads
 
--- src/walk.rt:168:34
 enum-told : tie.Need-enum-told
 enum-told c = search needs
 
--- src/walk.rt:168:34
 onward-requires : tie.Need-onward-requires
 onward-requires c κs = search needs
 
--- src/walk.rt:168:29
 goes-requires : tie.Need-goes-requires
 goes-requires c κs = search needs
 
--- src/walk.rt:169:29
 enum-told-2 : tie.Need-enum-told-2
 enum-told-2 c = search needs
 
--- src/walk.rt:169:29
 lists-requires : tie.Need-lists-requires
 lists-requires c κs = search needs
 
--- src/walk.rt:170:41
 enum-told-3 : tie.Need-enum-told-3
 enum-told-3 c = search needs
 
--- src/walk.rt:170:28
 faults-requires : tie.Need-faults-requires
 faults-requires c κs = search needs
 
--- src/walk.rt:171:29
 enum-told-4 : tie.Need-enum-told-4
 enum-told-4 c = search needs
 
--- src/walk.rt:171:29
 ends-requires : tie.Need-ends-requires
 ends-requires c κs = search needs
 
--- src/walk.rt:172:26
 enum-known-a : tie.Need-enum-known-a
 enum-known-a c = search needs
 
--- src/walk.rt:172:32
 faults-requires-2 : tie.Need-faults-requires-2
 faults-requires-2 c κs = search needs
 
--- src/walk.rt:162:1
 returns : tie.Need-returns
-returns c = ?
+unfolding turned
+returns c = rw (c .before .before .enum-told .given .1) (c .goes .ensures ∙ ap goes (c .before .onward .ensures))
 
--- src/walk.rt:162:1
 returns-2 : tie.Need-returns-2
-returns-2 c = ?
+unfolding turned
+returns-2 c = rw (c .before .enum-told2 .given .1) (c .lists .ensures)
 
--- src/walk.rt:162:1
 returns-3 : tie.Need-returns-3
-returns-3 c = ?
+unfolding turned
+returns-3 c = rw (c .before .enum-told3 .given .1) (c .faults .ensures)
 
--- src/walk.rt:162:1
 returns-4 : tie.Need-returns-4
-returns-4 c = ?
+unfolding turned
+returns-4 c = rw (c .before .enum-told4 .given .1) (c .ends .ensures)
 
--- src/walk.rt:162:1
 returns-5 : tie.Need-returns-5
-returns-5 c = ?
+unfolding turned
+returns-5 c = rw (c .before .before .a .given .1) (c .faults2 .ensures)
 
 pub turned-spec : {M : Type 1} → statement M
 turned-spec =
