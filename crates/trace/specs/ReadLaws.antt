@@ -1,12 +1,12 @@
 -- Laws of rows that are read from a log. Assumes nothing.
-use mathlib.Core.Path.{_≡_, refl, sym, ap, _∙_}
-use Prim.Native.Nat.{ℕ, zero, suc, _+_, _*_, _/_, _≤_, _<_}
+use mathlib.Core.Path.{_≡_, refl, sym, ap, ap₂, _∙_}
+use Prim.Native.Nat.{ℕ, zero, suc, _+_, _-_, _*_, _/_, _≤_, _<_}
 use native.Mathlib.Nat.{not-suc-le-zero, zero-add}
 use native.Mathlib.Omega.{arith}
 use mathlib.Core.Bool.{Bool, true, false, cond}
 use mathlib.Core.List.{List, [], _∷_}
-use lib.ListN.{length, take, drop, getD, set, length-take}
-use lib.Seq.{length-take-le, getD-take}
+use lib.ListN.{length, take, drop, getD, set, length-take, length-drop}
+use lib.Seq.{length-take-le, getD-take, take-all}
 use lib.Dec.{eqb}
 use mir.Val.{Fits}
 use mir.Syntax.{w8}
@@ -16,7 +16,7 @@ use Rattle.log.specs.Calls.{mostBits, rowSize}
 use Rattle.log.specs.Reading.{bitsFrom, rowAt, bitCount, recordAt}
 use Rattle.log.specs.UnpackLaws.{bits-enough}
 use Rattle.log.specs.declared.Record.the-variants.{Sent, Clean, Collided}
-use Rattle.trace_rules.specs.Trace.{marked}
+use Rattle.trace_rules.specs.Trace.{stampSize, marked}
 use Rattle.trace_rules.specs.WholeLaws.{OneRow, TwoRows, Headed, whole}
 
 -- a row that the log has
@@ -77,3 +77,14 @@ module _ (w : ℕ) (l : List ℕ) (at start bits next : ℕ) (g : (i : ℕ) → 
       let h : n ≤ mostBits = small-count l at g in
       rw (r .is-start, r .is-bits, r .is-marks)
       ((enough l (at + 2 + w) n (omega (arith, r .inside)), h), (enough l (at + 2 + w + rowSize n) n (omega (arith, r .inside)), h))
+
+-- ---- the input
+
+pub stamp-is : (mode : ℕ) → mode ≤ 1 → 4 * mode ≡ stampSize mode
+stamp-is zero h = refl
+stamp-is (suc zero) h = refl
+stamp-is (suc (suc m)) h = absurd (omega arith)
+
+-- the log behind the first byte
+pub log-behind : (s : List ℕ) → take (length s - 1) (drop 1 s) ≡ drop 1 s
+log-behind s = take-all (length s - 1) (drop 1 s) (simp length-drop (omega arith))

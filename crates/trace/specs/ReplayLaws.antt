@@ -1,10 +1,11 @@
 -- Laws of the loop over the frames of the sweep over the listed cards: what is left to compare after a frame. Assumes nothing.
 use mathlib.Core.Path.{_≡_, refl, sym, ap, _∙_}
-use Prim.Native.Nat.{ℕ, zero, suc, _+_, _-_, _≤_, _<_}
+use Prim.Native.Nat.{ℕ, zero, suc, _+_, _-_, _*_, _≤_, _<_}
 use native.Mathlib.Omega.{arith}
 use mathlib.Core.Bool.{Bool, true, false, cond, _&&_, false≢true}
 use mathlib.Core.List.{List, [], _∷_}
-use lib.ListN.{length, take}
+use lib.ListN.{length, take, length-append, length-map, length-drop}
+use lib.Seq.{length-take-le}
 use lib.Dec.{leb, ltb}
 use borrow.Author.Tests.{ltb-true, ltb-false}
 use Rattle.limits.specs.Limits.{mostFrames}
@@ -65,6 +66,11 @@ module _ (w : ℕ) (l : List ℕ) (n : ℕ) where
   unfolding differs played
   one-more k i at t cards h g = rw (ahead-step k t (take n cards) g, ← (take-after cards n (frame (t .reader)) h))
 
+  -- the array keeps its cards
+  pub played-full : (at : ℕ) (t : Turn) (cards : List Card) (m : ℕ) → n ≤ m → length cards ≡ m → length (played w l at t cards n .cards) ≡ m
+  unfolding played cardsAfter allTake
+  played-full at t cards m h e = rw (length-append, length-map, length-take-le n cards (omega arith), length-drop) (omega arith)
+
   pub left-first : (cards : List Card) → n ≤ length cards → left (mostFrames - 1) w l 0 (played w l 0 first cards n) n ≡ differs w l 0 (sweep (take n cards) .exchanges) 0
   unfolding sends
   left-first cards h = sym (ap (λ es. differs w l 0 es 0) (sweep-ahead (take n cards)) ∙ one-more (mostFrames - 1) 0 0 first cards h refl)
@@ -83,23 +89,32 @@ module _ (w : ℕ) (l : List ℕ) (n : ℕ) where
       go true false e h = absurd (false≢true h)
       go false b e h = absurd (false≢true h)
 
-  pub left-turn : (k i : ℕ) (p : Played) → n ≤ length (p .cards) → isSame (p .compared) ≡ true → goes (p .turn .answer) ≡ true
-      → left (suc k) w l i p n ≡ left k w l (i + 2) (played w l (nextPlace (p .compared)) (p .turn) (p .cards) n) n
-  left-turn k i p h s g =
-      ap (comparedThen i (differs w l (i + 2) (ahead (suc k) (p .turn) (take n (p .cards))))) (is-same (p .compared) s)
-      ∙ one-more k (i + 2) (nextPlace (p .compared)) (p .turn) (p .cards) h g
+  pub left-turn : (frames : ℕ) (p : Played) → n ≤ length (p .cards) → 1 ≤ frames → frames < mostFrames → isSame (p .compared) ≡ true → goes (p .turn .answer) ≡ true
+      → left (mostFrames - frames) w l (2 * (frames - 1)) p n
+      ≡ left (mostFrames - (frames + 1)) w l (2 * (frames + 1 - 1)) (played w l (nextPlace (p .compared)) (p .turn) (p .cards) n) n
+  left-turn frames p h some few s g =
+      let k : ℕ = mostFrames - (frames + 1) in
+      let i : ℕ = 2 * (frames - 1) in
+      let e : mostFrames - frames ≡ suc k = omega arith in
+      let f : 2 * (frames + 1 - 1) ≡ i + 2 = omega arith in
+      rw (e, f)
+      (ap (comparedThen i (differs w l (i + 2) (ahead (suc k) (p .turn) (take n (p .cards))))) (is-same (p .compared) s)
+      ∙ one-more k (i + 2) (nextPlace (p .compared)) (p .turn) (p .cards) h g)
 
-  pub left-done : (k i frames : ℕ) (p : Played) → playsOn p frames ≡ false → (mostFrames ≤ frames → k ≡ 0) → left k w l i p n ≡ finish i (length l) p
+  pub left-done : (i frames : ℕ) (p : Played) → playsOn p frames ≡ false → left (mostFrames - frames) w l i p n ≡ finish i (length l) p
   unfolding playsOn differs
-  left-done k i frames p h z = go (p .compared) h
+  left-done i frames p h = go (p .compared) h
     where
+      k : ℕ
+      k = mostFrames - frames
+
       es : List Exchange
       es = ahead k (p .turn) (take n (p .cards))
 
       none : (a : Bool) → ltb frames mostFrames ≡ a → (b : Bool) → goes (p .turn .answer) ≡ b → (a && true && b) ≡ false → es ≡ []
       none true e true g h = absurd (false≢true (sym h))
       none true e false g h = ahead-none k (p .turn) (take n (p .cards)) g
-      none false e b g h = rw (z (ltb-false frames mostFrames e)) (ahead-spent (p .turn) (take n (p .cards)))
+      none false e b g h = let z : mostFrames - frames ≡ 0 = omega (arith, ltb-false frames mostFrames e) in rw z (ahead-spent (p .turn) (take n (p .cards)))
 
       go : (c : Compared) → (ltb frames mostFrames && isSame c && goes (p .turn .answer)) ≡ false
           → comparedThen i (differs w l (i + 2) es) c ≡ comparedThen i (differs w l (i + 2) []) c

@@ -1,6 +1,6 @@
 -- Laws of the loop over the records: what is left of the check after a turn. Assumes nothing.
 use mathlib.Core.Path.{_≡_, refl, sym, ap, _∙_}
-use Prim.Native.Nat.{ℕ, zero, suc, _+_, _≤_, _<_}
+use Prim.Native.Nat.{ℕ, zero, suc, _+_, _-_, _*_, _≤_, _<_}
 use native.Mathlib.Omega.{arith}
 use mathlib.Core.Bool.{Bool, true, false, cond, _&&_, _||_, false≢true}
 use mathlib.Core.List.{List}
@@ -49,20 +49,29 @@ goes-says s turn most h = go (ltb turn most) (isGoing (s .says)) refl refl h
     go true false p q h = absurd (false≢true h)
     go false b p q h = absurd (false≢true h)
 
-pub left-turn : (k w : ℕ) (l : List ℕ) (i : ℕ) (s : Stepped) → s .says ≡ Goes → left (suc k) w l i s ≡ left k w l (i + 2) (step w l (s .place))
+-- a turn of at most as many as the log has bytes
+pub left-turn : (w : ℕ) (l : List ℕ) (turn : ℕ) (s : Stepped) → turn < length l → s .says ≡ Goes
+    → left (length l - turn) w l (2 * turn) s ≡ left (length l - (turn + 1)) w l (2 * (turn + 1)) (step w l (s .place))
 unfolding walk
-left-turn k w l i s e = rw e
+left-turn w l turn s h e =
+    let k : length l - turn ≡ suc (length l - (turn + 1)) = omega arith in
+    let i : 2 * (turn + 1) ≡ 2 * turn + 2 = omega arith in
+    rw (k, i, e)
 
 -- the loop is over: the turns are used up, or the last one ended the check
-pub left-done : (k w : ℕ) (l : List ℕ) (i turn most : ℕ) (s : Stepped) → goesOn s turn most ≡ false → (most ≤ turn → k ≡ 0) → left k w l i s ≡ lastOf i s
+pub left-done : (w : ℕ) (l : List ℕ) (turn : ℕ) (s : Stepped) → goesOn s turn (length l) ≡ false → left (length l - turn) w l (2 * turn) s ≡ lastOf (2 * turn) s
 unfolding goesOn walk
-left-done k w l i turn most s h z = go (ltb turn most) refl (s .says) h
+left-done w l turn s h = go (ltb turn (length l)) refl (s .says) h
   where
-    go : (a : Bool) → ltb turn most ≡ a → (x : Says) → (a && isGoing x) ≡ false → follow i (s .place) (walk k w l (i + 2) (s .place)) x ≡ follow i (s .place) (walk 0 w l (i + 2) (s .place)) x
+    p : Place
+    p = s .place
+
+    go : (a : Bool) → ltb turn (length l) ≡ a → (x : Says) → (a && isGoing x) ≡ false
+        → follow (2 * turn) p (walk (length l - turn) w l (2 * turn + 2) p) x ≡ follow (2 * turn) p (walk 0 w l (2 * turn + 2) p) x
     go a e Content h = refl
     go a e (Faults on r) h = refl
     go true e Goes h = absurd (false≢true (sym h))
-    go false e Goes h = rw (z (ltb-false turn most e))
+    go false e Goes h = let z : length l - turn ≡ 0 = omega (arith, ltb-false turn (length l) e) in rw z
 
 -- ---- no more cards than the limit are found
 

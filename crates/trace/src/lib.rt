@@ -19,7 +19,13 @@ pub use trace_rules::Verdict;
 fn refused(e: Refusal) -> Checked
     ensures { λ c. ⌜ c ≡ refused e ⌝ }
 {
-    walk::checked(Verdict::Fault { record: 0, refusal: e }, walk::start())
+    walk::checked(
+        Verdict::Fault {
+            record: 0,
+            refusal: e,
+        },
+        walk::start(),
+    )
 }
 
 // Checks all of an input: a first byte, 0 for a log without ticks, 1 for one with, and the log.

@@ -1,70 +1,64 @@
+use mathlib.Core.Path.{_≡_, refl, sym, ap, ap₂, _∙_}
+use denote.Ref.{now}
+use native.Mathlib.Omega.{arith}
+use borrow.Author.Tests.{lt-ltb, le-ltb}
+use Rattle.rows.specs.Rows.{isNil}
+use Rattle.rows.specs.ListLaws.{is-nil}
+use Rattle.rows.specs.CleanLaws.{not-nil}
+use Rattle.trace_rules.specs.Check.{check, checkLog}
+use Rattle.trace.specs.ReadLaws.{stamp-is, log-behind}
 use borrow.Author.Needs.{needs}
 use Rattle.trace.proofs.check.Statement.{statement}
 use Rattle.trace.proofs.check.Tie as tie
-use Rattle.trace.proofs.check.Reads as reads
-use Rattle.trace.proofs.check.Lts as lts
-use Rattle.trace.proofs.check_log.Reads as check-log-reads
-use Rattle.trace.proofs.refused.Reads as refused-reads
 
--- src/lib.rt:38:22
 add-if1 : tie.Need-add-if1
 add-if1 c = search needs
 
--- src/lib.rt:39:9
 refused-requires : tie.Need-refused-requires
 refused-requires c κs = search needs
 
--- src/lib.rt:39:9
 returns : tie.Need-returns
-returns c = ?
+unfolding check
+returns c = rw (lt-ltb _ _ (c .before .if1 .taken)) (c .refused .ensures)
 
--- src/lib.rt:42:9
 refused-requires-2 : tie.Need-refused-requires-2
 refused-requires-2 c κs = search needs
 
--- src/lib.rt:42:9
 returns-2 : tie.Need-returns-2
-returns-2 c = ?
+unfolding check isNil
+returns-2 c = rw (le-ltb _ _ (c .before .before .if1 .left), is-nil (now (c .before .before .before .before .args .input)) (c .before .if2 .taken)) (c .refused2 .ensures)
 
--- src/lib.rt:44:16
 shared-slice-read-mode : tie.Need-shared-slice-read-mode
 shared-slice-read-mode c = search needs
 
--- src/lib.rt:46:9
 refused-requires-3 : tie.Need-refused-requires-3
 refused-requires-3 c κs = search needs
 
--- src/lib.rt:46:9
 returns-3 : tie.Need-returns-3
-returns-3 c = ?
+unfolding check
+returns-3 c = rw (le-ltb _ _ (c .before .before .before .before .if1 .left), not-nil (now (c .before .before .before .before .before .before .args .input)) (omega arith), lt-ltb 1 _ (c .before .if3 .taken)) (c .refused3 .ensures)
 
--- src/lib.rt:48:15
 sub-check-log : tie.Need-sub-check-log
 sub-check-log c = search needs
 
--- src/lib.rt:48:15
 part-check-log-start : tie.Need-part-check-log-start
 part-check-log-start c = search needs
 
--- src/lib.rt:48:15
 part-check-log-end : tie.Need-part-check-log-end
 part-check-log-end c = search needs
 
--- src/lib.rt:48:33
 cast-check-log : tie.Need-cast-check-log
 cast-check-log c = search needs
 
--- src/lib.rt:48:28
 mul-check-log : tie.Need-mul-check-log
 mul-check-log c = search needs
 
--- src/lib.rt:48:5
 check-log-requires : tie.Need-check-log-requires
 check-log-requires c κs = search needs
 
--- src/lib.rt:35:1
 returns-4 : tie.Need-returns-4
-returns-4 c = ?
+unfolding check
+returns-4 c = rw (le-ltb _ _ (c .before .before .before .before .before .if1 .left), not-nil (now (c .before .before .before .before .before .before .before .args .input)) (omega arith), le-ltb 1 _ (c .before .before .if3 .left)) (c .check-log .ensures ∙ ap₂ checkLog (stamp-is _ (c .before .before .if3 .left)) (log-behind (now (c .before .before .before .before .before .before .before .args .input))))
 
 pub check-spec : {M : Type 1} → statement M
 check-spec =

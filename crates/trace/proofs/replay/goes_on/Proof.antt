@@ -13,11 +13,11 @@ goes-requires c κs = search needs
 
 returns : tie.Need-returns
 unfolding playsOn
-returns c = rw (lt-ltb _ _ (c .before .before .before .before .if1 .taken)) ?
+returns c = rw (lt-ltb _ _ (c .before .before .before .before .if1 .taken), ← (c .before .before .before .is-same .ensures), c .before .before .if2 .taken) (c .goes .ensures)
 
 returns-2 : tie.Need-returns-2
 unfolding playsOn
-returns-2 c = rw (lt-ltb _ _ (c .before .before .if1 .taken)) ?
+returns-2 c = rw (lt-ltb _ _ (c .before .before .if1 .taken), ← (c .before .is-same .ensures), c .if2 .left)
 
 returns-3 : tie.Need-returns-3
 unfolding playsOn

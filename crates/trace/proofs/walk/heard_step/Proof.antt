@@ -37,7 +37,7 @@ faults-requires : tie.Need-faults-requires
 faults-requires c κs = search needs
 
 returns : tie.Need-returns
-returns c = 
+returns c =
     let a = c .before .before .before .before .before .before .before .before .before .before .before .args in
     let u = front-of _ _ _ _ (ap (λ y. y .bits) (c .before .before .before .before .before .before .before .before .heard-at .ensures .0)) (c .before .before .before .before .before .before .before .before .heard-at .ensures .1) in
     rw (sym (ap (λ y. y .passed) (c .before .before .before .before .before .before .before .before .heard-at .ensures .0)) ∙ c .before .before .before .before .passed .given .1)

@@ -31,7 +31,7 @@ same-uid-requires c κs = search needs
 
 returns : tie.Need-returns Inv-loop μ-loop
 unfolding isListed
-returns c = 
+returns c =
     let l = c .before .before .before .before .before .loop in
     let a = c .before .before .before .before .before .before .args in
     sym (any-here (a .t2) (a .n) (omega arith) (l .i) _ (omega arith) (λ k. same (uidBytes (a .u)) (uidBytes (k .uid))) (sym (c .before .same-uid .ensures) ∙ c .if1 .taken)) ∙ l .inv .2
@@ -43,14 +43,14 @@ loop-less : tie.Need-loop-less Inv-loop μ-loop
 loop-less c = omega arith
 
 loop-again : tie.Need-loop-again Inv-loop μ-loop
-loop-again c = 
+loop-again c =
     let l = c .before .before .before .before .before .loop in
     let a = c .before .before .before .before .before .before .args in
     (omega arith, omega arith, sym (any-next (a .t2) (a .n) (omega arith) (l .i) _ (omega arith) (λ k. same (uidBytes (a .u)) (uidBytes (k .uid))) (sym (c .before .same-uid .ensures) ∙ c .if1 .left)) ∙ l .inv .2)
 
 returns-2 : tie.Need-returns-2 Inv-loop μ-loop
 unfolding isListed
-returns-2 c = 
+returns-2 c =
     let l = c .before .loop in
     let a = c .before .before .args in
     sym (any-done (a .t2) (a .n) (omega arith) (λ k. same (uidBytes (a .u)) (uidBytes (k .uid))) (l .i) (omega arith)) ∙ l .inv .2

@@ -40,13 +40,13 @@ faults-requires c κs = search needs
 
 returns : tie.Need-returns
 unfolding step
-returns c = 
+returns c =
     let u = front-of _ _ _ _ (c .before .before .before .before .before .before .frame-bits .ensures) (c .before .before .before .before .before .before .before .before .put-frame .ensures) in
     rw (rw (u .bits) at (sym (c .before .before .before .before .sent-at .ensures) ∙ c .before .before .passed .given .1)) (c .heard-step .ensures)
 
 returns-2 : tie.Need-returns-2
 unfolding step
-returns-2 c = 
+returns-2 c =
     let u = front-of _ _ _ _ (c .before .before .before .before .before .before .frame-bits .ensures) (c .before .before .before .before .before .before .before .before .put-frame .ensures) in
     rw (rw (u .bits) at (sym (c .before .before .before .before .sent-at .ensures) ∙ c .before .before .passed2 .given .1)) (c .faults .ensures)
 
