@@ -24,20 +24,22 @@ mod reader_link;
 mod refusal;
 mod scripts;
 mod sweep;
+mod trace;
 mod type_b;
 mod uid;
 mod vectors_calls;
 mod vectors_exchange;
 mod vectors_frame;
+mod vectors_trace;
 mod write;
 
 const USAGE: &str = "\
-model vectors_frame | vectors_front | vectors_sweep | vectors_exchange | vectors_calls | bench_sweep | bench_card | bench_reader | bench_front | bench_type_b
+model vectors_frame | vectors_front | vectors_sweep | vectors_exchange | vectors_calls | vectors_trace | trace_check | bench_sweep | bench_card | bench_reader | bench_front | bench_type_b
                                          play a script from standard input
 model write DIR                          write the stored scripts and their answers
 model check DIR                          compare the stored ones with what would be written
 model coverage                           what the stored scripts reach
-model scripts card|reader|field|exchange|lossy|front|type_b COUNT SEED   random scripts for larger comparisons";
+model scripts card|reader|field|exchange|lossy|front|type_b|trace COUNT SEED   random scripts for larger comparisons";
 
 fn report(outcome: Result<(), String>) {
     if let Err(what) = outcome {
@@ -57,10 +59,18 @@ fn random_scripts(kind: &str, count: &str, seed: &str) -> Result<(), String> {
         "lossy" => scripts::lossy::random_scripts(count, seed).input,
         "front" => scripts::front::random_scripts(count, seed).input,
         "type_b" => scripts::type_b::random_scripts(count, seed).input,
-        _ => return Err("scripts for card, reader, field, exchange, lossy, front or type_b".to_string()),
+        "trace" => scripts::trace::random_scripts(count, seed).input,
+        _ => return Err("scripts for card, reader, field, exchange, lossy, front, type_b or trace".to_string()),
     };
     print!("{text}");
     Ok(())
+}
+
+/// A filter without lines: all of standard input is one log.
+fn trace_check() {
+    let mut input = Vec::new();
+    std::io::Read::read_to_end(&mut std::io::stdin(), &mut input).expect("standard input");
+    vectors_trace::told(trace::check(&input)).iter().for_each(|line| println!("{line}"));
 }
 
 fn main() {
@@ -71,6 +81,8 @@ fn main() {
         ["vectors_sweep"] => language::play(bench_sweep::VectorsSweep::default()),
         ["vectors_exchange"] => language::play(vectors_exchange::VectorsExchange::default()),
         ["vectors_calls"] => language::play(vectors_calls::VectorsCalls::new()),
+        ["vectors_trace"] => language::play(vectors_trace::VectorsTrace),
+        ["trace_check"] => trace_check(),
         ["bench_sweep"] => language::play(bench_sweep::BenchSweep::default()),
         ["bench_card"] => language::play(bench_card::BenchCard::new()),
         ["bench_front"] => language::play(bench_front::BenchFront::new()),
