@@ -30,17 +30,22 @@ fn answer_line(talk: Talk) {
 // `check HEX`; or `filled N HEX`, the same with zeros behind it, N bytes in all.
 fn script(text: &[u8]) -> Answer {
     let k = bench_talk::which(b"check filled", 2, bench::word(text, 0));
-    if k == 2 {
-        return bench_talk::none();
-    }
-    if bench::word(text, k + 2).len() != 0 {
-        return bench_talk::none();
-    }
     if k == 0 {
-        return checked(bench::word(text, 1), 0);
+        return line(text, 1, 0);
     }
-    let n = bench_lines::number_to(bench::word(text, 1), 41000);
-    checked(bench::word(text, 2), n)
+    if k == 1 {
+        return line(text, 2, bench_lines::number_to(bench::word(text, 1), 41000));
+    }
+    bench_talk::none()
+}
+
+// The bytes are the k-th word, and the last.
+fn line(text: &[u8], k: usize, n: usize) -> Answer {
+    let last = if k == 1 { 2 } else { 3 };
+    if bench::word(text, last).len() != 0 {
+        return bench_talk::none();
+    }
+    checked(bench::word(text, k), n)
 }
 
 // The verdict on these bytes, filled up to n.
