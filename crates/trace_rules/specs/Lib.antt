@@ -1,3 +1,5 @@
 pub mod Trace
 pub mod Check
 pub mod WholeLaws
+pub mod PackBackLaws
+pub mod BytesBackLaws
