@@ -70,10 +70,10 @@ header-is a b k n ha hb hk hz hn =
 
 module _ (w : ℕ) (l : List ℕ) (at : ℕ) (bytes : Bytes l) (room : at + 2 + w ≤ length l) where
   -- the stamp that stands there
-  stamp : List ℕ
+  pub stamp : List ℕ
   stamp = take w (drop (at + 2) l)
 
-  stamp-wide : length stamp ≡ w
+  pub stamp-wide : length stamp ≡ w
   unfolding stamp
   stamp-wide = length-take-le w (drop (at + 2) l) (rw length-drop (omega arith))
 
@@ -88,7 +88,7 @@ module _ (w : ℕ) (l : List ℕ) (at : ℕ) (bytes : Bytes l) (room : at + 2 + 
 
   -- ---- the records
 
-  abbrev Again : List ℕ → ℕ → Type 0
+  abbrev pub Again : List ℕ → ℕ → Type 0
   Again s next = drop at l ≡ s ++ drop next l
 
   module _ (zero-bit : zeroBit (getD l at 0) ≡ 0) (first : getD l at 0 < 256) (second : getD l (at + 1) 0 < 256) where
@@ -111,17 +111,17 @@ module _ (w : ℕ) (l : List ℕ) (at : ℕ) (bytes : Bytes l) (room : at + 2 + 
         rw (r .is-start, r .is-bits, r .is-next, row-long (r .inside), append-assoc, append-assoc)
         (headed k bits (packed (rowSize bits) (rowAt l from bits) ++ drop (from + rowSize bits) l) (head k (r .is-kind)) (row-packed l from bits bytes (r .inside) (r .filled)))
 
-    sent-again : {start n next : ℕ} → OneRow l from (kindOf (getD l at 0)) bits 0 start n next → Again (sentRecord stamp (rowAt l start n)) next
+    pub sent-again : {start n next : ℕ} → OneRow l from (kindOf (getD l at 0)) bits 0 start n next → Again (sentRecord stamp (rowAt l start n)) next
     unfolding sentRecord
     sent-again r = one-again r
 
-    clean-again : {start n next : ℕ} → OneRow l from (kindOf (getD l at 0)) bits 1 start n next → Again (heardRecord stamp (rowAt l start n)) next
+    pub clean-again : {start n next : ℕ} → OneRow l from (kindOf (getD l at 0)) bits 1 start n next → Again (heardRecord stamp (rowAt l start n)) next
     clean-again {start} {n} {next} r =
         let c : clean (rowAt l start n) ≡ true = bits-clean (rowAt l start n) (row-bits l start n) in
         let k : 0 < length (rowAt l start n) = rw (r .is-start, r .is-bits, row-long (r .inside)) (r .some) in
         rw (heard-clean stamp (rowAt l start n) k c, plain-clean (rowAt l start n) c) (one-again r)
 
-    silent-again : {next : ℕ} → NoRow l from (kindOf (getD l at 0)) bits next → Again (heardRecord stamp []) next
+    pub silent-again : {next : ℕ} → NoRow l from (kindOf (getD l at 0)) bits next → Again (heardRecord stamp []) next
     unfolding heardRecord
     silent-again r =
         rw (r .is-next, append-assoc) (headed 3 0 (drop from l) (rw (r .none) at (head 3 (r .is-kind))) refl)
@@ -162,6 +162,6 @@ module _ (w : ℕ) (l : List ℕ) (at : ℕ) (bytes : Bytes l) (room : at + 2 + 
           rw (heard-collided stamp (marked r d) (marked-struck r d br bd e z), marked-plain r d br bd e a, marked-marks r d br bd e, length-marked r d, r-long, d-long, append-assoc, append-assoc, append-assoc)
           (headed 2 bits (packed (rowSize bits) r ++ (packed (rowSize bits) d ++ drop (from + 2 * rowSize bits) l)) (head 2 k) (rows-packed f g))
 
-    collided-again : {start m n next : ℕ} → TwoRows l from (kindOf (getD l at 0)) bits start m n next → Again (heardRecord stamp (marked (rowAt l start n) (rowAt l m n))) next
+    pub collided-again : {start m n next : ℕ} → TwoRows l from (kindOf (getD l at 0)) bits start m n next → Again (heardRecord stamp (marked (rowAt l start n) (rowAt l m n))) next
     unfolding r d
     collided-again t = rw (t .is-start, t .is-marks, t .is-bits, t .is-next) (two-again (t .inside) (t .is-kind) (t .filled) (t .marks-filled) (t .struck) (t .held))
