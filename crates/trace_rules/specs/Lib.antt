@@ -5,3 +5,6 @@ pub mod WholeLaws
 pub mod PackBackLaws
 pub mod BytesBackLaws
 pub mod CleanLaws
+pub mod SweptLaws
+pub mod FieldLaws
+pub mod FaithLaws
