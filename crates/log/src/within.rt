@@ -1,4 +1,4 @@
-// Records and entries written at a place of lent bytes, and records read of any stamp. Each has a condition, and its callers' proofs show that they meet it.
+// Records and entries written at a place of lent bytes. Each has a condition, and its callers' proofs show that they meet it.
 ghost use mathlib.Core.Path.{_≡_};
 ghost use mathlib.Core.Bool.{true};
 ghost use mathlib.Core.List.{_++_};
@@ -7,9 +7,7 @@ ghost use lib.ListN.{length, take, drop, getD};
 ghost use Rattle.rows.specs.Rows.{overlay, clean};
 ghost use Rattle.uid.specs.Uid.{uidBytes};
 ghost use Rattle.log.specs.Log.{fromTop, pack, header, tickBytes, plain, sentRecord, heardRecord, entryBytes};
-ghost use Rattle.log.specs.Calls.{mostBits, tickSize, rowSize, shownBit, shown};
-ghost use Rattle.log.specs.Reading.{recordAt};
-use crate::Record;
+ghost use Rattle.log.specs.Calls.{mostBits, rowSize, shownBit, shown};
 use uid::Uid;
 
 // What a record shows of a bit: in the row of marks a 1 if it collided; else the bit, 0 if it collided.
@@ -121,18 +119,4 @@ pub fn put_entry(list: &mut [u8], at: usize, u: Uid)
 {
     let bytes = super::entry(u);
     rows::within::put(list, at, &bytes);
-}
-
-// The record at a place of a log whose records have stamps of so many bytes: those of a tick, or none (T-12).
-pub fn record_in(log: &[u8], stamp: usize, at: usize) -> Record
-    requires { ⌜ stamp ≤ tickSize ⌝ }
-    ensures { λ r. ⌜ r ≡ recordAt stamp (now (log .entry)) at ⌝ }
-{
-    if log.len() <= at {
-        return Record::End;
-    }
-    if log.len() < at + 2 + stamp {
-        return Record::Cut;
-    }
-    crate::reading::after_header(log, at + 2 + stamp, log[at], log[at + 1])
 }

@@ -8,7 +8,6 @@ ghost use mathlib.Core.Path.{_≡_};
 ghost use Prim.Native.Nat.{_≤_};
 ghost use lib.ListN.{length};
 ghost use Rattle.limits.specs.Limits.{mostCards, logRoom};
-ghost use Rattle.log.specs.Calls.{tickSize};
 ghost use Rattle.trace_rules.specs.declared.Verdict.the-variants.{Clean};
 ghost use Rattle.trace_rules.specs.Check.{check, refused, checkLog, judged};
 use refusal::Refusal;
@@ -47,7 +46,7 @@ pub fn check(input: &[u8]) -> Checked
 
 // Checks a log whose records have stamps of so many bytes.
 fn check_log(log: &[u8], stamp: usize) -> Checked
-    requires { ⌜ (stamp ≤ tickSize) × (length (now log) ≤ logRoom) ⌝ }
+    requires { ⌜ length (now log) ≤ logRoom ⌝ }
     ensures { λ c. ⌜ c ≡ checkLog stamp (now (log .entry)) ⌝ }
 {
     let c = walk::walk(log, stamp);
@@ -63,7 +62,7 @@ fn check_log(log: &[u8], stamp: usize) -> Checked
 
 // The reader is content throughout: what the plain sweep over the listed cards says.
 fn judged(log: &[u8], stamp: usize, c: Checked) -> Checked
-    requires { ⌜ (stamp ≤ tickSize) × (c .found ≤ mostCards) ⌝ }
+    requires { ⌜ c .found ≤ mostCards ⌝ }
     ensures { λ r. ⌜ r ≡ judged stamp (now (log .entry)) c Clean ⌝ }
 {
     let cards = c.cards;

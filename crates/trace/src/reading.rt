@@ -5,7 +5,7 @@ ghost use Prim.Native.Nat.{_≤_};
 ghost use lib.ListN.{length};
 ghost use lib.Dec.{eqb};
 ghost use Rattle.rows.specs.Rows.{overlay, same};
-ghost use Rattle.log.specs.Calls.{mostBits, tickSize};
+ghost use Rattle.log.specs.Calls.{mostBits};
 ghost use Rattle.log.specs.Reading.{bitsFrom, rowAt, recordAt};
 ghost use Rattle.trace_rules.specs.Trace.{marked, heardRow, sentPassed};
 ghost use Rattle.trace.specs.Reads.{heardBits, heardOf};
@@ -64,10 +64,9 @@ fn holds(log: &[u8], start: usize, n: usize, row: &[u8]) -> bool
 
 // A reader's record is due, with this frame.
 pub fn sent_at(log: &[u8], stamp: usize, at: usize, frame: &[u8]) -> Passed
-    requires { ⌜ stamp ≤ tickSize ⌝ }
     ensures { λ r. ⌜ r ≡ sentPassed (now (log .entry)) (now (frame .entry)) (recordAt stamp (now (log .entry)) at) ⌝ }
 {
-    let x = log::within::record_in(log, stamp, at);
+    let x = trace_reader::read_at(log, stamp, at);
     match x {
         Record::Sent {
             start: start,
@@ -108,11 +107,11 @@ fn heard_of(bits: usize, passed: Passed) -> Heard
 
 // The record of what was heard is due.
 pub fn heard_at(log: &[u8], stamp: usize, at: usize, row: &mut [u8]) -> Heard
-    requires { ⌜ (stamp ≤ tickSize) × (mostBits ≤ length (now row)) ⌝ }
+    requires { ⌜ mostBits ≤ length (now row) ⌝ }
     ensures { λ h. ⌜ h ≡ heardOf (now (log .entry)) (recordAt stamp (now (log .entry)) at) ⌝ }
     ensures { λ h. ⌜ now (row .exit) ≡ overlay (now (row .entry)) 0 (heardRow (now (log .entry)) (recordAt stamp (now (log .entry)) at)) ⌝ }
 {
-    let x = log::within::record_in(log, stamp, at);
+    let x = trace_reader::read_at(log, stamp, at);
     match x {
         Record::Sent {
             start: _,

@@ -4,7 +4,6 @@ ghost use mathlib.Core.Path.{_≡_};
 ghost use Prim.Native.Nat.{_≤_, _<_, _^_};
 ghost use lib.ListN.{take};
 ghost use Rattle.limits.specs.Limits.{mostCards};
-ghost use Rattle.log.specs.Calls.{tickSize};
 ghost use Rattle.log.specs.Log.{sentHeard};
 ghost use Rattle.log.specs.Reading.{recordAt};
 ghost use Rattle.sweep_rules.specs.Run.{sweep};
@@ -28,7 +27,6 @@ pub struct Played {
 
 // The record of what was heard, if it is this row.
 fn heard_as(log: &[u8], stamp: usize, at: usize, heard: &[u8]) -> Compared
-    requires { ⌜ stamp ≤ tickSize ⌝ }
     ensures { λ c. ⌜ c ≡ heardCompared (heardAs (now (log .entry)) (now (heard .entry)) (recordAt stamp (now (log .entry)) at)) ⌝ }
 {
     let mut row = [0u8; 8191];
@@ -46,7 +44,6 @@ fn heard_as(log: &[u8], stamp: usize, at: usize, heard: &[u8]) -> Compared
 
 // An exchange held to the two records at a place.
 fn compare(log: &[u8], stamp: usize, at: usize, frame: &[u8], heard: &[u8]) -> Compared
-    requires { ⌜ stamp ≤ tickSize ⌝ }
     ensures { λ c. ⌜ c ≡ compared stamp (now (log .entry)) (sentHeard (now (frame .entry)) (now (heard .entry))) at ⌝ }
 {
     let passed = crate::reading::sent_at(log, stamp, at, frame);
@@ -58,7 +55,7 @@ fn compare(log: &[u8], stamp: usize, at: usize, frame: &[u8], heard: &[u8]) -> C
 
 // The reader's frame, taken by the first n cards, and what it does with what it heard.
 fn play(log: &[u8], stamp: usize, at: usize, t: Turn, cards: [Card; MOST_CARDS], n: usize) -> Played
-    requires { ⌜ (stamp ≤ tickSize) × (n ≤ mostCards) ⌝ }
+    requires { ⌜ n ≤ mostCards ⌝ }
     ensures { λ p. ⌜ p ≡ played stamp (now (log .entry)) at t cards n ⌝ }
 {
     let r = t.reader;
@@ -143,7 +140,7 @@ fn verdict(i: usize, p: Played, size: usize) -> Verdict
 
 // The first record in which the log differs from the plain sweep over the first n cards.
 pub fn replay(log: &[u8], stamp: usize, cards: [Card; MOST_CARDS], n: usize) -> Verdict
-    requires { ⌜ (stamp ≤ tickSize) × (n ≤ mostCards) ⌝ }
+    requires { ⌜ n ≤ mostCards ⌝ }
     ensures { λ v. ⌜ v ≡ differs stamp (now (log .entry)) 0 (sweep (take n cards) .exchanges) 0 ⌝ }
 {
     let first = reader::within::sends(reader::within::blank(Phase::ReqaSent, true));

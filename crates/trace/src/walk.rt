@@ -3,7 +3,6 @@ ghost use mathlib.Core.Path.{_≡_};
 ghost use Prim.Native.Nat.{suc, _≤_, _<_, _^_};
 ghost use lib.ListN.{length, take};
 ghost use Rattle.limits.specs.Limits.{mostCards, logRoom};
-ghost use Rattle.log.specs.Calls.{tickSize};
 ghost use Rattle.log.specs.Reading.{recordAt};
 ghost use Rattle.trace_rules.specs.Trace.{noCard, start, goes, faults, onward, listed, withCard, isListed, lists, ends, turned, heardThen, heardPassed, step, checked, walk};
 ghost use Rattle.trace.specs.Loops.{goesOn, lastOf};
@@ -175,7 +174,6 @@ fn turned(log: &[u8], p: Place, at: usize, t: Turn) -> Stepped
 
 // What was heard is due at a place.
 fn heard_step(log: &[u8], stamp: usize, at: usize, p: Place) -> Stepped
-    requires { ⌜ stamp ≤ tickSize ⌝ }
     ensures { λ s. ⌜ s ≡ heardThen (now (log .entry)) p (recordAt stamp (now (log .entry)) at) (heardPassed (recordAt stamp (now (log .entry)) at)) ⌝ }
 {
     let mut row = [0u8; 8191];
@@ -191,7 +189,6 @@ fn heard_step(log: &[u8], stamp: usize, at: usize, p: Place) -> Stepped
 
 // Two records: the frame that the reader has sent, and what was heard.
 fn step(log: &[u8], stamp: usize, p: Place) -> Stepped
-    requires { ⌜ stamp ≤ tickSize ⌝ }
     ensures { λ s. ⌜ s ≡ step stamp (now (log .entry)) p ⌝ }
 {
     let r = p.reader;
@@ -259,7 +256,7 @@ fn verdict(i: usize, s: Stepped) -> Checked
 
 // All records.
 pub fn walk(log: &[u8], stamp: usize) -> Checked
-    requires { ⌜ (stamp ≤ tickSize) × (length (now log) ≤ logRoom) ⌝ }
+    requires { ⌜ length (now log) ≤ logRoom ⌝ }
     ensures { λ c. ⌜ c ≡ walk (suc (length (now (log .entry)))) stamp (now (log .entry)) 0 start ⌝ }
 {
     let mut s = step(log, stamp, start());

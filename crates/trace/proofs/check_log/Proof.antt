@@ -14,7 +14,7 @@ enum-told : tie.Need-enum-told
 enum-told c = search needs
 
 judged-requires : tie.Need-judged-requires
-judged-requires c κs = (c .before .before .before .before .pre .0, rw (c .before .before .walk .ensures) (few-found _ _ _))
+judged-requires c κs = rw (c .before .before .walk .ensures) (few-found _ _ _)
 
 enum-told-2 : tie.Need-enum-told-2
 enum-told-2 c = search needs

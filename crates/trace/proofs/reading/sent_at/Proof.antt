@@ -6,8 +6,8 @@ use borrow.Author.Needs.{needs}
 use Rattle.trace.proofs.reading.sent_at.Statement.{statement}
 use Rattle.trace.proofs.reading.sent_at.Tie as tie
 
-record-in-requires : tie.Need-record-in-requires
-record-in-requires c κs = search needs
+read-at-requires : tie.Need-read-at-requires
+read-at-requires c κs = search needs
 
 enum-known-x : tie.Need-enum-known-x
 enum-known-x c = search needs
@@ -15,10 +15,10 @@ enum-known-x c = search needs
 holds-requires : tie.Need-holds-requires
 holds-requires c κs =
     let k = c .before .before .before in
-    sent-held _ _ _ _ _ _ (k .before .before .shared-slice-known .given) (sym (k .record-in .ensures) ∙ c .before .x .given .1)
+    sent-held _ _ _ _ _ _ (k .before .before .shared-slice-known .given) (sym (k .read-at .ensures) ∙ c .before .x .given .1)
 
 returns : tie.Need-returns
-returns c = rw (← (c .before .before .before .before .before .record-in .ensures), c .before .before .before .x .given .1, ← (c .before .holds .ensures), c .if1 .taken)
+returns c = rw (← (c .before .before .before .before .before .read-at .ensures), c .before .before .before .x .given .1, ← (c .before .holds .ensures), c .if1 .taken)
 
 enum-told : tie.Need-enum-told
 enum-told c = search needs
@@ -39,31 +39,31 @@ enum-told-6 : tie.Need-enum-told-6
 enum-told-6 c = search needs
 
 returns-2 : tie.Need-returns-2
-returns-2 c = rw (← (c .before .before .before .before .before .record-in .ensures), c .before .before .before .x .given .1, ← (c .before .holds .ensures), c .if1 .left)
+returns-2 c = rw (← (c .before .before .before .before .before .read-at .ensures), c .before .before .before .x .given .1, ← (c .before .holds .ensures), c .if1 .left)
 
 returns-3 : tie.Need-returns-3
-returns-3 c = rw (← (c .before .before .record-in .ensures), c .enum-told .given .1)
+returns-3 c = rw (← (c .before .before .read-at .ensures), c .enum-told .given .1)
 
 returns-4 : tie.Need-returns-4
-returns-4 c = rw (← (c .before .before .record-in .ensures), c .enum-told2 .given .1)
+returns-4 c = rw (← (c .before .before .read-at .ensures), c .enum-told2 .given .1)
 
 returns-5 : tie.Need-returns-5
-returns-5 c = rw (← (c .before .before .record-in .ensures), c .enum-told3 .given .1)
+returns-5 c = rw (← (c .before .before .read-at .ensures), c .enum-told3 .given .1)
 
 returns-6 : tie.Need-returns-6
-returns-6 c = rw (← (c .before .before .record-in .ensures), c .enum-told4 .given .1)
+returns-6 c = rw (← (c .before .before .read-at .ensures), c .enum-told4 .given .1)
 
 returns-7 : tie.Need-returns-7
-returns-7 c = rw (← (c .before .before .record-in .ensures), c .enum-told5 .given .1)
+returns-7 c = rw (← (c .before .before .read-at .ensures), c .enum-told5 .given .1)
 
 returns-8 : tie.Need-returns-8
-returns-8 c = rw (← (c .before .before .record-in .ensures), c .enum-told6 .given .1)
+returns-8 c = rw (← (c .before .before .read-at .ensures), c .enum-told6 .given .1)
 
 pub sent-at-spec : {M : Type 1} → statement M
 sent-at-spec =
     tie.close
     (tie.spec
-    record-in-requires
+    read-at-requires
     enum-known-x
     holds-requires
     returns

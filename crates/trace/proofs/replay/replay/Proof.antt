@@ -30,7 +30,7 @@ play-requires c κs = search needs
 loop-holds : tie.Need-loop-holds Inv-loop μ-loop
 loop-holds c =
     let a = c .before .before .before .before .args in
-    (omega arith, omega arith, rw (c .play .ensures) (played-full (a .stamp) (now (a .log)) (a .n) 0 _ (a .cards) mostCards (c .before .before .before .before .pre .1) (c .before .before .before .before .good .1 .1 .0 .1 .0 .1)), refl)
+    (omega arith, omega arith, rw (c .play .ensures) (played-full (a .stamp) (now (a .log)) (a .n) 0 _ (a .cards) mostCards (c .before .before .before .before .pre) (c .before .before .before .before .good .1 .1 .0 .1 .0 .1)), refl)
 
 goes-on-requires : tie.Need-goes-on-requires Inv-loop μ-loop
 goes-on-requires c κs = search needs
@@ -57,7 +57,7 @@ loop-again c =
     let l = c .before .before .before .before .before .before .loop in
     let g = plays-says (a .stamp) (now (a .log)) (a .n) (l .p) (l .frames) (sym (c .before .before .before .before .before .goes-on .ensures) ∙ c .before .before .before .before .if1 .taken) in
     let e = c .play2 .ensures ∙ ap (λ at. played (a .stamp) (now (a .log)) at (l .p .turn) (l .p .cards) (a .n)) (c .before .next-place .ensures) in
-    (omega arith, omega (arith, g .0), rw e (played-full (a .stamp) (now (a .log)) (a .n) _ (l .p .turn) (l .p .cards) mostCards (c .before .before .before .before .before .before .before .before .before .before .before .pre .1) (l .inv .2)), rw e (sym (left-turn (a .stamp) (now (a .log)) (a .n) (l .frames) (l .p) (omega arith) (l .inv .0) (g .0) (g .1) (g .2)) ∙ l .inv .3))
+    (omega arith, omega (arith, g .0), rw e (played-full (a .stamp) (now (a .log)) (a .n) _ (l .p .turn) (l .p .cards) mostCards (c .before .before .before .before .before .before .before .before .before .before .before .pre) (l .inv .2)), rw e (sym (left-turn (a .stamp) (now (a .log)) (a .n) (l .frames) (l .p) (omega arith) (l .inv .0) (g .0) (g .1) (g .2)) ∙ l .inv .3))
 
 sub-verdict : tie.Need-sub-verdict Inv-loop μ-loop
 sub-verdict c = omega arith
