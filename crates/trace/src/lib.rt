@@ -9,7 +9,8 @@ ghost use Prim.Native.Nat.{_≤_};
 ghost use lib.ListN.{length};
 ghost use Rattle.limits.specs.Limits.{mostCards, logRoom};
 ghost use Rattle.trace_rules.specs.declared.Verdict.the-variants.{Clean};
-ghost use Rattle.trace_rules.specs.Check.{check, refused, checkLog, judged};
+ghost use Rattle.trace_rules.specs.Check.{check, refused, checkLog, judged, checkedSays, checkSays};
+ghost use Rattle.trace_rules.specs.Promise.{Faithful};
 use refusal::Refusal;
 pub use trace_rules::Checked;
 pub use trace_rules::Verdict;
@@ -27,8 +28,8 @@ fn refused(e: Refusal) -> Checked
     )
 }
 
-// Checks all of an input: a first byte, 0 for a log without ticks, 1 for one with, and the log.
-pub fn check(input: &[u8]) -> Checked
+// The tests of the input, and then of the log.
+fn check_input(input: &[u8]) -> Checked
     ensures { λ c. ⌜ c ≡ check (now (input .entry)) ⌝ }
 {
     if input.len() > limits::LOG_ROOM + 1 {
@@ -42,6 +43,16 @@ pub fn check(input: &[u8]) -> Checked
         return refused(Refusal::Argument);
     }
     check_log(&input[1..], 4 * (mode as usize))
+}
+
+// Checks all of an input: a first byte, 0 for a log without ticks, 1 for one with, and the log. Whatever the input is, the answer is the one of the
+// definition.
+pub fn check(input: &[u8]) -> Checked
+    ensures { λ c. ⌜ c ≡ check (now (input .entry)) ⌝ }
+    ensures { λ c. ⌜ checkedSays c ≡ checkSays (now (input .entry)) ⌝ }
+    ensures { λ c. ⌜ Faithful (now (input .entry)) c ⌝ }
+{
+    check_input(input)
 }
 
 // Checks a log whose records have stamps of so many bytes.

@@ -93,3 +93,13 @@ verdictSays cs (Fault i e) = record { number = numberOf e; values = placeOf e �
 
 abbrev pub checkedSays : Checked → Said
 checkedSays c = verdictSays (cardsOf c) (c .verdict)
+
+-- the same in the order of the tests: a refusal of the input is at record 0
+abbrev pub faultSays : ℕ → Said
+faultSays n = record { number = n; values = 0 ∷ 0 ∷ [] }
+
+unfoldable pub checkSays : List ℕ → Said
+checkSays s =
+    cond (ltb (suc logRoom) (length s)) (faultSays 1)
+    (cond (isNil s || ltb 1 (getD s 0 0)) (faultSays 6)
+    (checkedSays (checkLog (stampSize (getD s 0 0)) (drop 1 s))))

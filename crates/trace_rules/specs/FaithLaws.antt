@@ -13,7 +13,7 @@ use Rattle.sweep_rules.specs.Run.{sweep}
 use Rattle.sweep_rules.specs.Terms.{isIdle, within}
 use Rattle.refusal.specs.declared.Refusal.the-variants.{Room, Argument}
 use Rattle.trace_rules.specs.Trace.{stampSize, start, checked, walk}
-use Rattle.trace_rules.specs.Check.{differs, cardsOf, judged, checkLog, refused, check}
+use Rattle.trace_rules.specs.Check.{differs, cardsOf, judged, checkLog, refused, check, checkedSays, checkSays, faultSays}
 use Rattle.trace_rules.specs.Promise.{LogOf, InputOf, Faithful}
 use Rattle.trace_rules.specs.CleanLaws.{log-of}
 use Rattle.trace_rules.specs.FieldLaws.{Field, walk-field, start-listing, start-sweeping}
@@ -61,3 +61,17 @@ known (m ∷ l) b h = go (ltb (suc logRoom) (length (m ∷ l))) (ltb 1 m) refl h
 
 pub faithful : (s : List ℕ) → Bytes s → Faithful s (check s)
 faithful s b = record { is-sweep = λ h. known s b h .input; is-field = λ h. known s b h .field .field; are-idle = λ h. known s b h .field .idle }
+
+-- ---- the numbers
+
+pub says : (s : List ℕ) → checkedSays (check s) ≡ checkSays s
+unfolding check checkSays refused
+says s = go (ltb (suc logRoom) (length s)) (isNil s || ltb 1 (getD s 0 0))
+  where
+    c : Checked
+    c = checkLog (stampSize (getD s 0 0)) (drop 1 s)
+
+    go : (a b : Bool) → checkedSays (cond a (refused Room) (cond b (refused Argument) c)) ≡ cond a (faultSays 1) (cond b (faultSays 6) (checkedSays c))
+    go true b = refl
+    go false true = refl
+    go false false = refl
