@@ -8,3 +8,4 @@ pub mod CleanLaws
 pub mod SweptLaws
 pub mod FieldLaws
 pub mod FaithLaws
+pub mod HeardLaws
