@@ -9,3 +9,5 @@ pub mod SweptLaws
 pub mod FieldLaws
 pub mod FaithLaws
 pub mod HeardLaws
+pub mod FollowLaws
+pub mod ContentLaws
