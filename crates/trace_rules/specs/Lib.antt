@@ -11,3 +11,4 @@ pub mod FaithLaws
 pub mod HeardLaws
 pub mod FollowLaws
 pub mod ContentLaws
+pub mod ReadableLaws

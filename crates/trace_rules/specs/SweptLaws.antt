@@ -1,6 +1,6 @@
 -- The reader of a sweep stays one: what it sends are the frames of a sweep, and its rows keep their lengths. Assumes nothing.
 use mathlib.Core.Path.{_≡_, refl, sym, ap, _∙_}
-use Prim.Native.Nat.{ℕ, zero, suc, _+_, _-_, _*_, _/_, _≤_}
+use Prim.Native.Nat.{ℕ, zero, suc, _+_, _-_, _*_, _/_, _≤_, _<_}
 use native.Mathlib.Omega.{arith}
 use mathlib.Core.Bool.{Bool, true, false, cond, not, _&&_}
 use mathlib.Core.List.{List, [], _∷_, _++_}
@@ -12,8 +12,10 @@ use Rattle.frame.specs.ByteLaws.{length-bytes}
 use Rattle.frame.specs.Frame.{dataOf, bytesOf, faulty, standard}
 use Rattle.uid.specs.Uid.{place, level}
 use Rattle.selection.specs.Heard.{readAtqa, readRest, readSak, notRest, restOf, restPlace}
-use Rattle.selection.specs.Selection.{cut}
-use Rattle.reader.specs.Reader.{uid, reader, blank, turn, stop, sends, finds, opens, longer, completes, afterAtqa, hearAtqa, afterRest, hearRest, afterSak, b3, contradicts, sakHeard, hearSak, hearSilence, hearIn, hear}
+use Rattle.reader.specs.CollisionLaws.{grows}
+use Rattle.selection.specs.Selection.{cut, reqa, hlta, anticollision, select}
+use Rattle.selection.specs.SelectionLaws.{length-reqa, length-hlta, length-anti, length-select}
+use Rattle.reader.specs.Reader.{frameIn, frame, uid, reader, blank, turn, stop, sends, finds, opens, longer, completes, afterAtqa, hearAtqa, afterRest, hearRest, afterSak, b3, contradicts, sakHeard, hearSak, hearSilence, hearIn, hear}
 use Rattle.refusal.specs.declared.Refusal.{Refusal}
 use Rattle.refusal.specs.declared.Refusal.the-variants.{Silence, Length, Parity, Check, Collision}
 use Rattle.selection.specs.declared.AtqaRead.{AtqaRead}
@@ -48,11 +50,25 @@ InSweep Stopped = ⊥
 InSweep WupaSent = ⊥
 InSweep (UidSelectSent l) = ⊥
 
+-- ANTICOLLISION sends at most 40 bits of a level
+abbrev pub Few : Phase → ℕ → Type 0
+Few New k = Unit {0}
+Few ReqaSent k = Unit {0}
+Few (AnticollisionSent l) k = k ≤ 40
+Few (SelectSent l) k = Unit {0}
+Few HltaSent k = Unit {0}
+Few Selected k = Unit {0}
+Few Finished k = Unit {0}
+Few Stopped k = Unit {0}
+Few WupaSent k = Unit {0}
+Few (UidSelectSent l) k = Unit {0}
+
 pub record Sweeping (r : Reader) : Type 0 where
   pub phase-ok : InSweep (r .phase)
   pub sweeps : r .sweeps ≡ true
   pub five : length (r .five) ≡ 5
   pub ten : length (r .uid .bytes) ≡ 10
+  pub few : Few (r .phase) (r .known)
 
 -- .. wherever a frame is out after a turn
 abbrev GoesIn : Answer → Reader → Type 0
@@ -111,11 +127,11 @@ ten-longer l r n =
 
 opens-stays : (l : Level) (s : Bool) (u : Uid) → s ≡ true → length (u .bytes) ≡ 10 → Stays (opens l s u)
 unfolding opens sends
-opens-stays l s u e h = record { phase-ok = tt; sweeps = e; five = refl; ten = h }
+opens-stays l s u e h = record { phase-ok = tt; sweeps = e; five = refl; ten = h; few = omega arith }
 
 completes-stays : (s : Bool) (u : Uid) (b : ℕ) → length (u .bytes) ≡ 10 → Stays (completes s u b)
 unfolding completes finds
-completes-stays true u b h = record { phase-ok = tt; sweeps = refl; five = refl; ten = h }
+completes-stays true u b h = record { phase-ok = tt; sweeps = refl; five = refl; ten = h; few = tt }
 completes-stays false u b h = tt
 
 none-ten : length (fill 10 []) ≡ 10
@@ -124,18 +140,19 @@ none-ten = refl
 
 begin-stays : Stays (sends (blank ReqaSent true))
 unfolding sends
-begin-stays = record { phase-ok = tt; sweeps = refl; five = refl; ten = none-ten }
+begin-stays = record { phase-ok = tt; sweeps = refl; five = refl; ten = none-ten; few = tt }
 
 module _ (r : Reader) (q : Sweeping r) (h : List ℕ) where
   atqa-stays : (a : AtqaRead) → Stays (afterAtqa (r .sweeps) a)
   atqa-stays Atqa = opens-stays One (r .sweeps) (uid Single []) (q .sweeps) none-ten
   atqa-stays (NotAtqa e) = tt
 
-  rest-stays : (l : Level) (s : RestSays) → Stays (afterRest l r (readRest (r .known) (r .five) h) s)
+  rest-stays : (l : Level) (s : RestSays) → readRest (r .known) (r .five) h .says ≡ s → Stays (afterRest l r (readRest (r .known) (r .five) h) s)
   unfolding sends
-  rest-stays l Whole = record { phase-ok = tt; sweeps = q .sweeps; five = five-rest (r .known) (r .five) h; ten = q .ten }
-  rest-stays l Collided = record { phase-ok = tt; sweeps = q .sweeps; five = five-rest (r .known) (r .five) h; ten = q .ten }
-  rest-stays l (NotRest e) = tt
+  rest-stays l Whole e = record { phase-ok = tt; sweeps = q .sweeps; five = five-rest (r .known) (r .five) h; ten = q .ten; few = tt }
+  rest-stays l Collided e =
+      record { phase-ok = tt; sweeps = q .sweeps; five = five-rest (r .known) (r .five) h; ten = q .ten; few = omega (arith, grows (r .known) (r .five) h (q .five) e .1) }
+  rest-stays l (NotRest x) e = tt
 
   after-stays : (l : Level) (b : ℕ) (more : Bool) → Stays (afterSak l r b more)
   after-stays One b true = opens-stays Two (r .sweeps) _ (q .sweeps) (ten-longer One r 1)
@@ -153,7 +170,7 @@ module _ (r : Reader) (q : Sweeping r) (h : List ℕ) where
   unfolding hearAtqa hearRest hearSak hearSilence
   in-stays New x = absurd x
   in-stays ReqaSent x = either (isNil h && r .sweeps) _ _ tt (atqa-stays (readAtqa h))
-  in-stays (AnticollisionSent l) x = rest-stays l (readRest (r .known) (r .five) h .says)
+  in-stays (AnticollisionSent l) x = rest-stays l (readRest (r .known) (r .five) h .says) refl
   in-stays (SelectSent l) x = sak-stays l (readSak h)
   in-stays HltaSent x = either (isNil h) _ _ begin-stays tt
   in-stays Selected x = absurd x
@@ -167,4 +184,22 @@ module _ (r : Reader) (q : Sweeping r) (h : List ℕ) where
   hear-stays = in-stays (r .phase) (q .phase-ok)
 
 pub begin-sweeping : Sweeping (blank ReqaSent true)
-begin-sweeping = record { phase-ok = tt; sweeps = refl; five = refl; ten = none-ten }
+begin-sweeping = record { phase-ok = tt; sweeps = refl; five = refl; ten = none-ten; few = tt }
+
+-- ---- its frame is not empty
+
+some-in : (p : Phase) (r : Reader) → InSweep p → Few p (r .known) → length (r .five) ≡ 5 → 0 < length (frameIn p r)
+some-in New r x f h = absurd x
+some-in ReqaSent r x f h = rw length-reqa (omega arith)
+some-in (AnticollisionSent l) r x f h = rw (length-anti l (r .known) (r .five) h f) (omega arith)
+some-in (SelectSent l) r x f h = rw (length-select l (r .five) h) (omega arith)
+some-in HltaSent r x f h = rw length-hlta (omega arith)
+some-in Selected r x f h = absurd x
+some-in Finished r x f h = absurd x
+some-in Stopped r x f h = absurd x
+some-in WupaSent r x f h = absurd x
+some-in (UidSelectSent l) r x f h = absurd x
+
+pub frame-some : (r : Reader) → Sweeping r → 0 < length (frame r)
+unfolding frame
+frame-some r q = some-in (r .phase) r (q .phase-ok) (q .few) (q .five)
