@@ -12,3 +12,4 @@ pub mod HeardLaws
 pub mod FollowLaws
 pub mod ContentLaws
 pub mod ReadableLaws
+pub mod MirrorLaws
