@@ -49,7 +49,7 @@ no-difference w l i (e ∷ es) at (g, gs) b =
 
 -- ---- the list
 
-uids : List Card → List (List ℕ)
+unfoldable pub uids : List Card → List (List ℕ)
 uids cs = map (λ c. uidBytes (c .uid)) cs
 
 uids-more : (cs : List Card) (c : Card) (us : List (List ℕ)) → uids (cs ++ c ∷ []) ++ us ≡ uids cs ++ uidBytes (c .uid) ∷ us

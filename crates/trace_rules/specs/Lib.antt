@@ -13,3 +13,4 @@ pub mod FollowLaws
 pub mod ContentLaws
 pub mod ReadableLaws
 pub mod MirrorLaws
+pub mod MatchLaws
