@@ -14,3 +14,4 @@ pub mod ContentLaws
 pub mod ReadableLaws
 pub mod MirrorLaws
 pub mod MatchLaws
+pub mod SakHeardLaws
