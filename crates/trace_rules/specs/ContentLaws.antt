@@ -72,7 +72,7 @@ not-yet u (c ∷ cs) us (a, d) = go (same u (uidBytes (c .uid))) refl (not-yet u
     go false e ih = ih
 
 -- the cards that a run lists, as a check of its log does
-abbrev listedBy : Answer → Reader → List Card → List Card
+abbrev pub listedBy : Answer → Reader → List Card → List Card
 listedBy (Sends n) r L = L
 listedBy (Finds n) r L = listed r ∷ L
 listedBy Selects r L = []

@@ -15,3 +15,4 @@ pub mod ReadableLaws
 pub mod MirrorLaws
 pub mod MatchLaws
 pub mod SakHeardLaws
+pub mod KindLaws
