@@ -144,3 +144,104 @@ module _ (l : Level) (five : List ℕ) (k : length five ≡ 5) (b : ℕ) (last :
       go : Heard kind (heardFrom f F) e F → eqb b 0x20 ≡ kind
       go (sent s) = s
       go (empty n) = silence-tells kind (ap readSak (sym n) ∙ e)
+
+-- ---- where the reader finds a card
+
+-- it has read a last SAK after SELECT
+record Read (r : Reader) (h : List ℕ) (b : ℕ) : Type 0 where
+  level : Level
+  sent : r .phase ≡ SelectSent level
+  read : readSak h ≡ Sak b
+  last : b3 b ≡ false
+
+abbrev FoundBy : Reader → List ℕ → Answer → Reader → Type 0
+FoundBy r h (Sends n) q = Unit {0}
+FoundBy r h (Finds n) q = Read r h (q .sak)
+FoundBy r h Selects q = Unit {0}
+FoundBy r h Finishes q = Unit {0}
+FoundBy r h (Declines e) q = Unit {0}
+
+abbrev Found : Reader → List ℕ → Turn → Type 0
+Found r h t = FoundBy r h (t .answer) (t .reader)
+
+module _ (r : Reader) (h : List ℕ) where
+  either : (x : Bool) (t u : Turn) → Found r h t → Found r h u → Found r h (cond x t u)
+  either true t u p q = p
+  either false t u p q = q
+
+  opens-found : (l : Level) (s : Bool) (u : Uid) → Found r h (opens l s u)
+  unfolding opens sends
+  opens-found l s u = tt
+
+  completes-found : (s : Bool) (u : Uid) (b : ℕ) → Read r h b → Found r h (completes s u b)
+  unfolding completes finds
+  completes-found true u b z = z
+  completes-found false u b z = tt
+
+  atqa-found : (a : AtqaRead) → Found r h (afterAtqa (r .sweeps) a)
+  atqa-found Atqa = opens-found One (r .sweeps) _
+  atqa-found (NotAtqa e) = tt
+
+  rest-found : (l : Level) (s : RestSays) → Found r h (afterRest l r (readRest (r .known) (r .five) h) s)
+  unfolding sends
+  rest-found l Whole = tt
+  rest-found l Collided = tt
+  rest-found l (NotRest e) = tt
+
+  after-found : (l : Level) (b : ℕ) (more : Bool) → r .phase ≡ SelectSent l → readSak h ≡ Sak b → b3 b ≡ more → Found r h (afterSak l r b more)
+  after-found One b true p e m = opens-found Two (r .sweeps) _
+  after-found Two b true p e m = opens-found Three (r .sweeps) _
+  after-found Three b true p e m = tt
+  after-found One b false p e m = completes-found (r .sweeps) _ b (record { level = One; sent = p; read = e; last = m })
+  after-found Two b false p e m = completes-found (r .sweeps) _ b (record { level = Two; sent = p; read = e; last = m })
+  after-found Three b false p e m = completes-found (r .sweeps) _ b (record { level = Three; sent = p; read = e; last = m })
+
+  sak-found : (l : Level) (a : SakRead) → r .phase ≡ SelectSent l → readSak h ≡ a → Found r h (sakHeard l r a)
+  sak-found l (Sak b) p e = either (contradicts l (b3 b) (getD (r .five) 0 0)) _ _ tt (after-found l b (b3 b) p e refl)
+  sak-found l (NotSak x) p e = tt
+
+  in-found : (p : Phase) → r .phase ≡ p → InSweep p → Found r h (hearIn p r h)
+  unfolding hearAtqa hearRest hearSak hearSilence sends
+  in-found New e x = absurd x
+  in-found ReqaSent e x = either (isNil h && r .sweeps) _ _ tt (atqa-found (readAtqa h))
+  in-found (AnticollisionSent l) e x = rest-found l (readRest (r .known) (r .five) h .says)
+  in-found (SelectSent l) e x = sak-found l (readSak h) e refl
+  in-found HltaSent e x = either (isNil h) _ _ tt tt
+  in-found Selected e x = absurd x
+  in-found Finished e x = absurd x
+  in-found Stopped e x = absurd x
+  in-found WupaSent e x = absurd x
+  in-found (UidSelectSent l) e x = absurd x
+
+  hear-found : Sweeping r → Found r h (hear r h)
+  unfolding hear
+  hear-found q = in-found (r .phase) refl (q .phase-ok)
+
+-- over cards of one kind each one that is listed is of that kind
+frame-select : (r : Reader) (l : Level) → r .phase ≡ SelectSent l → frame r ≡ select l (r .five)
+unfolding frame
+frame-select r l e = ap (λ p. frameIn p r) e
+
+pub listing-kind : (kind : Bool) (k : ℕ) (t : Turn) (F : List Card) → Sweeping (t .reader) → All (λ c. c .blocks ≡ kind) F → All (λ g. g .blocks ≡ kind) (listing k t F)
+unfolding listing allTake takes
+listing-kind kind zero t F s p = tt
+listing-kind kind (suc k) t F s p =
+    go (t′ .answer) (hear-found (t .reader) (heardFrom (frame (t .reader)) F) s) (hear-stays (t .reader) s (heardFrom (frame (t .reader)) F))
+    (λ z. listing-kind kind k t′ (allTake (frame (t .reader)) F) z (all-map {F = λ c. c .blocks ≡ kind} (λ c. c .blocks ≡ kind) (λ c. takes c (frame (t .reader))) F (λ c e. e) p))
+  where
+    t′ : Turn
+    t′ = hear (t .reader) (heardFrom (frame (t .reader)) F)
+
+    tells : (b : ℕ) → Read (t .reader) (heardFrom (frame (t .reader)) F) b → eqb b 0x20 ≡ kind
+    tells b z =
+        let e = frame-select (t .reader) (z .level) (z .sent) in
+        kind-heard (z .level) (t .reader .five) (s .five) b (z .last) kind F p (rw e at (z .read))
+
+    go : (y : Answer) → FoundBy (t .reader) (heardFrom (frame (t .reader)) F) y (t′ .reader) → Stays (record { reader = t′ .reader; answer = y })
+        → (Sweeping (t′ .reader) → All (λ g. g .blocks ≡ kind) (listing k t′ (allTake (frame (t .reader)) F)))
+        → All (λ g. g .blocks ≡ kind) (listedBy y (t′ .reader) (listing k t′ (allTake (frame (t .reader)) F)))
+    go (Sends n) z q ih = ih q
+    go (Finds n) z q ih = (tells (t′ .reader .sak) z, ih q)
+    go Selects z q ih = tt
+    go Finishes z q ih = tt
+    go (Declines e) z q ih = tt
