@@ -88,7 +88,7 @@ listing (suc k) t cs =
     listedBy (t′ .answer) (t′ .reader) (listing k t′ (allTake f cs))
 
 -- a frame is out
-abbrev Goes : Answer → Type 0
+abbrev pub Goes : Answer → Type 0
 Goes (Sends n) = Unit {0}
 Goes (Finds n) = Unit {0}
 Goes Selects = ⊥
@@ -99,22 +99,22 @@ Goes (Declines e) = ⊥
 
 module _ (w : ℕ) (l : List ℕ) (total : List (List ℕ)) (apart : Distinct total) (limit : length total ≤ mostCards) where
   -- where a check and a run are, with a turn t of the run and so much fuel
-  record At (k : ℕ) (t : Turn) (cs : List Card) (p : Place) : Type 0 where
-    same-reader : p .reader ≡ t .reader
-    is-out : Goes (t .answer)
-    full : length (p .cards) ≡ mostCards
-    few : p .found ≤ mostCards
-    log : LogOf w (run k t cs .exchanges) (drop (p .at) l)
-    readable : All Readable (run k t cs .exchanges)
-    ends-well : run k t cs .last ≡ turn (blank Finished false) Finishes
-    list : uids (cardsIn p) ++ run k t cs .found ≡ total
+  pub record At (k : ℕ) (t : Turn) (cs : List Card) (p : Place) : Type 0 where
+    pub same-reader : p .reader ≡ t .reader
+    pub is-out : Goes (t .answer)
+    pub full : length (p .cards) ≡ mostCards
+    pub few : p .found ≤ mostCards
+    pub log : LogOf w (run k t cs .exchanges) (drop (p .at) l)
+    pub readable : All Readable (run k t cs .exchanges)
+    pub ends-well : run k t cs .last ≡ turn (blank Finished false) Finishes
+    pub list : uids (cardsIn p) ++ run k t cs .found ≡ total
 
   -- how the check comes out
-  record Comes (k : ℕ) (t : Turn) (cs : List Card) (p : Place) (c : Checked) : Type 0 where
-    clean : c .verdict ≡ Clean
-    cards : cardsOf c ≡ cardsIn p ++ listing k t cs
+  pub record Comes (k : ℕ) (t : Turn) (cs : List Card) (p : Place) (c : Checked) : Type 0 where
+    pub clean : c .verdict ≡ Clean
+    pub cards : cardsOf c ≡ cardsIn p ++ listing k t cs
 
-  follows : (k : ℕ) (t : Turn) (cs : List Card) (K i : ℕ) (p : Place) → At k t cs p → length (run k t cs .exchanges) ≤ K → Comes k t cs p (walk K w l i p)
+  pub follows : (k : ℕ) (t : Turn) (cs : List Card) (K i : ℕ) (p : Place) → At k t cs p → length (run k t cs .exchanges) ≤ K → Comes k t cs p (walk K w l i p)
   unfolding run runOf before finding ended walk listing turned lists ends isListed uids
   follows zero t cs K i p a h = absurd (never (a .ends-well) (a .is-out))
     where

@@ -1,4 +1,4 @@
--- The check of an input of bytes is faithful: what it calls clean is the log of a sweep. Assumes nothing.
+-- The check of an input of bytes is faithful: what it calls clean is the log of a sweep, and what a sweep wrote comes out clean. Assumes nothing.
 use mathlib.Core.Path.{_≡_, refl, sym, ap, _∙_}
 use Prim.Native.Nat.{ℕ, suc, _≤_}
 use native.Mathlib.Omega.{arith}
@@ -16,6 +16,7 @@ use Rattle.trace_rules.specs.Trace.{stampSize, start, checked, walk}
 use Rattle.trace_rules.specs.Check.{differs, cardsOf, judged, checkLog, refused, check, checkedSays, checkSays, faultSays}
 use Rattle.trace_rules.specs.Promise.{LogOf, InputOf, Faithful}
 use Rattle.trace_rules.specs.CleanLaws.{log-of}
+use Rattle.trace_rules.specs.SweepCleanLaws.{input-log, comes-clean, listed-uids, listed-kind}
 use Rattle.trace_rules.specs.FieldLaws.{Field, walk-field, start-listing, start-sweeping}
 use Rattle.trace_rules.specs.declared.Checked.{Checked}
 use Rattle.trace_rules.specs.declared.Verdict.{Verdict}
@@ -60,7 +61,7 @@ known (m ∷ l) b h = go (ltb (suc logRoom) (length (m ∷ l))) (ltb 1 m) refl h
         record { input = record { mode = m; log = l; mode-ok = ltb-false 1 m e; input = refl; records = x .log }; field = x .field }
 
 pub faithful : (s : List ℕ) → Bytes s → Faithful s (check s)
-faithful s b = record { is-sweep = λ h. known s b h .input; is-field = λ h. known s b h .field .field; are-idle = λ h. known s b h .field .idle }
+faithful s b = record { from-sweep = λ cs k t w o i. rw (input-log cs t w s i) (record { clean = comes-clean cs t w k o (stampSize (i .mode)) (i .log) (i .records); list = listed-uids cs t w (stampSize (i .mode)) (i .log) (i .records); saks = listed-kind cs t w k o (stampSize (i .mode)) (i .log) (i .records) }); lists = λ cs t w i. rw (input-log cs t w s i) (listed-uids cs t w (stampSize (i .mode)) (i .log) (i .records)); is-sweep = λ h. known s b h .input; is-field = λ h. known s b h .field .field; are-idle = λ h. known s b h .field .idle }
 
 -- ---- the numbers
 

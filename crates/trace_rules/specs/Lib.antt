@@ -7,7 +7,6 @@ pub mod BytesBackLaws
 pub mod CleanLaws
 pub mod SweptLaws
 pub mod FieldLaws
-pub mod FaithLaws
 pub mod HeardLaws
 pub mod FollowLaws
 pub mod ContentLaws
@@ -16,3 +15,5 @@ pub mod MirrorLaws
 pub mod MatchLaws
 pub mod SakHeardLaws
 pub mod KindLaws
+pub mod SweepCleanLaws
+pub mod FaithLaws
