@@ -61,7 +61,18 @@ known (m ∷ l) b h = go (ltb (suc logRoom) (length (m ∷ l))) (ltb 1 m) refl h
         record { input = record { mode = m; log = l; mode-ok = ltb-false 1 m e; input = refl; records = x .log }; field = x .field }
 
 pub faithful : (s : List ℕ) → Bytes s → Faithful s (check s)
-faithful s b = record { from-sweep = λ cs k t w o i. rw (input-log cs t w s i) (record { clean = comes-clean cs t w k o (stampSize (i .mode)) (i .log) (i .records); list = listed-uids cs t w (stampSize (i .mode)) (i .log) (i .records); saks = listed-kind cs t w k o (stampSize (i .mode)) (i .log) (i .records) }); lists = λ cs t w i. rw (input-log cs t w s i) (listed-uids cs t w (stampSize (i .mode)) (i .log) (i .records)); is-sweep = λ h. known s b h .input; is-field = λ h. known s b h .field .field; are-idle = λ h. known s b h .field .idle }
+faithful s b =
+    record {
+      from-sweep = λ cs k t w o i. rw (input-log cs t w s i) (record {
+        clean = comes-clean cs t w k o (stampSize (i .mode)) (i .log) (i .records);
+        list = listed-uids cs t w (stampSize (i .mode)) (i .log) (i .records);
+        saks = listed-kind cs t w k o (stampSize (i .mode)) (i .log) (i .records);
+      });
+      lists = λ cs t w i. rw (input-log cs t w s i) (listed-uids cs t w (stampSize (i .mode)) (i .log) (i .records));
+      is-sweep = λ h. known s b h .input;
+      is-field = λ h. known s b h .field .field;
+      are-idle = λ h. known s b h .field .idle;
+    }
 
 -- ---- the numbers
 

@@ -17,3 +17,4 @@ pub mod SakHeardLaws
 pub mod KindLaws
 pub mod SweepCleanLaws
 pub mod FaithLaws
+pub mod WitnessLaws

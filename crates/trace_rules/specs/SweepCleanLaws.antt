@@ -239,7 +239,6 @@ module _ (cs : List Card) (typed : All Typed cs) (terms : within cs ≡ true) wh
       unfolding checkLog out
       clean-log = rw (comes .clean, same-sweep) (no-difference w l 0 (sweep cs .exchanges) 0 readable log)
 
-
   -- ---- cards of one kind
 
   twins : (kind : Bool) (c : Card) → Typed c → c .blocks ≡ kind → (g : Card) → Plain g → g .blocks ≡ kind → isIdle (c .state) ≡ true → uidBytes (c .uid) ≡ uidBytes (g .uid) → Twin c g
