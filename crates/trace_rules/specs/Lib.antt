@@ -15,6 +15,7 @@ pub mod MirrorLaws
 pub mod MatchLaws
 pub mod SakHeardLaws
 pub mod KindLaws
+pub mod KindRunLaws
 pub mod SweepCleanLaws
 pub mod FaithLaws
 pub mod WitnessLaws
