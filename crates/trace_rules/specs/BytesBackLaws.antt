@@ -3,22 +3,20 @@ use mathlib.Core.Path.{_≡_, refl, sym, ap, ap₂, _∙_}
 use Prim.Native.Nat.{ℕ, zero, suc, _+_, _-_, _*_, _/_, _%_, _≤_, _<_}
 use native.Mathlib.Numerals.{add-one}
 use native.Mathlib.Omega.{arith}
-use mathlib.Core.Bool.{Bool, true, false, cond, _&&_, not, true≢false, false≢true}
+use mathlib.Core.Bool.{true, false, cond, true≢false, false≢true}
 use mathlib.Core.List.{List, [], _∷_, _++_, append-assoc}
-use lib.Dec.{eqb, ltb, eqb→eq}
 use lib.ListN.{length, take, drop, getD, length-drop, take-append-drop}
 use lib.Seq.{drop-cons, drop-drop, length-take-le}
-use Rattle.rows.specs.Rows.{All, Bits, Bytes, clean}
+use Rattle.rows.specs.Rows.{Bits, Bytes, clean}
 use Rattle.rows.specs.CleanLaws.{bits-clean, bit-two}
 use Rattle.log.specs.Log.{packed, pack, header, plain, marks, sentRecord, heardRecord}
 use Rattle.log.specs.Calls.{rowSize}
-use Rattle.log.specs.Reading.{rowAt, fillAt, bitsFrom, zeros, clash, apart, kindOf, zeroBit, bitCount, recordAt}
+use Rattle.log.specs.Reading.{rowAt, fillAt, bitsFrom, zeros, apart, kindOf, zeroBit, bitCount}
 use Rattle.log.specs.RecordLaws.{plain-clean, heard-clean, heard-collided}
 use Rattle.log.specs.UnpackLaws.{bits-enough}
-use Rattle.log.specs.declared.Record.the-variants.{Sent, Clean, Collided, Silence}
 use Rattle.trace_rules.specs.Trace.{marked}
 use Rattle.trace_rules.specs.PackBackLaws.{row-bits, row-packed}
-use Rattle.trace_rules.specs.WholeLaws.{OneRow, TwoRows, NoRow, Headed, whole}
+use Rattle.trace_rules.specs.WholeLaws.{OneRow, TwoRows, NoRow}
 
 -- ---- a row with its marks
 

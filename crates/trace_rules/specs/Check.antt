@@ -1,8 +1,8 @@
 -- T-12: the check of a whole log. "If the reader is content throughout, it is the first record that differs from the sweep over the listed cards (speaking
 -- blocks where the last SAK is 20), with 9." "The first input byte, ahead of the log, is 0 for one without ticks, 1 with; another or none is 6 at 0; a log over
 -- 40,960 bytes is 1 at 0, ahead of all."
-use Prim.Native.Nat.{ℕ, zero, suc, _+_}
-use mathlib.Core.Bool.{Bool, true, false, cond, _||_}
+use Prim.Native.Nat.{ℕ, suc, _+_}
+use mathlib.Core.Bool.{cond, _||_}
 use mathlib.Core.List.{List, [], _∷_, _++_}
 use lib.ListN.{length, take, drop, getD}
 use lib.Dec.{leb, ltb}

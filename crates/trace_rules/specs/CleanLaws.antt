@@ -1,30 +1,28 @@
 -- A log that is called clean is the log of the sweep over its cards. Assumes nothing.
-use mathlib.Core.Path.{_≡_, refl, sym, ap, _∙_}
-use Prim.Native.Nat.{ℕ, zero, suc, _+_, _≤_, _<_}
+use mathlib.Core.Path.{_≡_, refl, ap, _∙_}
+use Prim.Native.Nat.{ℕ, zero, suc, _+_, _<_}
 use native.Mathlib.Omega.{arith}
-use mathlib.Core.Bool.{Bool, true, false, cond, false≢true}
+use mathlib.Core.Bool.{Bool, true, false, cond}
 use mathlib.Core.List.{List, [], _∷_, _++_}
 use lib.Dec.{leb}
 use lib.ListN.{length, drop, getD, drop-of-length-le}
 use borrow.Author.Tests.{leb-true}
-use Rattle.rows.specs.Rows.{All, Bytes, same}
+use Rattle.rows.specs.Rows.{Bytes, same}
 use Rattle.rows.specs.ListLaws.{same-sound}
 use Rattle.log.specs.Log.{Exchange, sentRecord, heardRecord}
 use Rattle.log.specs.Reading.{rowAt, recordAt}
 use Rattle.log.specs.declared.Record.{Record}
 use Rattle.log.specs.declared.Record.the-variants.{Sent, Clean as Plain, Collided, Silence, End, Cut, Malformed}
-use Rattle.refusal.specs.declared.Refusal.{Refusal}
 use Rattle.refusal.specs.declared.Refusal.the-variants.{Forbidden}
 use Rattle.trace_rules.specs.Trace.{heardRow, sentPassed, heardPassed}
 use Rattle.trace_rules.specs.Check.{heardAs, heardCompared, sentCompared, compared, comparedThen, differs}
 use Rattle.trace_rules.specs.Promise.{Begins, LogOf}
-use Rattle.trace_rules.specs.BytesBackLaws.{stamp, stamp-wide, Again, sent-again, clean-again, collided-again, silent-again}
-use Rattle.trace_rules.specs.WholeLaws.{Headed, Whole, whole}
+use Rattle.trace_rules.specs.BytesBackLaws.{stamp, stamp-wide, sent-again, clean-again, collided-again, silent-again}
+use Rattle.trace_rules.specs.WholeLaws.{Whole, whole}
 use Rattle.trace_rules.specs.declared.Compared.{Compared}
 use Rattle.trace_rules.specs.declared.Compared.the-variants.{Same, First, Second}
 use Rattle.trace_rules.specs.declared.Passed.{Passed}
 use Rattle.trace_rules.specs.declared.Passed.the-variants.{Behind, Not}
-use Rattle.trace_rules.specs.declared.Verdict.{Verdict}
 use Rattle.trace_rules.specs.declared.Verdict.the-variants.{Clean, Fault}
 
 -- a byte of a log; 0 past its end

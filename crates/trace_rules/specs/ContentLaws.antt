@@ -1,12 +1,11 @@
 -- The reader is content with a log that the plain sweep wrote, and the list is that sweep's. Assumes nothing.
-use mathlib.Core.Path.{_≡_, refl, sym, ap, ap₂, _∙_}
+use mathlib.Core.Path.{_≡_, refl, sym, ap, _∙_}
 use mathlib.Core.Logic.{_≢_}
 use Prim.Native.Nat.{ℕ, zero, suc, _+_, _-_, _≤_, _<_}
 use native.Mathlib.Omega.{arith}
-use mathlib.Core.Bool.{Bool, true, false, cond, _||_, true≢false}
+use mathlib.Core.Bool.{Bool, true, false, _||_}
 use mathlib.Core.List.{List, [], _∷_, _++_, map, append-nil, append-assoc}
-use lib.Dec.{leb, ltb}
-use lib.ListN.{length, take, drop, length-append, length-map, length-drop, length-set}
+use lib.ListN.{length, drop, length-append, length-map, length-drop, length-set}
 use lib.Seq.{length-take-le}
 use borrow.Author.Tests.{le-leb, lt-leb, le-ltb}
 use Rattle.rows.specs.ListLaws.{same-sound}
@@ -24,16 +23,15 @@ use Rattle.reader.specs.declared.Answer.the-variants.{Sends, Finds, Selects, Fi
 use Rattle.reader.specs.declared.Phase.the-variants.{Finished}
 use Rattle.reader.specs.declared.Reader.{Reader}
 use Rattle.reader.specs.declared.Turn.{Turn}
-use Rattle.refusal.specs.declared.Refusal.the-variants.{Argument, NotDue, Forbidden}
 use Rattle.trace_rules.specs.Trace as T
 use Rattle.trace_rules.specs.Trace.{onward, listed, withCard, cardsIn, isListed, lists, ends, answered, turned, step, walk}
-use Rattle.trace_rules.specs.Check.{comparedThen, compared, differs, cardsOf}
+use Rattle.trace_rules.specs.Check.{comparedThen, differs, cardsOf}
 use Rattle.trace_rules.specs.FieldLaws.{cards-more}
 use Rattle.trace_rules.specs.FollowLaws.{Readable, beyond, beyond-has, same-there, step-there}
 use Rattle.trace_rules.specs.Promise.{Begins, LogOf}
 use Rattle.trace_rules.specs.declared.Checked.{Checked}
 use Rattle.trace_rules.specs.declared.Place.{Place}
-use Rattle.trace_rules.specs.declared.Verdict.the-variants.{Clean, Fault}
+use Rattle.trace_rules.specs.declared.Verdict.the-variants.{Clean}
 
 -- ---- a log of some exchanges does not differ from them
 
@@ -80,7 +78,6 @@ listedBy Finishes r L = []
 listedBy (Declines e) r L = []
 
 unfoldable pub listing : ℕ → Turn → List Card → List Card
-unfolding listedBy
 listing zero t cs = []
 listing (suc k) t cs =
     let f : List ℕ = frame (t .reader) in

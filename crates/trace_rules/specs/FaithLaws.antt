@@ -1,6 +1,6 @@
 -- The check of an input of bytes is faithful: what it calls clean is the log of a sweep, and what a sweep wrote comes out clean. Assumes nothing.
-use mathlib.Core.Path.{_≡_, refl, sym, ap, _∙_}
-use Prim.Native.Nat.{ℕ, suc, _≤_}
+use mathlib.Core.Path.{_≡_, refl}
+use Prim.Native.Nat.{ℕ, suc}
 use native.Mathlib.Omega.{arith}
 use mathlib.Core.Bool.{Bool, true, false, cond, _||_}
 use mathlib.Core.List.{List, [], _∷_}
@@ -9,15 +9,17 @@ use lib.ListN.{length, drop, getD}
 use borrow.Author.Tests.{ltb-false}
 use Rattle.rows.specs.Rows.{All, Bytes, isNil}
 use Rattle.limits.specs.Limits.{logRoom}
+use Rattle.sweep_rules.specs.Demand.{Typed}
 use Rattle.sweep_rules.specs.Run.{sweep}
-use Rattle.sweep_rules.specs.Terms.{isIdle, within}
+use Rattle.sweep_rules.specs.Terms.{within}
 use Rattle.refusal.specs.declared.Refusal.the-variants.{Room, Argument}
-use Rattle.trace_rules.specs.Trace.{stampSize, start, checked, walk}
-use Rattle.trace_rules.specs.Check.{differs, cardsOf, judged, checkLog, refused, check, checkedSays, checkSays, faultSays}
-use Rattle.trace_rules.specs.Promise.{LogOf, InputOf, Faithful}
+use Rattle.trace_rules.specs.Trace.{stampSize, start, walk}
+use Rattle.trace_rules.specs.Check.{cardsOf, judged, checkLog, refused, check, checkedSays, checkSays, faultSays}
+use Rattle.trace_rules.specs.Promise.{LogOf, InputOf, ComesOut, Faithful}
 use Rattle.trace_rules.specs.CleanLaws.{log-of}
-use Rattle.trace_rules.specs.SweepCleanLaws.{input-log, comes-clean, listed-uids, listed-kind}
+use Rattle.trace_rules.specs.SweepCleanLaws.{input-log, comes-clean, listed-uids, listed-kinds}
 use Rattle.trace_rules.specs.FieldLaws.{Field, walk-field, start-listing, start-sweeping}
+use Rattle.card.specs.declared.Card.{Card}
 use Rattle.trace_rules.specs.declared.Checked.{Checked}
 use Rattle.trace_rules.specs.declared.Verdict.{Verdict}
 use Rattle.trace_rules.specs.declared.Verdict.the-variants.{Clean, Fault}
@@ -60,15 +62,18 @@ known (m ∷ l) b h = go (ltb (suc logRoom) (length (m ∷ l))) (ltb 1 m) refl h
         let x : Sound (stampSize m) l (checkLog (stampSize m) l) = log-sound (stampSize m) l (b .1) h in
         record { input = record { mode = m; log = l; mode-ok = ltb-false 1 m e; input = refl; records = x .log }; field = x .field }
 
+pub comes-out : (s : List ℕ) (cs : List Card) → All Typed cs → within cs ≡ true → InputOf (sweep cs .exchanges) s → ComesOut cs (check s)
+comes-out s cs t w i =
+    rw (input-log cs t w s i) (record {
+      clean = comes-clean cs t w (stampSize (i .mode)) (i .log) (i .records);
+      list = listed-uids cs t w (stampSize (i .mode)) (i .log) (i .records);
+      saks = listed-kinds cs t w (stampSize (i .mode)) (i .log) (i .records);
+    })
+
 pub faithful : (s : List ℕ) → Bytes s → Faithful s (check s)
 faithful s b =
     record {
-      from-sweep = λ cs k t w o i. rw (input-log cs t w s i) (record {
-        clean = comes-clean cs t w k o (stampSize (i .mode)) (i .log) (i .records);
-        list = listed-uids cs t w (stampSize (i .mode)) (i .log) (i .records);
-        saks = listed-kind cs t w k o (stampSize (i .mode)) (i .log) (i .records);
-      });
-      lists = λ cs t w i. rw (input-log cs t w s i) (listed-uids cs t w (stampSize (i .mode)) (i .log) (i .records));
+      from-sweep = comes-out s;
       is-sweep = λ h. known s b h .input;
       is-field = λ h. known s b h .field .field;
       are-idle = λ h. known s b h .field .idle;

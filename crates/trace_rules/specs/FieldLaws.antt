@@ -1,13 +1,13 @@
 -- The cards that a check lists are a field that a sweep takes, all of them idle. Assumes nothing.
-use mathlib.Core.Path.{_≡_, refl, sym, ap, ap₂, _∙_}
+use mathlib.Core.Path.{_≡_, refl, sym, _∙_}
 use Prim.Native.Nat.{ℕ, zero, suc, _+_, _≤_, _<_}
 use native.Mathlib.Numerals.{add-one}
 use native.Mathlib.Omega.{arith}
 use mathlib.Core.Bool.{Bool, true, false, cond, not, _&&_, _||_, false≢true}
 use mathlib.Core.List.{List, [], _∷_, _++_}
-use lib.ListN.{length, take, set, length-set, length-append, length-take}
+use lib.ListN.{length, length-set}
 use lib.Seq.{take-suc-set, length-take-le}
-use lib.Dec.{leb, ltb, eqb}
+use lib.Dec.{leb, ltb}
 use borrow.Author.Tests.{le-leb, leb-false}
 use Rattle.rows.specs.ListLaws.{both, all-append, same-sound, same-refl}
 use Rattle.rows.specs.Rows.{All, any, same}
@@ -17,7 +17,7 @@ use Rattle.reader.specs.Calls.{Completed}
 use Rattle.reader.specs.Reader.{frame, hear}
 use Rattle.reader.specs.SakLevelLaws.{completed-valid}
 use Rattle.log.specs.Reading.{recordAt}
-use Rattle.sweep_rules.specs.Terms.{isIdle, isHalt, cardFits, allFit, apart, within}
+use Rattle.sweep_rules.specs.Terms.{isIdle, cardFits, allFit, apart, within}
 use Rattle.card.specs.declared.Card.{Card}
 use Rattle.log.specs.declared.Record.{Record}
 use Rattle.reader.specs.declared.Answer.{Answer}
@@ -34,7 +34,7 @@ use Rattle.trace_rules.specs.declared.Place.{Place}
 use Rattle.trace_rules.specs.declared.Says.{Says}
 use Rattle.trace_rules.specs.declared.Says.the-variants.{Goes, Content, Faults}
 use Rattle.trace_rules.specs.declared.Stepped.{Stepped}
-use Rattle.trace_rules.specs.declared.Verdict.the-variants.{Clean, Fault}
+use Rattle.trace_rules.specs.declared.Verdict.the-variants.{Clean}
 
 -- ---- one card more
 

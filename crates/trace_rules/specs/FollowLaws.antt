@@ -1,23 +1,21 @@
 -- The two records of an exchange, where a log has them: they are read as that exchange. Assumes nothing.
 use mathlib.Core.Path.{_≡_, refl, sym, ap, _∙_}
-use Prim.Native.Nat.{ℕ, zero, suc, _+_, _*_, _≤_, _<_}
+use Prim.Native.Nat.{ℕ, _+_, _*_, _≤_, _<_}
 use native.Mathlib.Omega.{arith}
-use mathlib.Core.Bool.{Bool, true, false, cond}
+use mathlib.Core.Bool.{Bool, true, false}
 use mathlib.Core.List.{List, [], _∷_, _++_}
 use lib.ListN.{length, drop}
 use lib.Seq.{drop-drop, drop-at}
 use Rattle.rows.specs.ListLaws.{same-refl}
-use Rattle.rows.specs.Rows.{Bits, clean, same}
+use Rattle.rows.specs.Rows.{Bits, clean}
 use Rattle.reader.specs.Reader.{frame, hear}
 use Rattle.log.specs.Calls.{mostBits, rowSize}
-use Rattle.log.specs.Log.{Exchange, sentRecord, heardRecord, plain, marks}
-use Rattle.log.specs.Reading.{rowAt, recordAt}
+use Rattle.log.specs.Log.{Exchange, sentRecord, heardRecord}
+use Rattle.log.specs.Reading.{recordAt}
 use Rattle.log.specs.ReadBackLaws.{sent-back, silence-back, clean-back, collided-back}
 use Rattle.log.specs.RecordLaws.{length-sent, length-heard-silent, length-heard-clean, length-heard-collided}
-use Rattle.log.specs.declared.Record.{Record}
-use Rattle.log.specs.declared.Record.the-variants.{Sent, Clean, Collided, Silence}
-use Rattle.trace_rules.specs.Trace.{marked, heardRow, sentPassed, heardPassed, turned, sentThen, step}
-use Rattle.trace_rules.specs.Check.{heardAs, compared}
+use Rattle.trace_rules.specs.Trace.{heardRow, sentPassed, heardPassed, turned, step}
+use Rattle.trace_rules.specs.Check.{compared}
 use Rattle.trace_rules.specs.HeardLaws.{Three, marked-back}
 use Rattle.trace_rules.specs.Promise.{Begins}
 use Rattle.trace_rules.specs.declared.Compared.the-variants.{Same}

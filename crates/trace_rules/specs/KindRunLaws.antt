@@ -1,7 +1,7 @@
 -- The last SAK that a sweep hears is that of the card whose UID it lists: the sweep, with the cards that a check lists, is a machine of sweep_rules too.
 -- Its frames are those of sweep_rules' own proof. Assumes nothing.
 use mathlib.Core.Path.{_≡_, refl, sym, ap, ap₂, _∙_}
-use Prim.Native.Nat.{ℕ, suc, _+_, _*_, _≤_, _<_, zero}
+use Prim.Native.Nat.{ℕ, suc, _+_, _*_, _≤_, _<_}
 use mathlib.Core.Bool.{Bool, true, false, cond}
 use mathlib.Core.Option.{Option, none, some}
 use mathlib.Core.List.{List, [], _∷_, _++_, map, append-nil, cons≢nil}
@@ -9,25 +9,23 @@ use lib.Dec.{eqb}
 use lib.ListN.{length, take, drop, length-map}
 use native.Mathlib.Omega.{arith}
 use Rattle.rows.specs.CleanLaws.{not-nil}
-use Rattle.rows.specs.EachLaws.{all-map}
 use Rattle.rows.specs.Rows.{clean, next, All, isNil, Bits}
-use Rattle.frame.specs.Frame.{bytesOf}
 use Rattle.uid.specs.LevelLaws.{wide, InLevels}
 use Rattle.uid.specs.Order.{Diff, on, off, diff}
 use Rattle.uid.specs.OrderLaws.{Off}
 use Rattle.uid.specs.StripLaws.{strip, shape, strip-sound, not-none}
-use Rattle.uid.specs.Uid.{place, uidBytes, rowOf, levels}
+use Rattle.uid.specs.Uid.{place, uidBytes}
 use Rattle.uid.specs.UidLaws.{name, soFar}
 use Rattle.selection.specs.SealLaws.{seal}
-use Rattle.selection.specs.Selection.{cut, reqa, hlta, anticollision, select, sakFrame, atqa}
-use Rattle.card.specs.Card.{up, withState}
+use Rattle.selection.specs.Selection.{cut, reqa, sakFrame, atqa}
+use Rattle.card.specs.Card.{withState}
 use Rattle.card.specs.CardLaws.{sit₁}
-use Rattle.reader.specs.Reader.{blank, turn, frame, hear, hearAtqa, sends, finds}
+use Rattle.reader.specs.Reader.{blank, frame, hear, hearAtqa, sends, finds}
 use Rattle.reader.specs.ReaderLaws.{selecting, place-lvl, lvl, knows, closing, found-closing, asking, opened, closed, hears-atqa, hears-whole, hears-collided, hears-more, hears-last, hears-silence}
 use Rattle.field.specs.Field.{allTake, heardFrom}
 use Rattle.field.specs.HeardLaws.{reads-atqa, length-atqas, reads-clean, reads-clash}
 use Rattle.field.specs.Merge.{merge}
-use Rattle.sweep_rules.specs.Run.{Out, before, ended, follow, runOf, run, finding}
+use Rattle.sweep_rules.specs.Run.{before, ended, follow, runOf, run, finding}
 use Rattle.sweep_rules.specs.Terms.{isIdle}
 use Rattle.sweep_rules.proofs.Abstract.{strips, heard, sort, frames, Apart}
 use Rattle.sweep_rules.proofs.Early.{law-early-32}
@@ -38,13 +36,12 @@ use Rattle.sweep_rules.proofs.Level.{all-strips}
 use Rattle.sweep_rules.proofs.Machine.{View, Open, Machine, machine-swept}
 use Rattle.sweep_rules.proofs.Model.{up-lvl, map-nil, lastSak}
 use Rattle.sweep_rules.proofs.Round.{turn-req, hear-req, turn-hlt, hear-hlt, turn-anti, hear-anti, turn-more, hear-more, turn-last, hear-last, speaks, thisOr}
-use Rattle.sweep_rules.proofs.Sitting.{at, sit, none-idle, sound-halt, idles-halt}
+use Rattle.sweep_rules.proofs.Sitting.{at, sit, sound-halt, idles-halt}
 use Rattle.sweep_rules.proofs.Strip.{strips-put}
-use Rattle.uid.specs.declared.Level.{Level}
 use Rattle.uid.specs.declared.Level.the-variants.{One}
 use Rattle.card.specs.declared.Card.{Card}
 use Rattle.card.specs.declared.CardState.{CardState}
-use Rattle.card.specs.declared.CardState.the-variants.{Idle, Ready, Active, Halt}
+use Rattle.card.specs.declared.CardState.the-variants.{Ready, Active, Halt}
 use Rattle.reader.specs.declared.Phase.the-variants.{ReqaSent, AnticollisionSent, SelectSent}
 use Rattle.reader.specs.declared.Reader.{Reader}
 use Rattle.reader.specs.declared.Turn.{Turn}

@@ -13,8 +13,6 @@ pub mod ContentLaws
 pub mod ReadableLaws
 pub mod MirrorLaws
 pub mod MatchLaws
-pub mod SakHeardLaws
-pub mod KindLaws
 pub mod KindRunLaws
 pub mod SweepCleanLaws
 pub mod FaithLaws

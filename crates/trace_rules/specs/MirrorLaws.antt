@@ -1,22 +1,22 @@
 -- Two fields whose cards answer alike, whatever their order and whatever else is halted among them, are swept alike. Assumes nothing.
 use mathlib.Core.Path.{_≡_, refl, sym, ap, ap₂, _∙_}
 use mathlib.Core.Logic.{_≢_}
-use Prim.Native.Nat.{ℕ, zero, suc, _+_, _≤_}
+use Prim.Native.Nat.{ℕ, zero, suc, _+_}
 use native.Mathlib.Omega.{arith}
 use mathlib.Core.Bool.{Bool, true, false, cond, not, _&&_, _||_, false≢true}
-use mathlib.Core.List.{List, [], _∷_, _++_, map}
-use lib.Dec.{eqb, ltb, eqb→eq}
-use lib.ListN.{length, getD}
+use mathlib.Core.List.{List, [], _∷_, _++_}
+use lib.Dec.{eqb, eqb→eq}
+use lib.ListN.{length}
 use Rattle.rows.specs.CleanLaws.{eqb-same}
 use Rattle.rows.specs.ListLaws.{same-refl}
 use Rattle.rows.specs.Rows.{same}
 use Rattle.parity.specs.Bits.{bitsOf}
 use Rattle.crc.specs.Crc.{withCrc}
 use Rattle.frame.specs.Frame.{airByte, standard}
-use Rattle.uid.specs.Uid.{place, levels}
-use Rattle.selection.specs.Selection.{sel, nvb, cut, reqa, wupa, hlta, anticollision, select, others, sakFrame, atqa, rats, ats, atMost8}
+use Rattle.uid.specs.Uid.{levels}
+use Rattle.selection.specs.Selection.{reqa, hlta, anticollision, select, rats, ats, atMost8}
 use Rattle.selection.specs.SelectionLaws.{length-reqa, length-anti, length-select, length-hlta}
-use Rattle.card.specs.Card.{Step, bitsSent, fsdi, remain, sak, home, readyIn, chosen, matching, ready, readyAt, active, rules, withState, takes, answers}
+use Rattle.card.specs.Card.{Step, fsdi, remain, sak, home, chosen, ready, readyAt, active, rules, takes, answers}
 use Rattle.card.specs.ElseLaws.{halt-else}
 use Rattle.card.specs.RatsLaws.{not-rats}
 use Rattle.card.specs.StateLaws.{halt-reqa}

@@ -6,9 +6,9 @@ use native.Mathlib.Omega.{arith}
 use mathlib.Core.Bool.{Bool, true, false, cond, false≢true}
 use mathlib.Core.List.{List, [], _∷_, _++_}
 use lib.Dec.{eqb, eqb→eq}
-use lib.ListN.{length, take, drop, getD, replicate, length-append, length-take, length-drop, take-append-drop}
-use lib.Seq.{take-all, take-at, drop-at, take-append-le, drop-append-le, getD-append-add, take-append-seam, drop-append-seam, length-take-le, drop-drop}
-use Rattle.rows.specs.Rows.{All, Bits, Bytes, fill}
+use lib.ListN.{length, take, drop, getD, replicate, length-append, length-drop, take-append-drop}
+use lib.Seq.{take-all, take-at, drop-at, take-append-le, drop-append-le, getD-append-add, length-take-le, drop-drop}
+use Rattle.rows.specs.Rows.{Bits, Bytes, fill}
 use Rattle.rows.specs.ListLaws.{all-take, all-drop, all-append}
 use Rattle.log.specs.Log.{fromTop, packed}
 use Rattle.log.specs.Calls.{rowSize}

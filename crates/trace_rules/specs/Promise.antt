@@ -3,7 +3,7 @@
 -- sweep_rules, and not over its code.
 use mathlib.Core.Path.{_≡_}
 use Prim.Native.Nat.{ℕ, _≤_}
-use mathlib.Core.Bool.{Bool, true}
+use mathlib.Core.Bool.{true}
 use mathlib.Core.List.{List, [], _∷_, _++_, map}
 use lib.ListN.{length}
 use Rattle.rows.specs.Rows.{All}
@@ -44,18 +44,15 @@ pub record InputOf (es : List Exchange) (s : List ℕ) : Type 0 where
 
 -- ---- a check of the input s that gave c
 
--- it comes out clean, with the list of the sweep over cs; each card listed speaks blocks or not as these do
-pub record ComesOut (cs : List Card) (blocks : Bool) (c : Checked) : Type 0 where
+-- it comes out clean, with the list of the sweep over cs; a card listed speaks blocks if the idle one with its UID does
+pub record ComesOut (cs : List Card) (c : Checked) : Type 0 where
   pub clean : c .verdict ≡ Clean
   pub list : map (λ d. uidBytes (d .uid)) (cardsOf c) ≡ sweep cs .found
-  pub saks : All (λ d. d .blocks ≡ blocks) (cardsOf c)
+  pub saks : All (λ d. All (λ g. isIdle (d .state) ≡ true → uidBytes (d .uid) ≡ uidBytes (g .uid) → d .blocks ≡ g .blocks) (cardsOf c)) cs
 
 pub record Faithful (s : List ℕ) (c : Checked) : Type 0 where
-  -- "A log that the plain sweep wrote must come out clean with that sweep's list": over a field within demand 3's terms whose cards all speak blocks or
-  -- all do not, with whatever ticks, or without
-  pub from-sweep : (cs : List Card) (blocks : Bool) → All Typed cs → within cs ≡ true → All (λ d. d .blocks ≡ blocks) cs → InputOf (sweep cs .exchanges) s → ComesOut cs blocks c
-  -- .. over any field within the terms the list is that sweep's, and so the reader is content throughout
-  pub lists : (cs : List Card) → All Typed cs → within cs ≡ true → InputOf (sweep cs .exchanges) s → map (λ d. uidBytes (d .uid)) (cardsOf c) ≡ sweep cs .found
+  -- "A log that the plain sweep wrote must come out clean with that sweep's list": over any field within demand 3's terms, with whatever ticks, or without
+  pub from-sweep : (cs : List Card) → All Typed cs → within cs ≡ true → InputOf (sweep cs .exchanges) s → ComesOut cs c
   -- "a log called clean must be, ticks apart, the one that the plain sweep writes over the printed cards, idle, valid and within the limit": and
   -- different
   pub is-sweep : c .verdict ≡ Clean → InputOf (sweep (cardsOf c) .exchanges) s

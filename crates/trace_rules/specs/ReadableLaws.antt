@@ -1,18 +1,18 @@
 -- The records of a sweep over a field within the terms can be read back. Assumes nothing.
-use mathlib.Core.Path.{_≡_, refl, ap}
-use Prim.Native.Nat.{ℕ, zero, suc, _+_, _*_, _≤_, _<_}
+use mathlib.Core.Path.{_≡_, refl}
+use Prim.Native.Nat.{ℕ, zero, suc, _+_, _≤_}
 use native.Mathlib.Omega.{arith}
 use mathlib.Core.Bool.{Bool, true, false}
-use mathlib.Core.List.{List, [], _∷_, _++_}
+use mathlib.Core.List.{List, []}
 use lib.ListN.{length, length-append}
 use Rattle.rows.specs.Rows.{All, clean}
 use Rattle.reader.specs.FrameLaws.{frame-bits}
 use Rattle.reader.specs.Reader.{frame, hear}
 use Rattle.field.specs.Field.{allTake, heardFrom}
-use Rattle.log.specs.Calls.{mostBits, rowSize}
+use Rattle.log.specs.Calls.{rowSize}
 use Rattle.log.specs.Log.{Exchange, sentHeard, tickBytes, sentRecord, heardRecord, exchangeBytes}
 use Rattle.log.specs.RecordLaws.{length-sent, length-heard-clean, length-heard-collided}
-use Rattle.sweep_rules.specs.Run.{Out, before, finding, ended, follow, runOf, run}
+use Rattle.sweep_rules.specs.Run.{before, finding, ended, follow, runOf, run}
 use Rattle.card.specs.declared.Card.{Card}
 use Rattle.reader.specs.declared.Answer.{Answer}
 use Rattle.reader.specs.declared.Answer.the-variants.{Sends, Finds, Selects, Finishes, Declines}

@@ -1,29 +1,38 @@
 -- The log of a sweep over cards of one kind comes out clean, with that sweep's list. Assumes nothing.
-use mathlib.Core.Path.{_≡_, refl, sym, ap, ap₂, _∙_}
+use mathlib.Core.Path.{_≡_, refl, sym, ap, _∙_}
 use mathlib.Core.Logic.{_≢_}
-use Prim.Native.Nat.{ℕ, zero, suc, _+_, _*_, _≤_, _<_}
+use Prim.Native.Nat.{ℕ, zero, suc, _+_, _≤_}
 use native.Mathlib.Omega.{arith}
-use mathlib.Core.Bool.{Bool, true, false, cond, not, _&&_, _||_, false≢true}
-use mathlib.Core.List.{List, [], _∷_, _++_, map}
-use lib.Dec.{eqb, leb, ltb}
+use mathlib.Core.Bool.{Bool, true, false, cond, _&&_, _||_, false≢true}
+use mathlib.Core.List.{List, [], _∷_, _++_, map, cons≢nil}
+use lib.Dec.{eqb, leb}
 use lib.ListN.{length, take, drop, length-append, length-map}
 use native.Mathlib.Nat.{zero-add}
 use lib.Seq.{length-take-le, take-take, take-nil}
 use borrow.Author.Tests.{leb-true, le-ltb}
-use Rattle.rows.specs.EachLaws.{all-zip, all-weaken}
+use Rattle.rows.specs.EachLaws.{all-zip, all-weaken, all-map}
 use Rattle.rows.specs.ListLaws.{both}
 use Rattle.rows.specs.Rows.{All, any, same, isNil, clean}
 use Rattle.limits.specs.Limits.{mostCards, mostFrames, logRoom}
-use Rattle.uid.specs.Uid.{byteCount, uidBytes, level, levelsOf, levels, falling, valid}
-use Rattle.reader.specs.Reader.{blank, sends, turn, frame, hear}
+use Rattle.frame.specs.Frame.{airBits}
+use Rattle.uid.specs.SortLaws.{all-sort}
+use Rattle.uid.specs.Uid.{byteCount, uidBytes, level, levelsOf, levels, air, rowOf, falling, valid}
+use Rattle.uid.specs.UidLaws.{name, name-row}
+use Rattle.reader.specs.Reader.{blank, sends, frame, hear}
 use Rattle.field.specs.Field.{allTake, heardFrom}
 use Rattle.log.specs.Calls.{tickSize}
 use Rattle.log.specs.Log.{Exchange, tickBytes, sentRecord, heardRecord, exchangeBytes, logBytes}
 use Rattle.log.specs.RecordLaws.{length-sent, length-heard-clean, length-heard-collided, length-tick}
-use Rattle.sweep_rules.specs.Demand.{Typed, idle, isIdleWith, Distinct, Demand3}
-use Rattle.sweep_rules.specs.Run.{Out, before, finding, ended, follow, runOf, run, sweep}
+use Rattle.sweep_rules.specs.Demand.{Typed, idle, Demand3}
+use Rattle.sweep_rules.specs.Run.{before, finding, ended, follow, runOf, run, sweep}
 use Rattle.sweep_rules.specs.Terms.{isIdle, isHalt, cardFits, allFit, apart, within}
-use Rattle.sweep_rules.proofs.Demand3.{demand3, length-falling}
+use Rattle.sweep_rules.proofs.Abstract.{sort, Apart}
+use Rattle.sweep_rules.proofs.Demand3.{demand3, length-falling, apart-idles, length-idles, few-idles}
+use Rattle.sweep_rules.proofs.Idle.{Fits, idlers, idles, rowIn, all-idle}
+use Rattle.sweep_rules.proofs.IdleRows.{whole-idles}
+use Rattle.sweep_rules.proofs.Round.{speaks}
+use Rattle.sweep_rules.proofs.Sweep.{frames-small}
+use Rattle.sweep_rules.proofs.Within.{Within, within-says}
 use Rattle.card.specs.declared.Card.{Card}
 use Rattle.card.specs.declared.CardState.{CardState}
 use Rattle.card.specs.declared.CardState.the-variants.{Off, Idle, Ready, Active, Halt, ReadyStar, ActiveStar, Protocol}
@@ -34,14 +43,14 @@ use Rattle.reader.specs.declared.Answer.{Answer}
 use Rattle.reader.specs.declared.Answer.the-variants.{Sends, Finds, Selects, Finishes, Declines}
 use Rattle.reader.specs.declared.Phase.the-variants.{ReqaSent}
 use Rattle.reader.specs.declared.Turn.{Turn}
-use Rattle.trace_rules.specs.Trace.{stampSize, listed, cardsIn, start, walk}
-use Rattle.trace_rules.specs.Check.{differs, cardsOf, judged, checkLog, check}
-use Rattle.trace_rules.specs.ContentLaws.{uids, listing, listedBy, At, Comes, follows, no-difference}
+use Rattle.trace_rules.specs.Trace.{stampSize, start, walk}
+use Rattle.trace_rules.specs.Check.{cardsOf, checkLog, check}
+use Rattle.trace_rules.specs.ContentLaws.{uids, listing, listedBy, Comes, follows, no-difference}
 use Rattle.trace_rules.specs.FollowLaws.{Readable}
-use Rattle.trace_rules.specs.KindLaws.{listing-kind}
+use Rattle.trace_rules.specs.KindRunLaws.{item, told, kinds-listed}
 use Rattle.trace_rules.specs.MatchLaws.{Rests, Pairs, mirror-of}
 use Rattle.trace_rules.specs.MirrorLaws.{Twin, Mirror, mirror-run}
-use Rattle.trace_rules.specs.Promise.{Begins, LogOf, InputOf}
+use Rattle.trace_rules.specs.Promise.{LogOf, InputOf}
 use Rattle.trace_rules.specs.ReadableLaws.{run-readable}
 use Rattle.trace_rules.specs.SweptLaws.{Sweeping, Stays, hear-stays, begin-sweeping}
 use Rattle.trace_rules.specs.declared.Checked.{Checked}
@@ -171,6 +180,26 @@ log-long w (e ∷ es) l b =
     let q : List ℕ = heardRecord (b .heard-stamp) (e .heard) ++ b .rest in
     omega (arith, ap length (b .bytes), length-append s q, length-append (heardRecord (b .heard-stamp) (e .heard)) (b .rest), length-sent (b .sent-stamp) (e .sent), log-long w es (b .rest) (b .behind))
 
+-- what holds of the idle cards
+of-idle : (G : Card → Type 0) (cs : List Card) → All G (idlers cs) → All (λ c. isIdle (c .state) ≡ true → G c) cs
+unfolding idlers
+of-idle G [] h = tt
+of-idle G (c ∷ cs) h = go (isIdle (c .state)) h (of-idle G cs)
+  where
+    go : (b : Bool) → All G (cond b (c ∷ idlers cs) (idlers cs)) → (All G (idlers cs) → All (λ c. isIdle (c .state) ≡ true → G c) cs) → (b ≡ true → G c) × All (λ c. isIdle (c .state) ≡ true → G c) cs
+    go true h ih = (λ e. h .0, ih (h .1))
+    go false h ih = (λ e. absurd (false≢true e), ih h)
+
+-- cards listed by their rows: the one with a row's name is of its kind
+same-kind : (kind : List ℕ → Bool) (u r : List ℕ) (G : List Card) (S : List (List ℕ)) → map item G ≡ map (λ P. (name P, kind P)) S → All (λ P. name P ≡ u → P ≡ r) S
+    → All (λ g. u ≡ uidBytes (g .uid) → kind r ≡ g .blocks) G
+same-kind kind u r [] S e a = tt
+same-kind kind u r (g ∷ G) [] e a = absurd (cons≢nil e)
+same-kind kind u r (g ∷ G) (P ∷ S) e a =
+    let h : item g ≡ (name P, kind P) = cc in
+    let t : map item G ≡ map (λ P. (name P, kind P)) S = cc in
+    ((λ x. ap kind (sym (a .0 (sym (ap (λ z. z .0) h) ∙ sym x))) ∙ sym (ap (λ z. z .1) h)), same-kind kind u r G S t (a .1))
+
 -- REQA is out
 abbrev first : Turn
 first = sends (blank ReqaSent true)
@@ -239,32 +268,64 @@ module _ (cs : List Card) (typed : All Typed cs) (terms : within cs ≡ true) wh
       unfolding checkLog out
       clean-log = rw (comes .clean, same-sweep) (no-difference w l 0 (sweep cs .exchanges) 0 readable log)
 
-  -- ---- cards of one kind
+  -- ---- the kinds
 
-  twins : (kind : Bool) (c : Card) → Typed c → c .blocks ≡ kind → (g : Card) → Plain g → g .blocks ≡ kind → isIdle (c .state) ≡ true → uidBytes (c .uid) ≡ uidBytes (g .uid) → Twin c g
-  twins kind c t b g p k e u =
+  fit : Within cs
+  fit = within-says cs typed terms
+
+  apart-rows : Apart (idles cs)
+  apart-rows = apart-idles cs (fit .fits) (fit .few) (fit .differ)
+
+  kind : List ℕ → Bool
+  kind P = speaks P (idlers cs)
+
+  told-idle : All (λ c. kind (rowIn c) ≡ c .blocks) (idlers cs)
+  unfolding kind
+  told-idle = told (idlers cs) (unfold idles in apart-rows)
+
+  items : map item G ≡ map (λ P. (name P, kind P)) (sort (idles cs))
+  unfolding G
+  items =
+      kinds-listed mostFrames cs kind (fit .fits) told-idle apart-rows
+      (frames-small mostCards (idles cs) (whole-idles cs (fit .fits)) (omega (arith, length-idles cs (fit .fits) (fit .few) (fit .differ), few-idles cs (fit .fits) (fit .few) (fit .differ))))
+
+  -- a row that has the name of a card is its row
+  rows-tell : (c : Card) → Typed c → All (λ P. name P ≡ uidBytes (c .uid) → P ≡ rowIn c) (idles cs)
+  unfolding idles rowOf
+  rows-tell c t =
+      all-map {F = Fits} (λ P. name P ≡ uidBytes (c .uid) → P ≡ rowIn c) rowIn (idlers cs)
+      (λ d h e. ap (λ l. air (map airBits l)) (uid-tells (d .uid) (c .uid) (h .sound .ten) (t .ten) (sym (unfold rowOf in name-row (d .uid) (h .sound)) ∙ e) .1)) (all-idle Fits cs (fit .fits))
+
+  blocks-tell : (c : Card) → Typed c → All (λ g. uidBytes (c .uid) ≡ uidBytes (g .uid) → kind (rowIn c) ≡ g .blocks) G
+  blocks-tell c t = same-kind kind (uidBytes (c .uid)) (rowIn c) G (sort (idles cs)) items (all-sort (λ s. s) (λ P. name P ≡ uidBytes (c .uid) → P ≡ rowIn c) (idles cs) (rows-tell c t))
+
+  twins : (c : Card) → Typed c → (isIdle (c .state) ≡ true → kind (rowIn c) ≡ c .blocks) → (g : Card) → Plain g → (uidBytes (c .uid) ≡ uidBytes (g .uid) → kind (rowIn c) ≡ g .blocks)
+      → isIdle (c .state) ≡ true → uidBytes (c .uid) ≡ uidBytes (g .uid) → Twin c g
+  twins c t k g p q e u =
       let z = uid-tells (c .uid) (g .uid) (t .ten) (p .ten) u in
-      record { levels-same = z .1; size-same = z .0; blocks-same = b ∙ sym k; state-same = idle-state (c .state) e ∙ sym (p .idle-is) }
+      record { levels-same = z .1; size-same = z .0; blocks-same = sym (k e) ∙ q u; state-same = idle-state (c .state) e ∙ sym (p .idle-is) }
 
-  module _ (kind : Bool) (one-kind : All (λ c. c .blocks ≡ kind) cs) where
-    pairs : Pairs cs G
-    unfolding G
-    pairs =
-        let ps : All Plain (listing mostFrames first cs) = listing-plain mostFrames first cs first-sweeping in
-        let ks : All (λ g. g .blocks ≡ kind) (listing mostFrames first cs) = listing-kind kind mostFrames first cs first-sweeping one-kind in
-        all-zip {F = Typed} {G = λ c. c .blocks ≡ kind} cs (λ c t b. all-zip {F = Plain} {G = λ g. g .blocks ≡ kind} (listing mostFrames first cs) (λ g p k. twins kind c t b g p k) ps ks) typed one-kind
+  plain-listed : All Plain G
+  unfolding G
+  plain-listed = listing-plain mostFrames first cs first-sweeping
 
-    mirrored : Mirror cs G
-    mirrored =
-        mirror-of cs G (fits-rest cs (parts .1)) (parts .2) (rw uids-are (D .once))
-        (λ v. sym (D .exactly v) ∙ ap (any (same v)) (sym uids-are) ∙ any-uids v G) pairs
+  pairs : Pairs cs G
+  pairs =
+      all-zip {F = Typed} {G = λ c. isIdle (c .state) ≡ true → kind (rowIn c) ≡ c .blocks} cs
+      (λ c t k. all-zip {F = Plain} {G = λ g. uidBytes (c .uid) ≡ uidBytes (g .uid) → kind (rowIn c) ≡ g .blocks} G (λ g p q. twins c t k g p q) plain-listed (blocks-tell c t))
+      typed (of-idle (λ c. kind (rowIn c) ≡ c .blocks) cs told-idle)
 
-    pub listed-kind : (w : ℕ) (l : List ℕ) → LogOf w (sweep cs .exchanges) l → All (λ d. d .blocks ≡ kind) (cardsOf (checkLog w l))
-    unfolding G
-    listed-kind w l log = rw (cards-log w l log) (listing-kind kind mostFrames first cs first-sweeping one-kind)
+  mirrored : Mirror cs G
+  mirrored =
+      mirror-of cs G (fits-rest cs (parts .1)) (parts .2) (rw uids-are (D .once))
+      (λ v. sym (D .exactly v) ∙ ap (any (same v)) (sym uids-are) ∙ any-uids v G) pairs
 
-    pub comes-clean : (w : ℕ) (l : List ℕ) → LogOf w (sweep cs .exchanges) l → checkLog w l .verdict ≡ Clean
-    comes-clean w l log = clean-log w l log mirrored
+  pub listed-kinds : (w : ℕ) (l : List ℕ) → LogOf w (sweep cs .exchanges) l
+      → All (λ d. All (λ g. isIdle (d .state) ≡ true → uidBytes (d .uid) ≡ uidBytes (g .uid) → d .blocks ≡ g .blocks) (cardsOf (checkLog w l))) cs
+  listed-kinds w l log = rw (cards-log w l log) (all-weaken cs (λ d h. all-weaken G (λ g q e u. q e u .blocks-same) h) pairs)
+
+  pub comes-clean : (w : ℕ) (l : List ℕ) → LogOf w (sweep cs .exchanges) l → checkLog w l .verdict ≡ Clean
+  comes-clean w l log = clean-log w l log mirrored
 
 -- ---- the input
 

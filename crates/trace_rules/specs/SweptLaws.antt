@@ -1,10 +1,10 @@
 -- The reader of a sweep stays one: what it sends are the frames of a sweep, and its rows keep their lengths. Assumes nothing.
-use mathlib.Core.Path.{_≡_, refl, sym, ap, _∙_}
-use Prim.Native.Nat.{ℕ, zero, suc, _+_, _-_, _*_, _/_, _≤_, _<_}
+use mathlib.Core.Path.{_≡_, refl}
+use Prim.Native.Nat.{ℕ, _+_, _-_, _*_, _/_, _≤_, _<_}
 use native.Mathlib.Omega.{arith}
 use mathlib.Core.Bool.{Bool, true, false, cond, not, _&&_}
-use mathlib.Core.List.{List, [], _∷_, _++_}
-use lib.ListN.{length, take, drop, replicate, getD, length-append, length-take, length-drop}
+use mathlib.Core.List.{List, [], _++_}
+use lib.ListN.{length, take, drop, getD, length-append, length-take, length-drop}
 use lib.Dec.{eqb, ltb}
 use Rattle.rows.specs.EachLaws.{length-fill}
 use Rattle.rows.specs.Rows.{isNil, clean, next, same, fill}
@@ -13,10 +13,9 @@ use Rattle.frame.specs.Frame.{dataOf, bytesOf, faulty, standard}
 use Rattle.uid.specs.Uid.{place, level}
 use Rattle.selection.specs.Heard.{readAtqa, readRest, readSak, notRest, restOf, restPlace}
 use Rattle.reader.specs.CollisionLaws.{grows}
-use Rattle.selection.specs.Selection.{cut, reqa, hlta, anticollision, select}
+use Rattle.selection.specs.Selection.{cut}
 use Rattle.selection.specs.SelectionLaws.{length-reqa, length-hlta, length-anti, length-select}
-use Rattle.reader.specs.Reader.{frameIn, frame, uid, reader, blank, turn, stop, sends, finds, opens, longer, completes, afterAtqa, hearAtqa, afterRest, hearRest, afterSak, b3, contradicts, sakHeard, hearSak, hearSilence, hearIn, hear}
-use Rattle.refusal.specs.declared.Refusal.{Refusal}
+use Rattle.reader.specs.Reader.{frameIn, frame, uid, reader, blank, sends, finds, opens, longer, completes, afterAtqa, hearAtqa, afterRest, hearRest, afterSak, b3, contradicts, sakHeard, hearSak, hearSilence, hearIn, hear}
 use Rattle.refusal.specs.declared.Refusal.the-variants.{Silence, Length, Parity, Check, Collision}
 use Rattle.selection.specs.declared.AtqaRead.{AtqaRead}
 use Rattle.selection.specs.declared.AtqaRead.the-variants.{Atqa, NotAtqa}
@@ -28,8 +27,7 @@ use Rattle.selection.specs.declared.SakRead.the-variants.{Sak, NotSak}
 use Rattle.uid.specs.declared.Level.{Level}
 use Rattle.uid.specs.declared.Level.the-variants.{One, Two, Three}
 use Rattle.uid.specs.declared.Uid.{Uid}
-use Rattle.uid.specs.declared.UidSize.{UidSize}
-use Rattle.uid.specs.declared.UidSize.the-variants.{Single, Double, Triple}
+use Rattle.uid.specs.declared.UidSize.the-variants.{Single}
 use Rattle.reader.specs.declared.Phase.{Phase}
 use Rattle.reader.specs.declared.Phase.the-variants.{New, ReqaSent, AnticollisionSent, SelectSent, HltaSent, Selected, Finished, Stopped, WupaSent, UidSelectSent}
 use Rattle.reader.specs.declared.Reader.{Reader}
