@@ -1,16 +1,17 @@
 # `make run` shows the main job, `make test` is the gate.
-# `make sweep FIELD=..`, `make card`, `make reader`, `make front`, `make type_b` prove a program, then run it on a file of samples/.
+# `make sweep FIELD=..`, `make card`, `make reader`, `make front`, `make type_b`, `make trace` prove a program, then run it on a file of samples/.
 # `make remember` shows both sweeps of one field side by side; `make frames` counts their frames over many fields.
 # `make speed` measures the core against plain Rust of our own (docs/SPEED.md).
 # `make lib` proves the library for C and archives it, `make examples` compiles the programs of examples/ with it and runs them,
 # `make fuzz CALLS=.. SEED=..` holds it to the independent model through its boundary.
 # `make vectors` writes the programs' scripts and expected output anew, from the independent model.
-.PHONY: run sweep remember frames card reader front type_b speed lib examples fuzz test toolchain vectors vectors-check model-check pages impostors
+.PHONY: run sweep remember frames card reader front type_b trace speed lib examples fuzz test toolchain vectors vectors-check model-check pages impostors
 
 CARGO = --quiet --release --offline --locked --manifest-path model/Cargo.toml
 MODEL = cargo run $(CARGO) --
 FIELD = samples/lockers.txt
 MAKER = samples/maker.txt
+TRACE = samples/trace.log
 LINKED = rustc --edition 2021 -D warnings -C opt-level=3 -L target/staticlib -l static=lacrivosum
 CALLS = 20000
 SEED = 1
@@ -74,6 +75,14 @@ front: toolchain
 
 type_b: toolchain
 	$(call proved-run,bench_type_b,samples/type_b.txt)
+
+# A log is bytes, so it is shown in hexadecimal.
+trace: toolchain
+	@[ -f "$(TRACE)" ] || { echo "there is no file $(TRACE)"; exit 1; }
+	@echo "proving trace_check and what it stands on; the first time this takes some minutes"
+	@rt check trace_check >/dev/null 2>&1 || { echo "trace_check is not proved: target/log/ has what the prover said"; exit 1; }
+	@od -An -v -tx1 "$(TRACE)"
+	@target/bin/trace_check <"$(TRACE)"
 
 # No part of the gate: a time is the machine's, and what else it does at that moment.
 speed: toolchain

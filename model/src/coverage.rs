@@ -360,6 +360,46 @@ fn expected_of_vicinity() -> Vec<Key> {
     keys
 }
 
+/// The places of T-12 that `vectors_trace` must reach: every test of the input and of a record, every refusal of the reader in a sweep, the end, the list.
+fn expected_of_trace() -> Vec<Key> {
+    let mut keys = Vec::new();
+    let mut add = |table: &str, row: &str, columns: &[&str]| {
+        keys.extend(columns.iter().map(|column| (format!("trace {table}"), row.to_string(), column.to_string())));
+    };
+    add("input", "none", &["6"]);
+    add("input", "another first byte", &["6", "too long"]);
+    add("input", "first byte", &["too long"]);
+    let wrong = [
+        "none",
+        "cut in the header",
+        "cut in the tick",
+        "cut in the bits",
+        "zero bit",
+        "fill bit",
+        "no bits",
+        "silence with bits",
+        "no collided bit",
+        "1 at a collided bit",
+        "fill bit of the marks",
+        "out of turn",
+    ];
+    for due in ["reader's", "heard"] {
+        add("record", due, &wrong);
+    }
+    add("record", "reader's", &["another frame"]);
+    add("refusal", "REQA sent (sweep)", &["2", "3", "9"]);
+    add("refusal", "ANTICOLLISION sent", &["2", "3", "5", "7", "8"]);
+    add("refusal", "SELECT sent", &["2", "3", "4", "7", "8", "9"]);
+    add("refusal", "HLTA sent", &["9"]);
+    add("SAK", "repeated", &["6"]);
+    add("SAK", "past the limit", &["6"]);
+    add("end", "bytes left", &["a record", "no whole record"]);
+    add("sweep", "differs", &["ATQA", "another answer"]);
+    add("clean", "without ticks", &["no card", "one card", "some cards", "as many as the limit"]);
+    add("clean", "with ticks", &["no card", "one card", "some cards"]);
+    keys
+}
+
 /// The places that `vectors_calls` must reach: every refusal of every call, and what a bench cannot lend.
 fn expected_of_calls() -> Vec<Key> {
     let mut keys = Vec::new();
@@ -426,10 +466,13 @@ pub fn report() -> Result<(), String> {
     let type_b = reached();
     crate::write::vicinity_script();
     let vicinity = reached();
+    crate::write::trace_script();
+    let traces = reached();
     let mut expected = expected();
     expected.extend(expected_of_front());
     expected.extend(expected_of_type_b());
     expected.extend(expected_of_vicinity());
+    expected.extend(expected_of_trace());
     let of_calls = expected_of_calls();
     let mut missing = Vec::new();
     let mut table = String::new();
@@ -441,6 +484,7 @@ pub fn report() -> Result<(), String> {
             false if key.0.starts_with("front") => &fronts,
             false if key.0.starts_with("Type B") => &type_b,
             false if key.0.starts_with("Vicinity") => &vicinity,
+            false if key.0.starts_with("trace") => &traces,
             false => &benches,
         };
         if *key.0 != table {

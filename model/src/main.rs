@@ -25,23 +25,25 @@ mod reader_link;
 mod refusal;
 mod scripts;
 mod sweep;
+mod trace;
 mod type_b;
 mod uid;
 mod vectors_calls;
 mod vectors_exchange;
 mod vectors_frame;
+mod vectors_trace;
 mod vicinity_field;
 mod vicinity_reader;
 mod vicinity_tag;
 mod write;
 
 const USAGE: &str = "\
-model vectors_frame | vectors_front | vectors_sweep | vectors_exchange | vectors_calls | bench_sweep | bench_card | bench_reader | bench_front | bench_type_b | bench_vicinity
+model vectors_frame | vectors_front | vectors_sweep | vectors_exchange | vectors_calls | vectors_trace | trace_check | bench_sweep | bench_card | bench_reader | bench_front | bench_type_b | bench_vicinity
                                          play a script from standard input
 model write DIR                          write the stored scripts and their answers
 model check DIR                          compare the stored ones with what would be written
 model coverage                           what the stored scripts reach
-model scripts card|reader|field|exchange|lossy|front|type_b|vicinity COUNT SEED   random scripts for larger comparisons";
+model scripts card|reader|field|exchange|lossy|front|type_b|vicinity|trace COUNT SEED   random scripts for larger comparisons";
 
 fn report(outcome: Result<(), String>) {
     if let Err(what) = outcome {
@@ -62,10 +64,18 @@ fn random_scripts(kind: &str, count: &str, seed: &str) -> Result<(), String> {
         "front" => scripts::front::random_scripts(count, seed).input,
         "type_b" => scripts::type_b::random_scripts(count, seed).input,
         "vicinity" => scripts::vicinity::random_scripts(count, seed).input,
-        _ => return Err("scripts for card, reader, field, exchange, lossy, front, type_b or vicinity".to_string()),
+        "trace" => scripts::trace::random_scripts(count, seed).input,
+        _ => return Err("scripts for card, reader, field, exchange, lossy, front, type_b, vicinity or trace".to_string()),
     };
     print!("{text}");
     Ok(())
+}
+
+/// A filter without lines: all of standard input is one log.
+fn trace_check() {
+    let mut input = Vec::new();
+    std::io::Read::read_to_end(&mut std::io::stdin(), &mut input).expect("standard input");
+    vectors_trace::told(trace::check(&input)).iter().for_each(|line| println!("{line}"));
 }
 
 fn main() {
@@ -76,6 +86,8 @@ fn main() {
         ["vectors_sweep"] => language::play(bench_sweep::VectorsSweep::default()),
         ["vectors_exchange"] => language::play(vectors_exchange::VectorsExchange::default()),
         ["vectors_calls"] => language::play(vectors_calls::VectorsCalls::new()),
+        ["vectors_trace"] => language::play(vectors_trace::VectorsTrace),
+        ["trace_check"] => trace_check(),
         ["bench_sweep"] => language::play(bench_sweep::BenchSweep::default()),
         ["bench_card"] => language::play(bench_card::BenchCard::new()),
         ["bench_front"] => language::play(bench_front::BenchFront::new()),

@@ -10,13 +10,13 @@ const SEED: u64 = 14_443;
 
 pub struct Stored {
     pub name: &'static str,
-    pub input: String,
+    pub input: Vec<u8>,
     pub output: String,
 }
 
 fn stored<P: Program>(name: &'static str, script: Script<P>) -> Stored {
     let (input, output) = script.finish();
-    Stored { name, input, output }
+    Stored { name, input: input.into_bytes(), output }
 }
 
 /// All stored vectors.
@@ -34,7 +34,16 @@ pub fn all() -> Vec<Stored> {
         stored("vectors_front", scripts::front::selections(SEED + 9)),
         stored("bench_type_b", scripts::type_b::script(SEED + 10)),
         stored("bench_vicinity", scripts::vicinity::script(SEED + 11)),
+        stored("vectors_trace", scripts::trace::script(SEED + 11)),
+        one_log(),
     ]
+}
+
+/// The one log that `trace_check` reads.
+fn one_log() -> Stored {
+    let input = scripts::trace::log_of_many();
+    let lines = crate::vectors_trace::told(crate::trace::check(&input));
+    Stored { name: "trace_check", input, output: lines.iter().map(|line| format!("{line}\n")).collect() }
 }
 
 /// The script of the fields.
@@ -83,6 +92,14 @@ pub fn vicinity_script() {
     input.lines().for_each(|line| drop(replayed.say(line)));
 }
 
+/// Plays the script of the logs again, for what it reaches.
+pub fn trace_script() {
+    let input = scripts::trace::script(SEED + 11).input;
+    crate::coverage::forget();
+    let mut replayed = Script::new(crate::vectors_trace::VectorsTrace);
+    input.lines().for_each(|line| drop(replayed.say(line)));
+}
+
 /// Plays the script of both ends again, for what it reaches.
 pub fn exchange_script() {
     let input = exchange().input;
@@ -127,10 +144,10 @@ fn has(folder: &str, name: &str) -> bool {
 pub fn write(folder: &str) -> Result<(), String> {
     for file in all().iter().filter(|f| has(folder, f.name)) {
         let place = Path::new(folder).join(file.name);
-        for (name, text) in [("stdin", &file.input), ("stdout", &file.output)] {
+        for (name, text) in [("stdin", &file.input[..]), ("stdout", file.output.as_bytes())] {
             let path = place.join(name);
             fs::write(&path, text).map_err(|e| format!("{}: {e}", path.display()))?;
-            println!("{}/{name} {} bytes, {} lines", file.name, text.len(), text.lines().count());
+            println!("{}/{name} {} bytes, {} lines", file.name, text.len(), text.iter().filter(|&&b| b == b'\n').count());
         }
     }
     Ok(())
@@ -139,11 +156,11 @@ pub fn write(folder: &str) -> Result<(), String> {
 pub fn check(folder: &str) -> Result<(), String> {
     let mut wrong = Vec::new();
     for file in all().iter().filter(|f| has(folder, f.name)) {
-        for (name, text) in [("stdin", &file.input), ("stdout", &file.output)] {
+        for (name, text) in [("stdin", &file.input[..]), ("stdout", file.output.as_bytes())] {
             let path = Path::new(folder).join(file.name).join(name);
             match fs::read(&path) {
-                Ok(stored) if stored == text.as_bytes() => {}
-                Ok(stored) => wrong.push(format!("{}: {}", path.display(), first_difference(&stored, text.as_bytes()))),
+                Ok(stored) if stored == text => {}
+                Ok(stored) => wrong.push(format!("{}: {}", path.display(), first_difference(&stored, text))),
                 Err(e) => wrong.push(format!("{}: {e}", path.display())),
             }
         }

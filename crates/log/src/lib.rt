@@ -70,17 +70,28 @@ pub fn bit_at(log: &[u8], start: usize, i: usize) -> u8
     bits[i % 8]
 }
 
-// The record at a place of the log.
-pub fn record_at(log: &[u8], at: usize) -> Record
-    ensures { λ r. ⌜ r ≡ recordAt tickSize (now (log .entry)) at ⌝ }
+// The record at a place of a log whose records have stamps of so many bytes: 4 for a tick, 0 in a log without ticks (T-12).
+pub fn record_in(log: &[u8], stamp: usize, at: usize) -> Record
+    ensures { λ r. ⌜ r ≡ recordAt stamp (now (log .entry)) at ⌝ }
 {
     if log.len() <= at {
         return Record::End;
     }
-    if log.len() < at + 2 + 4 {
+    let left = log.len() - at;
+    if left < 2 {
         return Record::Cut;
     }
-    reading::after_header(log, at + 2 + 4, log[at], log[at + 1])
+    if left - 2 < stamp {
+        return Record::Cut;
+    }
+    reading::after_header(log, at + 2 + stamp, log[at], log[at + 1])
+}
+
+// The record at a place of the log.
+pub fn record_at(log: &[u8], at: usize) -> Record
+    ensures { λ r. ⌜ r ≡ recordAt tickSize (now (log .entry)) at ⌝ }
+{
+    record_in(log, 4, at)
 }
 
 // T-09: the tick of the record at a place of the log: when the reader's last pause ended, the card's answer began, or the wait ran out. A byte

@@ -10,6 +10,7 @@ pub mod front;
 pub mod lossy;
 pub mod reader;
 pub mod reader_blocks;
+pub mod trace;
 pub mod type_b;
 pub mod vicinity;
 pub mod vicinity_reader;

@@ -1,0 +1,5 @@
+pub mod Reads
+pub mod Loops
+pub mod ReadLaws
+pub mod WalkLaws
+pub mod ReplayLaws
