@@ -1,10 +1,10 @@
 -- Document 02, T-10: what the reader makes of a received row. "rows are heard as in T-05": in a slot silence and collisions are no refusal, where another
 -- answer is due 7 and 8. A received frame is tested 7, 2, 8, 4, 9 (document 01): the first test that applies wins.
 use Rattle.std.specs.Prelude.{ℕ, ◌+◌, ◌-◌, ◌*◌, ◌/◌, ◌%◌, Bool, true, false, cond, not, ◌&&◌, ◌||◌, List, length, take, drop, replicate, eqb, leb}
-use Rattle.rows.specs.Rows.{isNil, clean}
+use Rattle.rows.specs.Rows.{is_nil, clean}
 use Rattle.parity.specs.Bits.{unbits}
-use Rattle.crc.specs.CrcOf.{crcGoodB}
-use Rattle.frame.specs.Frame.{bytesOf}
+use Rattle.crc.specs.CrcOf.{crc_good_b}
+use Rattle.frame.specs.Frame.{bytes_of}
 use Rattle.frame_b.specs.FrameB.{byte_at}
 use Rattle.request_v.specs.Inventory.{matching}
 use Rattle.refusal.specs.declared.Refusal.TheVariants.{Length, Silence, Collision, Crc, Forbidden}
@@ -32,17 +32,17 @@ abbrev pub collided : Bool → SlotV
 collided deep = cond deep (nobody (NotSlot Forbidden)) (nobody (Holds More))
 
 -- 96 bits, none of them collided: 00, DSFID, UID, CRC_B
-unfoldable pub slotIn : Turn → List ℕ → SlotV
-slotIn k h =
-    cond (not (crcGoodB (bytesOf (length h / 8) h))) (nobody (NotSlot Crc))
-    (cond (eqb (byte_at 0 h) 0x00 && fits k h) (record { says = Holds One; dsfid = byte_at 1 h; uid = bytesOf 8 (drop 16 h) })
+unfoldable pub slot_in : Turn → List ℕ → SlotV
+slot_in k h =
+    cond (not (crc_good_b (bytes_of (length h / 8) h))) (nobody (NotSlot Crc))
+    (cond (eqb (byte_at 0 h) 0x00 && fits k h) (record { says = Holds One; dsfid = byte_at 1 h; uid = bytes_of 8 (drop 16 h) })
     (nobody (NotSlot Forbidden)))
 
 unfoldable pub read_slot : Turn → List ℕ → SlotV
 read_slot k h =
-    cond (isNil h) (nobody (Holds None))
+    cond (is_nil h) (nobody (Holds None))
     (cond (not (eqb (length h) 96)) (nobody (NotSlot Length))
-    (cond (not (clean h)) (collided k.deep) (slotIn k h)))
+    (cond (not (clean h)) (collided k.deep) (slot_in k h)))
 
 -- ---- another answer
 
@@ -51,17 +51,17 @@ unfoldable pub is_code : ℕ → Bool
 is_code e = leb 0x01 e && leb e 0x03 || (leb 0x0F e && leb e 0x14 || leb 0xA0 e && leb e 0xDF)
 
 -- n bytes behind the flags can be count + 1 blocks of one size, 1 to 32 bytes, each with its status byte if that was asked for
-unfoldable pub isData : ℕ → Bool → ℕ → Bool
-isData count status n =
+unfoldable pub is_data : ℕ → Bool → ℕ → Bool
+is_data count status n =
     eqb (n % (count + 1)) 0 && (leb (cond status 2 1) (n / (count + 1)) && leb (n / (count + 1)) (cond status 33 32))
 
 -- what a good answer has behind its flags: a read's blocks, else nothing
 abbrev pub fitting : Bool → ℕ → Bool → ℕ → Bool
-fitting reads count status n = cond reads (isData count status n) (eqb n 0)
+fitting reads count status n = cond reads (is_data count status n) (eqb n 0)
 
 -- a length that the answer can have, in bits; an error has 32
-unfoldable pub isLength : Bool → ℕ → Bool → ℕ → Bool
-isLength reads count status n = eqb n 32 || eqb (n % 8) 0 && (leb 24 n && fitting reads count status (n / 8 - 3))
+unfoldable pub is_length : Bool → ℕ → Bool → ℕ → Bool
+is_length reads count status n = eqb n 32 || eqb (n % 8) 0 && (leb 24 n && fitting reads count status (n / 8 - 3))
 
 -- 00, with bytes behind it that the answer can have: good; 01 and one byte, a code of table 7: the tag's error; "other codes, or flags not 00 or 01, are 9"
 unfoldable pub value_of : Bool → ℕ → Bool → ℕ → ℕ → ℕ → AnswerSays
@@ -72,11 +72,11 @@ value_of reads count status flags code n =
 -- whole bytes, three at least, no collided bit
 unfoldable pub answer_in : Bool → ℕ → Bool → List ℕ → AnswerSays
 answer_in reads count status h =
-    cond (not (crcGoodB (bytesOf (length h / 8) h))) (NotGood Crc)
+    cond (not (crc_good_b (bytes_of (length h / 8) h))) (NotGood Crc)
     (value_of reads count status (byte_at 0 h) (byte_at 1 h) (length h / 8 - 3))
 
-unfoldable pub readAnswer : Bool → ℕ → Bool → List ℕ → AnswerSays
-readAnswer reads count status h =
-    cond (isNil h) (NotGood Silence)
-    (cond (not (isLength reads count status (length h))) (NotGood Length)
+unfoldable pub read_answer : Bool → ℕ → Bool → List ℕ → AnswerSays
+read_answer reads count status h =
+    cond (is_nil h) (NotGood Silence)
+    (cond (not (is_length reads count status (length h))) (NotGood Length)
     (cond (not (clean h)) (NotGood Collision) (answer_in reads count status h)))

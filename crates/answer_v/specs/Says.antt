@@ -1,7 +1,7 @@
 -- What was heard, in the table's numbers.
 use Rattle.std.specs.Prelude.{List, [], ◌∷◌, ℕ}
-use Rattle.refusal.specs.Refusal.{Said, giving, refusalSays}
-use Rattle.selection_b.specs.HeardB.{heldNumber}
+use Rattle.refusal.specs.Refusal.{Said, giving, refusal_says}
+use Rattle.selection_b.specs.HeardB.{held_number}
 use Rattle.selection_b.specs.declared.SlotSays.{SlotSays}
 use Rattle.selection_b.specs.declared.SlotSays.TheVariants.{Holds, NotSlot}
 use Rattle.answer_v.specs.declared.SlotV.{SlotV}
@@ -9,15 +9,15 @@ use Rattle.answer_v.specs.declared.AnswerSays.{AnswerSays}
 use Rattle.answer_v.specs.declared.AnswerSays.TheVariants.{Good, Fails, NotGood}
 
 -- 0, 1 or 2 for none, one, more; of one its DSFID and its UID
-abbrev pub heldSays : SlotSays → ℕ → List ℕ → Said
-heldSays (Holds k) dsfid uid = giving (heldNumber k ∷ dsfid ∷ uid)
-heldSays (NotSlot e) dsfid uid = refusalSays e
+abbrev pub held_says : SlotSays → ℕ → List ℕ → Said
+held_says (Holds k) dsfid uid = giving (held_number k ∷ dsfid ∷ uid)
+held_says (NotSlot e) dsfid uid = refusal_says e
 
-abbrev pub slotSays : SlotV → Said
-slotSays s = heldSays s.says s.dsfid s.uid
+abbrev pub slot_says : SlotV → Said
+slot_says s = held_says s.says s.dsfid s.uid
 
 -- done, with so many bytes; or an error of the tag: 1 and its code, no refusal
-abbrev pub answerSays : AnswerSays → Said
-answerSays (Good n) = giving (0 ∷ n ∷ [])
-answerSays (Fails e) = giving (1 ∷ e ∷ [])
-answerSays (NotGood e) = refusalSays e
+abbrev pub answer_says : AnswerSays → Said
+answer_says (Good n) = giving (0 ∷ n ∷ [])
+answer_says (Fails e) = giving (1 ∷ e ∷ [])
+answer_says (NotGood e) = refusal_says e

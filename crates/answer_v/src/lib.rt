@@ -2,8 +2,8 @@
 pub mod within;
 
 ghost use Rattle.std.specs.Prelude.{◌≡◌};
-ghost use Rattle.answer_v.specs.Heard.{read_slot, readAnswer};
-ghost use Rattle.answer_v.specs.Says.{slotSays, answerSays};
+ghost use Rattle.answer_v.specs.Heard.{read_slot, read_answer};
+ghost use Rattle.answer_v.specs.Says.{slot_says, answer_says};
 
 use refusal::Refusal;
 use selection_b::{Held, SlotSays};
@@ -37,7 +37,7 @@ pub enum AnswerSays {
 // What was heard in a slot.
 pub fn read_slot(k: Turn, row: &[u8]) -> SlotV
     ensures value { result ≡ read_slot k row.now }
-    ensures result_value { slotSays result ≡ slotSays (read_slot k row.now) }
+    ensures result_value { slot_says result ≡ slot_says (read_slot k row.now) }
 {
     if row.len() == 0 {
         return within::nobody(SlotSays::Holds(Held::None));
@@ -53,8 +53,8 @@ pub fn read_slot(k: Turn, row: &[u8]) -> SlotV
 
 // The answer to a read of count + 1 blocks, or to any other request that is answered.
 pub fn read_answer(reads: bool, count: u8, status: bool, row: &[u8]) -> AnswerSays
-    ensures value { result ≡ readAnswer reads count status row.now }
-    ensures result_value { answerSays result ≡ answerSays (readAnswer reads count status row.now) }
+    ensures value { result ≡ read_answer reads count status row.now }
+    ensures result_value { answer_says result ≡ answer_says (read_answer reads count status row.now) }
 {
     if row.len() == 0 {
         return AnswerSays::NotGood(Refusal::Silence);

@@ -1,7 +1,7 @@
 // How a row is read. Called by our own crates only.
 ghost use Rattle.std.specs.Prelude.{◌≡◌, true, ◌+◌, ◌*◌, ◌%◌, ◌≤◌, length};
 ghost use Rattle.rows.specs.Rows.{clean};
-ghost use Rattle.answer_v.specs.Heard.{nobody, collided, fits, slotIn, is_code, isData, fitting, isLength, value_of, answer_in};
+ghost use Rattle.answer_v.specs.Heard.{nobody, collided, fits, slot_in, is_code, is_data, fitting, is_length, value_of, answer_in};
 
 use crate::{AnswerSays, SlotV, Turn};
 use refusal::Refusal;
@@ -54,7 +54,7 @@ fn is_fitting(k: Turn, row: &[u8]) -> bool
 // A row of 96 bits, none of them collided.
 pub fn slot_in(k: Turn, row: &[u8]) -> SlotV
     requires { (length row.now ≡ 96) × (clean row.now ≡ true) }
-    ensures { result ≡ slotIn k row.now }
+    ensures { result ≡ slot_in k row.now }
 {
     if !frame_v::within::is_good(row) {
         return nobody(SlotSays::NotSlot(Refusal::Crc));
@@ -99,7 +99,7 @@ fn is_code(e: u8) -> bool
 }
 
 fn is_data(count: u8, status: bool, n: usize) -> bool
-    ensures { result ≡ isData count status n }
+    ensures { result ≡ is_data count status n }
 {
     let c = count as usize + 1;
     if n % c != 0 {
@@ -128,7 +128,7 @@ fn is_fit(reads: bool, count: u8, status: bool, n: usize) -> bool
 }
 
 pub fn is_length(reads: bool, count: u8, status: bool, n: usize) -> bool
-    ensures { result ≡ isLength reads count status n }
+    ensures { result ≡ is_length reads count status n }
 {
     if n == 32 {
         return true;

@@ -4,8 +4,8 @@ use Rattle.rows.specs.Rows.{overlay}
 use Rattle.bench.specs.declared.Line.{Line}
 
 -- nothing collected
-abbrev pub noLine : Line
-noLine = record { length = 0; overlong = false; complete = false }
+abbrev pub no_line : Line
+no_line = record { length = 0; overlong = false; complete = false }
 
 -- a byte comes: a line feed completes the line; any other byte goes behind the others, or makes the line overlong where there is no room
 unfoldable pub fed : ℕ → Line → ℕ → Line
@@ -15,14 +15,14 @@ fed room s b =
     (record { length = s.length; overlong = true; complete = false }))
 
 -- the lent bytes afterwards
-unfoldable pub fedBytes : List ℕ → Line → ℕ → List ℕ
-fedBytes d s b = cond (eqb b 10) d (cond (ltb s.length (length d)) (overlay d s.length (b ∷ [])) d)
+unfoldable pub fed_bytes : List ℕ → Line → ℕ → List ℕ
+fed_bytes d s b = cond (eqb b 10) d (cond (ltb s.length (length d)) (overlay d s.length (b ∷ [])) d)
 
 -- many bytes, one after the other
-unfoldable pub fedAll : List ℕ → Line → List ℕ → Line
-fedAll d s [] = s
-fedAll d s (b ∷ l) = fedAll (fedBytes d s b) (fed (length d) s b) l
+unfoldable pub fed_all : List ℕ → Line → List ℕ → Line
+fed_all d s [] = s
+fed_all d s (b ∷ l) = fed_all (fed_bytes d s b) (fed (length d) s b) l
 
-unfoldable pub fedAllBytes : List ℕ → Line → List ℕ → List ℕ
-fedAllBytes d s [] = d
-fedAllBytes d s (b ∷ l) = fedAllBytes (fedBytes d s b) (fed (length d) s b) l
+unfoldable pub fed_all_bytes : List ℕ → Line → List ℕ → List ℕ
+fed_all_bytes d s [] = d
+fed_all_bytes d s (b ∷ l) = fed_all_bytes (fed_bytes d s b) (fed (length d) s b) l

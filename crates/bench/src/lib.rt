@@ -1,7 +1,7 @@
 // The script language's lines and words.
 ghost use Rattle.std.specs.Prelude.{◌≡◌, ℕ, length, take};
-ghost use Rattle.bench.specs.Lines.{noLine, fed, fedBytes};
-ghost use Rattle.bench.specs.Words.{word_at, withoutReturn, kind_of};
+ghost use Rattle.bench.specs.Lines.{no_line, fed, fed_bytes};
+ghost use Rattle.bench.specs.Words.{word_at, without_return, kind_of};
 
 // Functions with conditions on what they are called with. Only the crates of this repository call them.
 pub mod within;
@@ -24,7 +24,7 @@ pub enum LineKind {
 
 // No byte yet.
 pub fn new_line() -> Line
-    ensures { result ≡ noLine }
+    ensures { result ≡ no_line }
 {
     Line {
         length: 0,
@@ -36,7 +36,7 @@ pub fn new_line() -> Line
 // The next byte of a line, which is collected in the lent bytes.
 pub fn feed(bytes: &mut [u8], line: Line, b: u8) -> Line
     ensures value { result ≡ fed (length bytes.old) line b }
-    ensures bytes_after { bytes.new ≡ fedBytes bytes.old line b }
+    ensures bytes_after { bytes.new ≡ fed_bytes bytes.old line b }
 {
     let n = line.length;
     if b == 10 {
@@ -63,7 +63,7 @@ pub fn feed(bytes: &mut [u8], line: Line, b: u8) -> Line
 
 // A line without the carriage return at its end.
 pub fn text(line: &[u8]) -> &[u8]
-    ensures { result.now ≡ withoutReturn line.now }
+    ensures { result.now ≡ without_return line.now }
 {
     if line.len() == 0 {
         return line;

@@ -1,6 +1,6 @@
 // The parts that the public functions are made of.
 ghost use Rattle.std.specs.Prelude.{◌≡◌, ◌≤◌, length, drop, get_or};
-ghost use Rattle.bench.specs.Words.{Skipped, Stopped, afterGap, afterRun};
+ghost use Rattle.bench.specs.Words.{Skipped, Stopped, after_gap, after_run};
 
 // The first byte; 0 where there is none.
 pub fn first(text: &[u8]) -> u8
@@ -42,7 +42,7 @@ pub fn stop(text: &[u8], from: usize) -> usize
 pub fn after_word(text: &[u8], from: usize) -> usize
     requires { from ≤ length text.now }
     ensures upper_bound { result ≤ length text.now }
-    ensures text_value { drop result text.now ≡ afterRun (afterGap (drop from text.now)) }
+    ensures text_value { drop result text.now ≡ after_run (after_gap (drop from text.now)) }
 {
     stop(text, skip(text, from))
 }

@@ -15,42 +15,42 @@ pub record Wrote (d : List ℕ) (at : ℕ) (s : List ℕ) (r : ℕ) (e : List �
 
 -- ---- bytes: two hexadecimal digits each, in capitals; `-` for none
 
-unfoldable pub hexChar : ℕ → ℕ
-hexChar d = cond (ltb d 10) (48 + d) (55 + d)
+unfoldable pub hex_char : ℕ → ℕ
+hex_char d = cond (ltb d 10) (48 + d) (55 + d)
 
-abbrev pub hexByte : ℕ → List ℕ
-hexByte b = hexChar (b / 16) ∷ hexChar (b % 16) ∷ []
+abbrev pub hex_byte : ℕ → List ℕ
+hex_byte b = hex_char (b / 16) ∷ hex_char (b % 16) ∷ []
 
-unfoldable pub hexDigits : List ℕ → List ℕ
-hexDigits [] = []
-hexDigits (b ∷ l) = hexByte b ++ hexDigits l
+unfoldable pub hex_digits : List ℕ → List ℕ
+hex_digits [] = []
+hex_digits (b ∷ l) = hex_byte b ++ hex_digits l
 
-unfoldable pub hexText : List ℕ → List ℕ
-hexText [] = 45 ∷ []
-hexText (b ∷ l) = hexDigits (b ∷ l)
+unfoldable pub hex_text : List ℕ → List ℕ
+hex_text [] = 45 ∷ []
+hex_text (b ∷ l) = hex_digits (b ∷ l)
 
 -- ---- rows: `0`, `1` and, for a collided bit, `x`; `-` for the empty row
 
-unfoldable pub bitChar : ℕ → ℕ
-bitChar x = cond (eqb x 0) 48 (cond (eqb x 1) 49 120)
+unfoldable pub bit_char : ℕ → ℕ
+bit_char x = cond (eqb x 0) 48 (cond (eqb x 1) 49 120)
 
-unfoldable pub bitsText : List ℕ → List ℕ
-bitsText [] = []
-bitsText (x ∷ r) = bitChar x ∷ bitsText r
+unfoldable pub bits_text : List ℕ → List ℕ
+bits_text [] = []
+bits_text (x ∷ r) = bit_char x ∷ bits_text r
 
-unfoldable pub rowText : List ℕ → List ℕ
-rowText [] = 45 ∷ []
-rowText (x ∷ r) = bitsText (x ∷ r)
+unfoldable pub row_text : List ℕ → List ℕ
+row_text [] = 45 ∷ []
+row_text (x ∷ r) = bits_text (x ∷ r)
 
 -- ---- numbers: decimal, no zeros in front
 
-abbrev pub lastDigit : ℕ → List ℕ
-lastDigit n = (48 + n % 10) ∷ []
+abbrev pub last_digit : ℕ → List ℕ
+last_digit n = (48 + n % 10) ∷ []
 
 -- n's digits, at most one more than f of them
 unfoldable pub digits : ℕ → ℕ → List ℕ
-digits zero n = lastDigit n
-digits (suc f) n = cond (ltb n 10) (lastDigit n) (digits f (n / 10) ++ lastDigit n)
+digits zero n = last_digit n
+digits (suc f) n = cond (ltb n 10) (last_digit n) (digits f (n / 10) ++ last_digit n)
 
-unfoldable pub decimalText : ℕ → List ℕ
-decimalText n = digits n n
+unfoldable pub decimal_text : ℕ → List ℕ
+decimal_text n = digits n n

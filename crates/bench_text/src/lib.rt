@@ -1,6 +1,6 @@
 // The script language's text: what the programs write. Each function writes its text into lent bytes from index `at` on and answers the
 // index behind it, so that the next text goes there. What does not fit is cut off.
-ghost use Rattle.bench_text.specs.Text.{Wrote, hexText, bitsText, rowText, decimalText};
+ghost use Rattle.bench_text.specs.Text.{Wrote, hex_text, bits_text, row_text, decimal_text};
 
 // Functions with conditions on what they are called with, and parts. Only the crates of this repository call them.
 pub mod within;
@@ -20,7 +20,7 @@ pub fn put(out: &mut [u8], at: usize, text: &[u8]) -> usize
 
 // Bytes in hexadecimal capitals; `-` for none.
 pub fn put_hex(out: &mut [u8], at: usize, bytes: &[u8]) -> usize
-    ensures { Wrote out.old at (hexText bytes.now) result out.new }
+    ensures { Wrote out.old at (hex_text bytes.now) result out.new }
 {
     if bytes.len() == 0 {
         return put(out, at, &[45]);
@@ -34,7 +34,7 @@ pub fn put_hex(out: &mut [u8], at: usize, bytes: &[u8]) -> usize
 
 // Bits without a sign for the empty row: `0`, `1`, and `x` for anything else, a collided bit.
 pub fn put_bits(out: &mut [u8], at: usize, row: &[u8]) -> usize
-    ensures { Wrote out.old at (bitsText row.now) result out.new }
+    ensures { Wrote out.old at (bits_text row.now) result out.new }
 {
     let mut p = at;
     for i in 0..row.len() {
@@ -45,7 +45,7 @@ pub fn put_bits(out: &mut [u8], at: usize, row: &[u8]) -> usize
 
 // A row; `-` for the empty one.
 pub fn put_row(out: &mut [u8], at: usize, row: &[u8]) -> usize
-    ensures { Wrote out.old at (rowText row.now) result out.new }
+    ensures { Wrote out.old at (row_text row.now) result out.new }
 {
     if row.len() == 0 {
         return put(out, at, &[45]);
@@ -55,7 +55,7 @@ pub fn put_row(out: &mut [u8], at: usize, row: &[u8]) -> usize
 
 // A number in decimal, with no zeros in front.
 pub fn put_decimal(out: &mut [u8], at: usize, n: usize) -> usize
-    ensures { Wrote out.old at (decimalText n) result out.new }
+    ensures { Wrote out.old at (decimal_text n) result out.new }
 {
     if n < 10 {
         return within::put_last_digit(out, at, n);

@@ -1,6 +1,6 @@
 // The parts that the public functions are made of.
 ghost use Rattle.std.specs.Prelude.{◌≡◌, min, ◌<◌};
-ghost use Rattle.bench_text.specs.Text.{Wrote, hexChar, hexByte, bitChar, lastDigit};
+ghost use Rattle.bench_text.specs.Text.{Wrote, hex_char, hex_byte, bit_char, last_digit};
 
 use crate::put;
 
@@ -13,21 +13,21 @@ pub fn least(a: usize, b: usize) -> usize
 // The digit of a number below 16, in capitals.
 pub fn hex_char(d: u8) -> u8
     requires { d < 16 }
-    ensures { result ≡ hexChar d }
+    ensures { result ≡ hex_char d }
 {
     if d < 10 { 48 + d } else { 55 + d }
 }
 
 // A byte as two digits.
 pub fn put_byte(out: &mut [u8], at: usize, b: u8) -> usize
-    ensures { Wrote out.old at (hexByte b) result out.new }
+    ensures { Wrote out.old at (hex_byte b) result out.new }
 {
     put(out, at, &[hex_char(b / 16), hex_char(b % 16)])
 }
 
 // `0`, `1`, or `x` for a collided bit.
 pub fn bit_char(x: u8) -> u8
-    ensures { result ≡ bitChar x }
+    ensures { result ≡ bit_char x }
 {
     if x == 0 {
         return 48;
@@ -37,7 +37,7 @@ pub fn bit_char(x: u8) -> u8
 
 // The last decimal digit of a number.
 pub fn put_last_digit(out: &mut [u8], at: usize, n: usize) -> usize
-    ensures { Wrote out.old at (lastDigit n) result out.new }
+    ensures { Wrote out.old at (last_digit n) result out.new }
 {
     put(out, at, &[48 + (n % 10) as u8])
 }

@@ -3,19 +3,19 @@ use Rattle.std.specs.Prelude.{◌≡◌, refl, Bool, true, false, cond, ◌&&◌
 use Rattle.std.proofs.Common.{sym, ap, ap₂, ◌∙◌, pow-suc, arith, length-append, lt-ltb, le-ltb, ltb-true, ltb-false, le-leb, eq-eqb}
 use Rattle.rows.specs.Rows.{All, Bytes, same}
 use Rattle.rows.specs.ListLaws.{same_length}
-use Rattle.bench_text.specs.Text.{hexChar, hexByte, hexDigits, hexText, bitChar, bitsText, rowText, lastDigit, digits, decimalText}
+use Rattle.bench_text.specs.Text.{hex_char, hex_byte, hex_digits, hex_text, bit_char, bits_text, row_text, last_digit, digits, decimal_text}
 use Rattle.bench_values.specs.declared.Alphabet.{Alphabet}
 use Rattle.bench_values.specs.declared.Alphabet.TheVariants.{Hex, Bits, Decimal}
 use Rattle.bench_values.specs.declared.Number.TheVariants.{Value}
-use Rattle.bench_values.specs.Values.{hexValue, bitValue, decimalValue, value_of, spelt, Meaning, These, isDash, hexPair, hexBytes, hexWord, rowBits, rowWord, joined, numberWord}
+use Rattle.bench_values.specs.Values.{hex_value, bit_value, decimal_value, value_of, spelt, Meaning, These, is_dash, hex_pair, hex_bytes, hex_word, row_bits, row_word, joined, number_word}
 
 -- ---- bytes
 
-hex-letter : (d : ℕ) → d < 16 → hexValue (hexChar d) ≡ d
-unfolding hexValue hexChar
-hex-letter d h = go (ltb d 10) refl
+hex_letter : (d : ℕ) → d < 16 → hex_value (hex_char d) ≡ d
+unfolding hex_value hex_char
+hex_letter d h = go (ltb d 10) refl
   where
-    go : (b : Bool) → ltb d 10 ≡ b → hexValue (cond b (48 + d) (55 + d)) ≡ d
+    go : (b : Bool) → ltb d 10 ≡ b → hex_value (cond b (48 + d) (55 + d)) ≡ d
     go true t =
         let l : d < 10 = ltb-true d 10 t in
         simp (le-ltb (48 + d) 48 (omega arith), lt-ltb (48 + d) 58 (omega arith)) (omega arith)
@@ -29,140 +29,140 @@ hex-letter d h = go (ltb d 10) refl
         )
         (omega arith)
 
-length-hexDigits : (l : List ℕ) → length (hexDigits l) ≡ 2 * length l
-unfolding hexDigits
-length-hexDigits [] = refl
-length-hexDigits (b ∷ l) = omega (arith, length-hexDigits l)
+length_hex_digits : (l : List ℕ) → length (hex_digits l) ≡ 2 * length l
+unfolding hex_digits
+length_hex_digits [] = refl
+length_hex_digits (b ∷ l) = omega (arith, length_hex_digits l)
 
-spelt-hexDigits : (l : List ℕ) → Bytes l → spelt Hex (hexDigits l) ≡ true
-unfolding hexDigits spelt
-spelt-hexDigits [] h = refl
-spelt-hexDigits (b ∷ l) h =
+spelt_hex_digits : (l : List ℕ) → Bytes l → spelt Hex (hex_digits l) ≡ true
+unfolding hex_digits spelt
+spelt_hex_digits [] h = refl
+spelt_hex_digits (b ∷ l) h =
     let k : b < 256 = h.0 in
     simp (
-      hex-letter (b / 16) (omega arith),
-      hex-letter (b % 16) (omega arith),
+      hex_letter (b / 16) (omega arith),
+      hex_letter (b % 16) (omega arith),
       lt-ltb (b / 16) 16 (omega arith),
       lt-ltb (b % 16) 16 (omega arith),
     )
-    (spelt-hexDigits l h.1)
+    (spelt_hex_digits l h.1)
 
-bytes-hexDigits : (l : List ℕ) → Bytes l → hexBytes (hexDigits l) ≡ l
-unfolding hexDigits hexBytes
-bytes-hexDigits [] h = refl
-bytes-hexDigits (b ∷ l) h =
+bytes_hex_digits : (l : List ℕ) → Bytes l → hex_bytes (hex_digits l) ≡ l
+unfolding hex_digits hex_bytes
+bytes_hex_digits [] h = refl
+bytes_hex_digits (b ∷ l) h =
     let k : b < 256 = h.0 in
-    simp (hex-letter (b / 16) (omega arith), hex-letter (b % 16) (omega arith), bytes-hexDigits l h.1) (ap (λ (x : ℕ). x ∷ l) (omega arith))
+    simp (hex_letter (b / 16) (omega arith), hex_letter (b % 16) (omega arith), bytes_hex_digits l h.1) (ap (λ (x : ℕ). x ∷ l) (omega arith))
 
-pub hex-back : (l : List ℕ) → Bytes l → hexWord (hexText l) ≡ These l
-unfolding hexWord hexText same
-hex-back [] h = refl
-hex-back (b ∷ l) h =
-    let w : List ℕ = hexDigits (b ∷ l) in
-    let n : length w ≡ 2 * length (b ∷ l) = length-hexDigits (b ∷ l) in
+pub hex_back : (l : List ℕ) → Bytes l → hex_word (hex_text l) ≡ These l
+unfolding hex_word hex_text same
+hex_back [] h = refl
+hex_back (b ∷ l) h =
+    let w : List ℕ = hex_digits (b ∷ l) in
+    let n : length w ≡ 2 * length (b ∷ l) = length_hex_digits (b ∷ l) in
     simp (
       same_length w (45 ∷ []) (λ e. omega arith),
       le-leb 2 (length w) (omega arith),
       eq-eqb (length w % 2) 0 (omega arith),
-      spelt-hexDigits (b ∷ l) h,
-      bytes-hexDigits (b ∷ l) h,
+      spelt_hex_digits (b ∷ l) h,
+      bytes_hex_digits (b ∷ l) h,
     )
 
 -- ---- rows
 
-bit-letter : (x : ℕ) → x < 3 → (bitValue (bitChar x) ≡ x) × (eqb (bitChar x) 45 ≡ false)
-unfolding bitValue bitChar
-bit-letter zero h = (refl, refl)
-bit-letter (suc zero) h = (refl, refl)
-bit-letter (suc (suc zero)) h = (refl, refl)
-bit-letter (suc (suc (suc x))) h = absurd (omega arith)
+bit_letter : (x : ℕ) → x < 3 → (bit_value (bit_char x) ≡ x) × (eqb (bit_char x) 45 ≡ false)
+unfolding bit_value bit_char
+bit_letter zero h = (refl, refl)
+bit_letter (suc zero) h = (refl, refl)
+bit_letter (suc (suc zero)) h = (refl, refl)
+bit_letter (suc (suc (suc x))) h = absurd (omega arith)
 
-spelt-bits : (r : List ℕ) → All (λ x. x < 3) r → spelt Bits (bitsText r) ≡ true
-unfolding bitsText spelt
-spelt-bits [] h = refl
-spelt-bits (x ∷ r) h = simp ((bit-letter x h.0).0, lt-ltb x 16 (omega (arith, h.0))) (spelt-bits r h.1)
+spelt_bits : (r : List ℕ) → All (λ x. x < 3) r → spelt Bits (bits_text r) ≡ true
+unfolding bits_text spelt
+spelt_bits [] h = refl
+spelt_bits (x ∷ r) h = simp ((bit_letter x h.0).0, lt-ltb x 16 (omega (arith, h.0))) (spelt_bits r h.1)
 
-bits_back : (r : List ℕ) → All (λ x. x < 3) r → rowBits (bitsText r) ≡ r
-unfolding bitsText rowBits
+bits_back : (r : List ℕ) → All (λ x. x < 3) r → row_bits (bits_text r) ≡ r
+unfolding bits_text row_bits
 bits_back [] h = refl
-bits_back (x ∷ r) h = ap₂ ◌∷◌ (bit-letter x h.0).0 (bits_back r h.1)
+bits_back (x ∷ r) h = ap₂ ◌∷◌ (bit_letter x h.0).0 (bits_back r h.1)
 
-pub row_back : (r : List ℕ) → All (λ x. x < 3) r → rowWord (rowText r) ≡ These r
-unfolding rowWord rowText same bitsText
+pub row_back : (r : List ℕ) → All (λ x. x < 3) r → row_word (row_text r) ≡ These r
+unfolding row_word row_text same bits_text
 row_back [] h = refl
 row_back (x ∷ r) h =
-    simp ((bit-letter x h.0).1, spelt-bits (x ∷ r) h, bits_back (x ∷ r) h, le-leb 1 (length (bitsText (x ∷ r))) (omega arith))
+    simp ((bit_letter x h.0).1, spelt_bits (x ∷ r) h, bits_back (x ∷ r) h, le-leb 1 (length (bits_text (x ∷ r))) (omega arith))
 
 -- ---- numbers
 
-digit-letter : (n : ℕ) → decimalValue (48 + n % 10) ≡ n % 10
-unfolding decimalValue
-digit-letter n = simp (le-ltb (48 + n % 10) 48 (omega arith), lt-ltb (48 + n % 10) 58 (omega arith)) (omega arith)
+digit_letter : (n : ℕ) → decimal_value (48 + n % 10) ≡ n % 10
+unfolding decimal_value
+digit_letter n = simp (le-ltb (48 + n % 10) 48 (omega arith), lt-ltb (48 + n % 10) 58 (omega arith)) (omega arith)
 
-joined_snoc : (v : ℕ) (p : List ℕ) (n : ℕ) → joined v (p ++ lastDigit n) ≡ 10 * joined v p + n % 10
+joined_snoc : (v : ℕ) (p : List ℕ) (n : ℕ) → joined v (p ++ last_digit n) ≡ 10 * joined v p + n % 10
 unfolding joined
-joined_snoc v [] n = rw (digit-letter n) (omega arith)
-joined_snoc v (c ∷ p) n = joined_snoc (10 * v + decimalValue c % 10) p n
+joined_snoc v [] n = rw (digit_letter n) (omega arith)
+joined_snoc v (c ∷ p) n = joined_snoc (10 * v + decimal_value c % 10) p n
 
-joined-one : (n : ℕ) → n < 10 → joined 0 (lastDigit n) ≡ n
+joined_one : (n : ℕ) → n < 10 → joined 0 (last_digit n) ≡ n
 unfolding joined
-joined-one n h = rw (digit-letter n) (omega arith)
+joined_one n h = rw (digit_letter n) (omega arith)
 
-joined-digits : (f n : ℕ) → n ≤ f → joined 0 (digits f n) ≡ n
+joined_digits : (f n : ℕ) → n ≤ f → joined 0 (digits f n) ≡ n
 unfolding digits
-joined-digits zero n h = joined-one n (omega arith)
-joined-digits (suc f) n h = go (ltb n 10) refl (λ (k : n / 10 ≤ f). joined-digits f (n / 10) k)
+joined_digits zero n h = joined_one n (omega arith)
+joined_digits (suc f) n h = go (ltb n 10) refl (λ (k : n / 10 ≤ f). joined_digits f (n / 10) k)
   where
     go : (b : Bool) → ltb n 10 ≡ b → (n / 10 ≤ f → joined 0 (digits f (n / 10)) ≡ n / 10)
-        → joined 0 (cond b (lastDigit n) (digits f (n / 10) ++ lastDigit n)) ≡ n
-    go true t ih = joined-one n (ltb-true n 10 t)
+        → joined 0 (cond b (last_digit n) (digits f (n / 10) ++ last_digit n)) ≡ n
+    go true t ih = joined_one n (ltb-true n 10 t)
     go false t ih =
         let l : 10 ≤ n = ltb-false n 10 t in
         joined_snoc 0 (digits f (n / 10)) n ∙ omega (arith, ih (omega arith))
 
-spelt-snoc : (p : List ℕ) (n : ℕ) → spelt Decimal p ≡ true → spelt Decimal (p ++ lastDigit n) ≡ true
+spelt_snoc : (p : List ℕ) (n : ℕ) → spelt Decimal p ≡ true → spelt Decimal (p ++ last_digit n) ≡ true
 unfolding spelt
-spelt-snoc [] n h = simp (digit-letter n, lt-ltb (n % 10) 16 (omega arith))
-spelt-snoc (c ∷ p) n h = go (ltb (decimalValue c) 16) h (λ (k : spelt Decimal p ≡ true). spelt-snoc p n k)
+spelt_snoc [] n h = simp (digit_letter n, lt-ltb (n % 10) 16 (omega arith))
+spelt_snoc (c ∷ p) n h = go (ltb (decimal_value c) 16) h (λ (k : spelt Decimal p ≡ true). spelt_snoc p n k)
   where
-    go : (b : Bool) → cond b (spelt Decimal p) false ≡ true → (spelt Decimal p ≡ true → spelt Decimal (p ++ lastDigit n) ≡ true)
-        → cond b (spelt Decimal (p ++ lastDigit n)) false ≡ true
+    go : (b : Bool) → cond b (spelt Decimal p) false ≡ true → (spelt Decimal p ≡ true → spelt Decimal (p ++ last_digit n) ≡ true)
+        → cond b (spelt Decimal (p ++ last_digit n)) false ≡ true
     go true k ih = ih k
     go false k ih = k
 
-spelt-digits : (f n : ℕ) → spelt Decimal (digits f n) ≡ true
+spelt_digits : (f n : ℕ) → spelt Decimal (digits f n) ≡ true
 unfolding digits spelt
-spelt-digits zero n = spelt-snoc [] n refl
-spelt-digits (suc f) n = go (ltb n 10) (spelt-digits f (n / 10))
+spelt_digits zero n = spelt_snoc [] n refl
+spelt_digits (suc f) n = go (ltb n 10) (spelt_digits f (n / 10))
   where
-    go : (b : Bool) → spelt Decimal (digits f (n / 10)) ≡ true → spelt Decimal (cond b (lastDigit n) (digits f (n / 10) ++ lastDigit n)) ≡ true
-    go true ih = spelt-snoc [] n refl
-    go false ih = spelt-snoc (digits f (n / 10)) n ih
+    go : (b : Bool) → spelt Decimal (digits f (n / 10)) ≡ true → spelt Decimal (cond b (last_digit n) (digits f (n / 10) ++ last_digit n)) ≡ true
+    go true ih = spelt_snoc [] n refl
+    go false ih = spelt_snoc (digits f (n / 10)) n ih
 
-few-digits : (k f n : ℕ) → n < 10 ^ suc k → (1 ≤ length (digits f n)) × (length (digits f n) ≤ suc k)
+few_digits : (k f n : ℕ) → n < 10 ^ suc k → (1 ≤ length (digits f n)) × (length (digits f n) ≤ suc k)
 unfolding digits
-few-digits k zero n h = (omega arith, omega arith)
-few-digits k (suc f) n h = go (ltb n 10) refl k h (λ (j : ℕ) (l : n / 10 < 10 ^ suc j). few-digits j f (n / 10) l)
+few_digits k zero n h = (omega arith, omega arith)
+few_digits k (suc f) n h = go (ltb n 10) refl k h (λ (j : ℕ) (l : n / 10 < 10 ^ suc j). few_digits j f (n / 10) l)
   where
     go : (b : Bool) → ltb n 10 ≡ b → (k : ℕ) → n < 10 ^ suc k
         → ((j : ℕ) → n / 10 < 10 ^ suc j → (1 ≤ length (digits f (n / 10))) × (length (digits f (n / 10)) ≤ suc j))
-        → (1 ≤ length (cond b (lastDigit n) (digits f (n / 10) ++ lastDigit n)))
-        × (length (cond b (lastDigit n) (digits f (n / 10) ++ lastDigit n)) ≤ suc k)
+        → (1 ≤ length (cond b (last_digit n) (digits f (n / 10) ++ last_digit n)))
+        × (length (cond b (last_digit n) (digits f (n / 10) ++ last_digit n)) ≤ suc k)
     go true t k l ih = (omega arith, omega arith)
     go false t zero l ih = absurd (omega (arith, ltb-false n 10 t))
     go false t (suc j) l ih =
         let m : n < 10 ^ suc j * 10 = rw pow-suc at l in
         let r : (1 ≤ length (digits f (n / 10))) × (length (digits f (n / 10)) ≤ suc j) = ih j (omega arith) in
-        let e : length (digits f (n / 10) ++ lastDigit n) ≡ length (digits f (n / 10)) + 1 = simp length-append in
+        let e : length (digits f (n / 10) ++ last_digit n) ≡ length (digits f (n / 10)) + 1 = simp length-append in
         (omega arith, omega arith)
 
-pub number-back : (k n : ℕ) → n < 10 ^ suc k → numberWord (suc k) (decimalText n) ≡ Value n
-unfolding numberWord decimalText
-number-back k n h =
-    let l : (1 ≤ length (digits n n)) × (length (digits n n) ≤ suc k) = few-digits k n n h in
+pub number_back : (k n : ℕ) → n < 10 ^ suc k → number_word (suc k) (decimal_text n) ≡ Value n
+unfolding number_word decimal_text
+number_back k n h =
+    let l : (1 ≤ length (digits n n)) × (length (digits n n) ≤ suc k) = few_digits k n n h in
     simp (
       le-leb 1 (length (digits n n)) l.0,
       le-leb (length (digits n n)) (suc k) l.1,
-      spelt-digits n n,
-      joined-digits n n (omega arith),
+      spelt_digits n n,
+      joined_digits n n (omega arith),
     )

@@ -11,8 +11,8 @@ use Rattle.bench_values.specs.declared.Number.TheVariants.{Value, NotANumber}
 -- ---- letters: what each stands for, 16 where it stands for nothing
 
 -- `0` to `9`, `A` to `F`, `a` to `f`
-unfoldable pub hexValue : ℕ → ℕ
-hexValue c =
+unfoldable pub hex_value : ℕ → ℕ
+hex_value c =
     cond (ltb c 48) 16
     (cond (ltb c 58) (c - 48)
     (cond (ltb c 65) 16
@@ -21,17 +21,17 @@ hexValue c =
     (cond (ltb c 103) (c - 87) 16)))))
 
 -- `0`, `1`, and `x` for a collided bit, which is written 2
-unfoldable pub bitValue : ℕ → ℕ
-bitValue c = cond (eqb c 48) 0 (cond (eqb c 49) 1 (cond (eqb c 120) 2 16))
+unfoldable pub bit_value : ℕ → ℕ
+bit_value c = cond (eqb c 48) 0 (cond (eqb c 49) 1 (cond (eqb c 120) 2 16))
 
 -- `0` to `9`
-unfoldable pub decimalValue : ℕ → ℕ
-decimalValue c = cond (ltb c 48) 16 (cond (ltb c 58) (c - 48) 16)
+unfoldable pub decimal_value : ℕ → ℕ
+decimal_value c = cond (ltb c 48) 16 (cond (ltb c 58) (c - 48) 16)
 
 abbrev pub value_of : Alphabet → ℕ → ℕ
-value_of Hex c = hexValue c
-value_of Bits c = bitValue c
-value_of Decimal c = decimalValue c
+value_of Hex c = hex_value c
+value_of Bits c = bit_value c
+value_of Decimal c = decimal_value c
 
 -- every letter of a word stands for something
 unfoldable pub spelt : Alphabet → List ℕ → Bool
@@ -46,54 +46,54 @@ pub data Meaning : Type 0 where
   Nothing : Meaning
 
 -- `-`, for no bytes and for the empty row
-abbrev pub isDash : List ℕ → Bool
-isDash w = same w (45 ∷ [])
+abbrev pub is_dash : List ℕ → Bool
+is_dash w = same w (45 ∷ [])
 
-abbrev pub hexPair : ℕ → ℕ → ℕ
-hexPair a b = 16 * (hexValue a % 16) + hexValue b % 16
+abbrev pub hex_pair : ℕ → ℕ → ℕ
+hex_pair a b = 16 * (hex_value a % 16) + hex_value b % 16
 
 -- two letters are a byte
-unfoldable pub hexBytes : List ℕ → List ℕ
-hexBytes [] = []
-hexBytes (a ∷ []) = []
-hexBytes (a ∷ b ∷ w) = hexPair a b ∷ hexBytes w
+unfoldable pub hex_bytes : List ℕ → List ℕ
+hex_bytes [] = []
+hex_bytes (a ∷ []) = []
+hex_bytes (a ∷ b ∷ w) = hex_pair a b ∷ hex_bytes w
 
 -- an even number of digits, at least two
-unfoldable pub hexWord : List ℕ → Meaning
-hexWord w =
-    cond (isDash w) (These [])
-    (cond (leb 2 (length w) && eqb (length w % 2) 0 && spelt Hex w) (These (hexBytes w)) Nothing)
+unfoldable pub hex_word : List ℕ → Meaning
+hex_word w =
+    cond (is_dash w) (These [])
+    (cond (leb 2 (length w) && eqb (length w % 2) 0 && spelt Hex w) (These (hex_bytes w)) Nothing)
 
 -- a letter is a bit
-unfoldable pub rowBits : List ℕ → List ℕ
-rowBits [] = []
-rowBits (c ∷ w) = bitValue c ∷ rowBits w
+unfoldable pub row_bits : List ℕ → List ℕ
+row_bits [] = []
+row_bits (c ∷ w) = bit_value c ∷ row_bits w
 
-unfoldable pub rowWord : List ℕ → Meaning
-rowWord w = cond (isDash w) (These []) (cond (leb 1 (length w) && spelt Bits w) (These (rowBits w)) Nothing)
+unfoldable pub row_word : List ℕ → Meaning
+row_word w = cond (is_dash w) (These []) (cond (leb 1 (length w) && spelt Bits w) (These (row_bits w)) Nothing)
 
 -- ---- a word read into lent memory: how many elements were written at its front; or why not, and it is unchanged
 
-abbrev pub readAnswer : ℕ → Meaning → ReadWord
-readAnswer room (These l) = cond (ltb room (length l)) TooLong (Count (length l))
-readAnswer room Nothing = NotRead
+abbrev pub read_answer : ℕ → Meaning → ReadWord
+read_answer room (These l) = cond (ltb room (length l)) TooLong (Count (length l))
+read_answer room Nothing = NotRead
 
 abbrev pub meant : Meaning → List ℕ
 meant (These l) = l
 meant Nothing = []
 
-abbrev pub readAfter : ReadWord → Meaning → List ℕ → List ℕ
-readAfter (Count n) m out = overlay out 0 (meant m)
-readAfter TooLong m out = out
-readAfter NotRead m out = out
+abbrev pub read_after : ReadWord → Meaning → List ℕ → List ℕ
+read_after (Count n) m out = overlay out 0 (meant m)
+read_after TooLong m out = out
+read_after NotRead m out = out
 
 -- ---- numbers: one to five digits
 
 -- the number that v and then the digits of w make
 unfoldable pub joined : ℕ → List ℕ → ℕ
 joined v [] = v
-joined v (c ∷ w) = joined (10 * v + decimalValue c % 10) w
+joined v (c ∷ w) = joined (10 * v + decimal_value c % 10) w
 
 -- a number of one to k digits
-unfoldable pub numberWord : ℕ → List ℕ → Number
-numberWord k w = cond (leb 1 (length w) && leb (length w) k && spelt Decimal w) (Value (joined 0 w)) NotANumber
+unfoldable pub number_word : ℕ → List ℕ → Number
+number_word k w = cond (leb 1 (length w) && leb (length w) k && spelt Decimal w) (Value (joined 0 w)) NotANumber

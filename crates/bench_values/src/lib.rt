@@ -1,6 +1,6 @@
 // The script language's words as values: bytes, rows and numbers.
 ghost use Rattle.std.specs.Prelude.{◌≡◌, length};
-ghost use Rattle.bench_values.specs.Values.{hexWord, rowWord, readAnswer, readAfter, numberWord};
+ghost use Rattle.bench_values.specs.Values.{hex_word, row_word, read_answer, read_after, number_word};
 
 // The parts that the public functions are made of.
 mod within;
@@ -29,8 +29,8 @@ pub enum Number {
 
 // Bytes: an even number of hexadecimal digits, at least two; `-` for none.
 pub fn read_hex(word: &[u8], out: &mut [u8]) -> ReadWord
-    ensures value { result ≡ readAnswer (length out.old) (hexWord word.now) }
-    ensures out_after { out.new ≡ readAfter result (hexWord word.now) out.old }
+    ensures value { result ≡ read_answer (length out.old) (hex_word word.now) }
+    ensures out_after { out.new ≡ read_after result (hex_word word.now) out.old }
 {
     if within::is_dash(word) {
         return ReadWord::Count(0);
@@ -48,8 +48,8 @@ pub fn read_hex(word: &[u8], out: &mut [u8]) -> ReadWord
 
 // A row: `0`, `1`, and `x` for a collided bit, which becomes 2; `-` for the empty one.
 pub fn read_row(word: &[u8], out: &mut [u8]) -> ReadWord
-    ensures value { result ≡ readAnswer (length out.old) (rowWord word.now) }
-    ensures out_after { out.new ≡ readAfter result (rowWord word.now) out.old }
+    ensures value { result ≡ read_answer (length out.old) (row_word word.now) }
+    ensures out_after { out.new ≡ read_after result (row_word word.now) out.old }
 {
     if within::is_dash(word) {
         return ReadWord::Count(0);
@@ -67,7 +67,7 @@ pub fn read_row(word: &[u8], out: &mut [u8]) -> ReadWord
 
 // A number of one to five decimal digits.
 pub fn read_number(word: &[u8]) -> Number
-    ensures { result ≡ numberWord 5 word.now }
+    ensures { result ≡ number_word 5 word.now }
 {
     if word.len() < 1 {
         return Number::NotANumber;
@@ -83,7 +83,7 @@ pub fn read_number(word: &[u8]) -> Number
 
 // .. of one to ten, for a tick.
 pub fn read_long_number(word: &[u8]) -> Number
-    ensures { result ≡ numberWord 10 word.now }
+    ensures { result ≡ number_word 10 word.now }
 {
     if word.len() < 1 {
         return Number::NotANumber;

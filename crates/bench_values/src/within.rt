@@ -2,12 +2,12 @@
 ghost use Rattle.std.specs.Prelude.{◌≡◌, ◌&&◌, ◌+◌, ◌*◌, ◌/◌, ◌%◌, ◌≤◌, length, eqb, leb};
 ghost use Rattle.rows.specs.Rows.{overlay};
 ghost use Rattle.bench_values.specs.declared.Alphabet.TheVariants.{Hex, Bits};
-ghost use Rattle.bench_values.specs.Values.{hexValue, bitValue, decimalValue, value_of, spelt, isDash, hexPair, hexBytes, rowBits, joined};
+ghost use Rattle.bench_values.specs.Values.{hex_value, bit_value, decimal_value, value_of, spelt, is_dash, hex_pair, hex_bytes, row_bits, joined};
 
 use crate::Alphabet;
 
 pub fn hex_value(c: u8) -> u8
-    ensures { result ≡ hexValue c }
+    ensures { result ≡ hex_value c }
 {
     if c < 48 {
         return 16;
@@ -28,7 +28,7 @@ pub fn hex_value(c: u8) -> u8
 }
 
 pub fn bit_value(c: u8) -> u8
-    ensures { result ≡ bitValue c }
+    ensures { result ≡ bit_value c }
 {
     if c == 48 {
         return 0;
@@ -40,7 +40,7 @@ pub fn bit_value(c: u8) -> u8
 }
 
 pub fn decimal_value(c: u8) -> u8
-    ensures { result ≡ decimalValue c }
+    ensures { result ≡ decimal_value c }
 {
     if c < 48 {
         return 16;
@@ -73,7 +73,7 @@ pub fn is_spelt(a: Alphabet, word: &[u8]) -> bool
 
 // Is the word `-`?
 pub fn is_dash(word: &[u8]) -> bool
-    ensures { result ≡ isDash word.now }
+    ensures { result ≡ is_dash word.now }
 {
     rows::is_same(word, &[45])
 }
@@ -103,7 +103,7 @@ pub fn is_row(word: &[u8]) -> bool
 
 // The byte that two digits make.
 pub fn hex_pair(a: u8, b: u8) -> u8
-    ensures { result ≡ hexPair a b }
+    ensures { result ≡ hex_pair a b }
 {
     16 * (hex_value(a) % 16) + hex_value(b) % 16
 }
@@ -111,7 +111,7 @@ pub fn hex_pair(a: u8, b: u8) -> u8
 // Writes the bytes of a word at the front of out.
 pub fn write_hex(word: &[u8], out: &mut [u8])
     requires { length word.now / 2 ≤ length out.old }
-    ensures { out.new ≡ overlay out.old 0 (hexBytes word.now) }
+    ensures { out.new ≡ overlay out.old 0 (hex_bytes word.now) }
 {
     let n = word.len() / 2;
     for i in 0..n {
@@ -122,7 +122,7 @@ pub fn write_hex(word: &[u8], out: &mut [u8])
 // Writes the bits of a word at the front of out.
 pub fn write_row(word: &[u8], out: &mut [u8])
     requires { length word.now ≤ length out.old }
-    ensures { out.new ≡ overlay out.old 0 (rowBits word.now) }
+    ensures { out.new ≡ overlay out.old 0 (row_bits word.now) }
 {
     for i in 0..word.len() {
         out[i] = bit_value(word[i]);

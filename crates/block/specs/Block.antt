@@ -14,28 +14,28 @@ bit false = 0
 bit true = 1
 
 -- "First byte of a block: I 02/03, chained 12/13; R(ACK) A2/A3; R(NAK) B2/B3; DESELECT C2; WTX F2"; the others are no blocks
-abbrev pub firstByte : Block → ℕ
-firstByte (I n chained) = 0x02 + bit n + 0x10 * bit chained
-firstByte (Ack n) = 0xA2 + bit n
-firstByte (Nak n) = 0xB2 + bit n
-firstByte Deselect = 0xC2
-firstByte (Wtx v) = 0xF2
-firstByte Unknown = 0
-firstByte Nothing = 0
+abbrev pub first_byte : Block → ℕ
+first_byte (I n chained) = 0x02 + bit n + 0x10 * bit chained
+first_byte (Ack n) = 0xA2 + bit n
+first_byte (Nak n) = 0xB2 + bit n
+first_byte Deselect = 0xC2
+first_byte (Wtx v) = 0xF2
+first_byte Unknown = 0
+first_byte Nothing = 0
 
 -- a block's bytes, p the payload of an I; none are silence
-abbrev pub blockBytes : Block → List ℕ → List ℕ
-blockBytes (I n chained) p = firstByte (I n chained) ∷ p
-blockBytes (Ack n) p = firstByte (Ack n) ∷ []
-blockBytes (Nak n) p = firstByte (Nak n) ∷ []
-blockBytes Deselect p = firstByte Deselect ∷ []
-blockBytes (Wtx v) p = firstByte (Wtx v) ∷ v ∷ []
-blockBytes Unknown p = []
-blockBytes Nothing p = []
+abbrev pub block_bytes : Block → List ℕ → List ℕ
+block_bytes (I n chained) p = first_byte (I n chained) ∷ p
+block_bytes (Ack n) p = first_byte (Ack n) ∷ []
+block_bytes (Nak n) p = first_byte (Nak n) ∷ []
+block_bytes Deselect p = first_byte Deselect ∷ []
+block_bytes (Wtx v) p = first_byte (Wtx v) ∷ v ∷ []
+block_bytes Unknown p = []
+block_bytes Nothing p = []
 
 -- those bytes at the front of 256, zeros behind
-unfoldable pub bytesIn : List ℕ → BlockBytes
-bytesIn l = record { bytes = overlay (replicate 256 0) 0 l; count = length l }
+unfoldable pub bytes_in : List ℕ → BlockBytes
+bytes_in l = record { bytes = overlay (replicate 256 0) 0 l; count = length l }
 
 -- the kind of block that a first byte begins; the value of a WTX is not read yet
 unfoldable pub kind : ℕ → Block
@@ -60,19 +60,19 @@ block_of [] = Nothing
 block_of (f ∷ p) = whole (kind f) (eqb (length p) 0) (eqb (length p) 1) (get_or p 0 0)
 
 -- what an end makes of a frame: under blocks 7, 2, 3, 4 and 8 are damage or silence
-abbrev pub heardBlock : Verdict → Block
-heardBlock (Good l) = block_of l
-heardBlock (Fault e) = Nothing
+abbrev pub heard_block : Verdict → Block
+heard_block (Good l) = block_of l
+heard_block (Fault e) = Nothing
 
 -- an I, the one block that carries a part of a message
-abbrev pub isI : Block → Bool
-isI (I n chained) = true
-isI (Ack n) = false
-isI (Nak n) = false
-isI Deselect = false
-isI (Wtx v) = false
-isI Unknown = false
-isI Nothing = false
+abbrev pub is_i : Block → Bool
+is_i (I n chained) = true
+is_i (Ack n) = false
+is_i (Nak n) = false
+is_i Deselect = false
+is_i (Wtx v) = false
+is_i Unknown = false
+is_i Nothing = false
 
 -- the bytes behind a frame's first
 abbrev pub behind : List ℕ → List ℕ
@@ -90,5 +90,5 @@ verdict i [] = Fault Silence
 verdict i (f ∷ p) = cond (leb (3 + length p) (size i)) (Good (f ∷ p)) (Fault Length)
 
 -- WTX "with 1 to 59"
-unfoldable pub wtxOk : ℕ → Bool
-wtxOk v = leb 1 v && leb v 59
+unfoldable pub wtx_ok : ℕ → Bool
+wtx_ok v = leb 1 v && leb v 59

@@ -6,37 +6,37 @@ use Rattle.rows.specs.Rows.{overlay}
 use Rattle.frame.specs.Frame.{Good}
 use Rattle.block.specs.declared.Block.{Block}
 use Rattle.block.specs.declared.Block.TheVariants.{I, Ack, Nak, Deselect, Wtx, Unknown, Nothing}
-use Rattle.block.specs.Block.{kind, whole, block_of, heardBlock, blockBytes, bytesIn}
+use Rattle.block.specs.Block.{kind, whole, block_of, heard_block, block_bytes, bytes_in}
 
-abbrev isUnknown : Block → Bool
-isUnknown Unknown = true
-isUnknown (I n chained) = false
-isUnknown (Ack n) = false
-isUnknown (Nak n) = false
-isUnknown Deselect = false
-isUnknown (Wtx v) = false
-isUnknown Nothing = false
+abbrev is_unknown : Block → Bool
+is_unknown Unknown = true
+is_unknown (I n chained) = false
+is_unknown (Ack n) = false
+is_unknown (Nak n) = false
+is_unknown Deselect = false
+is_unknown (Wtx v) = false
+is_unknown Nothing = false
 
 -- what an end sends the other reads as the same block
-pub read_back : (b : Block) (p : List ℕ) → heardBlock (Good (blockBytes b p)) ≡ cond (isUnknown b) Nothing b
+pub read_back_law : (b : Block) (p : List ℕ) → heard_block (Good (block_bytes b p)) ≡ cond (is_unknown b) Nothing b
 unfolding kind
-read_back (I true true) p = refl
-read_back (I true false) p = refl
-read_back (I false true) p = refl
-read_back (I false false) p = refl
-read_back (Ack true) p = refl
-read_back (Ack false) p = refl
-read_back (Nak true) p = refl
-read_back (Nak false) p = refl
-read_back Deselect p = refl
-read_back (Wtx v) p = refl
-read_back Unknown p = refl
-read_back Nothing p = refl
+read_back_law (I true true) p = refl
+read_back_law (I true false) p = refl
+read_back_law (I false true) p = refl
+read_back_law (I false false) p = refl
+read_back_law (Ack true) p = refl
+read_back_law (Ack false) p = refl
+read_back_law (Nak true) p = refl
+read_back_law (Nak false) p = refl
+read_back_law Deselect p = refl
+read_back_law (Wtx v) p = refl
+read_back_law Unknown p = refl
+read_back_law Nothing p = refl
 
 -- every other first byte begins no block
-pub kind-other : (f : ℕ) → (f ≡ 0x02 → ⊥) → (f ≡ 0x03 → ⊥) → (f ≡ 0x12 → ⊥) → (f ≡ 0x13 → ⊥) → (f ≡ 0xA2 → ⊥) → (f ≡ 0xA3 → ⊥) → (f ≡ 0xB2 → ⊥) → (f ≡ 0xB3 → ⊥) → (f ≡ 0xC2 → ⊥) → (f ≡ 0xF2 → ⊥) → kind f ≡ Unknown
+pub kind_other : (f : ℕ) → (f ≡ 0x02 → ⊥) → (f ≡ 0x03 → ⊥) → (f ≡ 0x12 → ⊥) → (f ≡ 0x13 → ⊥) → (f ≡ 0xA2 → ⊥) → (f ≡ 0xA3 → ⊥) → (f ≡ 0xB2 → ⊥) → (f ≡ 0xB3 → ⊥) → (f ≡ 0xC2 → ⊥) → (f ≡ 0xF2 → ⊥) → kind f ≡ Unknown
 unfolding kind
-kind-other f a b c d e g h i j k =
+kind_other f a b c d e g h i j k =
     rw (ne_eqb f 0x02 a, ne_eqb f 0x03 b, ne_eqb f 0x12 c, ne_eqb f 0x13 d, ne_eqb f 0xA2 e, ne_eqb f 0xA3 g, ne_eqb f 0xB2 h, ne_eqb f 0xB3 i, ne_eqb f 0xC2 j, ne_eqb f 0xF2 k)
 
 -- the block of bytes by how many they are
@@ -62,6 +62,6 @@ block_more (f ∷ x ∷ p) h = rw (ne_eqb (length (x ∷ p)) 0 (λ e. omega arit
         go false e = ne_eqb (suc n) 2 (λ k. eqb-false n 1 e (omega arith))
 
 -- a payload behind a first byte
-pub bytes-behind : (f : ℕ) (p : List ℕ) → record { bytes = f ∷ (overlay (replicate 255 0) 0 p ++ []); count = length p + 1 } ≡ bytesIn (f ∷ p)
-unfolding overlay bytesIn
-bytes-behind f p = rw (append-nil, zero-add, zero-add, add-one)
+pub bytes_behind : (f : ℕ) (p : List ℕ) → record { bytes = f ∷ (overlay (replicate 255 0) 0 p ++ []); count = length p + 1 } ≡ bytes_in (f ∷ p)
+unfolding overlay bytes_in
+bytes_behind f p = rw (append-nil, zero-add, zero-add, add-one)

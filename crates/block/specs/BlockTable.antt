@@ -5,8 +5,8 @@ use Rattle.frame.specs.Frame.{Good, Fault}
 use Rattle.selection.specs.Selection.{size}
 use Rattle.block.specs.declared.Block.{Block}
 use Rattle.block.specs.declared.Block.TheVariants.{I, Ack, Nak, Deselect, Wtx, Unknown, Nothing}
-use Rattle.block.specs.Block.{firstByte, blockBytes, kind, block_of, verdict, wtxOk}
-use Rattle.block.specs.Cut.{payloadMax, follows, part, fewest, fits, cutFrom, cut}
+use Rattle.block.specs.Block.{first_byte, block_bytes, kind, block_of, verdict, wtx_ok}
+use Rattle.block.specs.Cut.{payload_max, follows, part, fewest, fits, cut_from, cut}
 
 -- the ten kinds of a block, in document 01's order, and their first bytes: "I 02/03, chained 12/13; R(ACK) A2/A3; R(NAK) B2/B3; DESELECT C2;
 -- WTX F2". "The last bit of I and R is the block number"
@@ -18,69 +18,69 @@ abbrev pub firsts : List ℕ
 firsts = 0x02 ∷ 0x03 ∷ 0x12 ∷ 0x13 ∷ 0xA2 ∷ 0xA3 ∷ 0xB2 ∷ 0xB3 ∷ 0xC2 ∷ 0xF2 ∷ []
 
 pub record BlockTable : Type 0 where
-  pub written : map firstByte kinds ≡ firsts
+  pub written : map first_byte kinds ≡ firsts
   pub read : map kind firsts ≡ kinds
   -- the same with CID or NAD, an S block that is neither, and a byte that begins nothing
   pub others : map kind (0x0A ∷ 0x06 ∷ 0xAA ∷ 0xBA ∷ 0xCA ∷ 0xFA ∷ 0xD2 ∷ 0x00 ∷ [])
       ≡ Unknown ∷ Unknown ∷ Unknown ∷ Unknown ∷ Unknown ∷ Unknown ∷ Unknown ∷ Unknown ∷ []
   -- an I has any payload, also none
-  pub empty-i : block_of (blockBytes (I true false) []) ≡ I true false
-  pub some-i : block_of (blockBytes (I false true) (0xA2 ∷ 0xF2 ∷ [])) ≡ I false true
+  pub empty_i : block_of (block_bytes (I true false) []) ≡ I true false
+  pub some_i : block_of (block_bytes (I false true) (0xA2 ∷ 0xF2 ∷ [])) ≡ I false true
   -- R and DESELECT have none
-  pub ack-with : block_of (0xA2 ∷ 0x00 ∷ []) ≡ Unknown
-  pub nak-with : block_of (0xB3 ∷ 0x00 ∷ []) ≡ Unknown
-  pub deselect-with : block_of (0xC2 ∷ 0x00 ∷ []) ≡ Unknown
+  pub ack_with : block_of (0xA2 ∷ 0x00 ∷ []) ≡ Unknown
+  pub nak_with : block_of (0xB3 ∷ 0x00 ∷ []) ≡ Unknown
+  pub deselect_with : block_of (0xC2 ∷ 0x00 ∷ []) ≡ Unknown
   -- WTX has one byte, its value
-  pub wtx-none : block_of (0xF2 ∷ []) ≡ Unknown
-  pub wtx-one : block_of (0xF2 ∷ 59 ∷ []) ≡ Wtx 59
-  pub wtx-two : block_of (0xF2 ∷ 1 ∷ 1 ∷ []) ≡ Unknown
-  pub wtx-written : blockBytes (Wtx 59) [] ≡ 0xF2 ∷ 59 ∷ []
+  pub wtx_none : block_of (0xF2 ∷ []) ≡ Unknown
+  pub wtx_one : block_of (0xF2 ∷ 59 ∷ []) ≡ Wtx 59
+  pub wtx_two : block_of (0xF2 ∷ 1 ∷ 1 ∷ []) ≡ Unknown
+  pub wtx_written : block_bytes (Wtx 59) [] ≡ 0xF2 ∷ 59 ∷ []
   -- "WTX with 1 to 59"
-  pub wtx-values : map wtxOk (0 ∷ 1 ∷ 59 ∷ 60 ∷ []) ≡ false ∷ true ∷ true ∷ false ∷ []
+  pub wtx_values : map wtx_ok (0 ∷ 1 ∷ 59 ∷ 60 ∷ []) ≡ false ∷ true ∷ true ∷ false ∷ []
   -- "Sizes for index 0 to 8: 16, 24, 32, 40, 48, 64, 96, 128, 256; 9 to 15 read as 8"; "Payload is at most size - 3"
-  pub payloads : map payloadMax (0 ∷ 1 ∷ 2 ∷ 3 ∷ 4 ∷ 5 ∷ 6 ∷ 7 ∷ 8 ∷ 9 ∷ []) ≡ 13 ∷ 21 ∷ 29 ∷ 37 ∷ 45 ∷ 61 ∷ 93 ∷ 125 ∷ 253 ∷ 253 ∷ []
+  pub payloads : map payload_max (0 ∷ 1 ∷ 2 ∷ 3 ∷ 4 ∷ 5 ∷ 6 ∷ 7 ∷ 8 ∷ 9 ∷ []) ≡ 13 ∷ 21 ∷ 29 ∷ 37 ∷ 45 ∷ 61 ∷ 93 ∷ 125 ∷ 253 ∷ 253 ∷ []
   -- a frame of the size is taken, 13 bytes of payload at index 0; one byte more is 2, and no bytes are 7
-  pub just-taken : verdict 0 (0x02 ∷ 1 ∷ 2 ∷ 3 ∷ 4 ∷ 5 ∷ 6 ∷ 7 ∷ 8 ∷ 9 ∷ 10 ∷ 11 ∷ 12 ∷ 13 ∷ []) ≡ Good (0x02 ∷ 1 ∷ 2 ∷ 3 ∷ 4 ∷ 5 ∷ 6 ∷ 7 ∷ 8 ∷ 9 ∷ 10 ∷ 11 ∷ 12 ∷ 13 ∷ [])
+  pub just_taken : verdict 0 (0x02 ∷ 1 ∷ 2 ∷ 3 ∷ 4 ∷ 5 ∷ 6 ∷ 7 ∷ 8 ∷ 9 ∷ 10 ∷ 11 ∷ 12 ∷ 13 ∷ []) ≡ Good (0x02 ∷ 1 ∷ 2 ∷ 3 ∷ 4 ∷ 5 ∷ 6 ∷ 7 ∷ 8 ∷ 9 ∷ 10 ∷ 11 ∷ 12 ∷ 13 ∷ [])
   pub too_long : verdict 0 (0x02 ∷ 1 ∷ 2 ∷ 3 ∷ 4 ∷ 5 ∷ 6 ∷ 7 ∷ 8 ∷ 9 ∷ 10 ∷ 11 ∷ 12 ∷ 13 ∷ 14 ∷ []) ≡ Fault Length
   pub silent : verdict 0 [] ≡ Fault Silence
   -- "in the fewest blocks ..; the empty one is one empty block": 0, 13, 14 and 4,096 bytes at index 0, and 253, 254 at index 8
-  pub fewest-16 : map (fewest 0) (0 ∷ 13 ∷ 14 ∷ 4096 ∷ []) ≡ 1 ∷ 1 ∷ 2 ∷ 316 ∷ []
-  pub fewest-256 : map (fewest 8) (253 ∷ 254 ∷ 4096 ∷ []) ≡ 1 ∷ 2 ∷ 17 ∷ []
+  pub fewest_16 : map (fewest 0) (0 ∷ 13 ∷ 14 ∷ 4096 ∷ []) ≡ 1 ∷ 1 ∷ 2 ∷ 316 ∷ []
+  pub fewest_256 : map (fewest 8) (253 ∷ 254 ∷ 4096 ∷ []) ≡ 1 ∷ 2 ∷ 17 ∷ []
   -- the last block is not chained, also where it is full
-  pub last-full : map (follows 0 0) (0 ∷ 13 ∷ 14 ∷ []) ≡ false ∷ false ∷ true ∷ []
+  pub last_full : map (follows 0 0) (0 ∷ 13 ∷ 14 ∷ []) ≡ false ∷ false ∷ true ∷ []
   -- 14 bytes at index 0, the first block with number 0; and the empty message, with number 1
   pub two_blocks : cut 0 false (1 ∷ 2 ∷ 3 ∷ 4 ∷ 5 ∷ 6 ∷ 7 ∷ 8 ∷ 9 ∷ 10 ∷ 11 ∷ 12 ∷ 13 ∷ 14 ∷ [])
       ≡ (0x12 ∷ 1 ∷ 2 ∷ 3 ∷ 4 ∷ 5 ∷ 6 ∷ 7 ∷ 8 ∷ 9 ∷ 10 ∷ 11 ∷ 12 ∷ 13 ∷ []) ∷ (0x03 ∷ 14 ∷ []) ∷ []
-  pub one-empty : cut 0 true [] ≡ (0x03 ∷ []) ∷ []
+  pub one_empty : cut 0 true [] ≡ (0x03 ∷ []) ∷ []
   -- "over 4,096 bytes or over the buffer"
-  pub message-fits : map (λ n. fits n 5000) (4096 ∷ 4097 ∷ []) ≡ true ∷ false ∷ []
-  pub buffer-fits : map (λ n. fits n 20) (0 ∷ 20 ∷ 21 ∷ []) ≡ true ∷ true ∷ false ∷ []
+  pub message_fits : map (λ n. fits n 5000) (4096 ∷ 4097 ∷ []) ≡ true ∷ false ∷ []
+  pub buffer_fits : map (λ n. fits n 20) (0 ∷ 20 ∷ 21 ∷ []) ≡ true ∷ true ∷ false ∷ []
 
-pub block-table : BlockTable
-unfolding kind wtxOk size payloadMax fewest follows part fits cutFrom cut
-block-table = record {
+pub block_table : BlockTable
+unfolding kind wtx_ok size payload_max fewest follows part fits cut_from cut
+block_table = record {
   written = refl;
   read = refl;
   others = refl;
-  empty-i = refl;
-  some-i = refl;
-  ack-with = refl;
-  nak-with = refl;
-  deselect-with = refl;
-  wtx-none = refl;
-  wtx-one = refl;
-  wtx-two = refl;
-  wtx-written = refl;
-  wtx-values = refl;
+  empty_i = refl;
+  some_i = refl;
+  ack_with = refl;
+  nak_with = refl;
+  deselect_with = refl;
+  wtx_none = refl;
+  wtx_one = refl;
+  wtx_two = refl;
+  wtx_written = refl;
+  wtx_values = refl;
   payloads = refl;
-  just-taken = refl;
+  just_taken = refl;
   too_long = refl;
   silent = refl;
-  fewest-16 = refl;
-  fewest-256 = refl;
-  last-full = refl;
+  fewest_16 = refl;
+  fewest_256 = refl;
+  last_full = refl;
   two_blocks = refl;
-  one-empty = refl;
-  message-fits = refl;
-  buffer-fits = refl;
+  one_empty = refl;
+  message_fits = refl;
+  buffer_fits = refl;
 }

@@ -1,17 +1,17 @@
 -- Document 01, "Frames on the air" and "When the core declines": a block on the air, and what an end makes of a received row. The block
 -- protocol is defined on bytes and verdicts; these two join it to rows.
 use Rattle.std.specs.Prelude.{ℕ, cond, List, [], ◌∷◌}
-use Rattle.rows.specs.Rows.{isNil}
-use Rattle.crc.specs.Crc.{withCrc}
-use Rattle.frame.specs.Frame.{standard, Verdict, Fault, readCrc}
+use Rattle.rows.specs.Rows.{is_nil}
+use Rattle.crc.specs.Crc.{with_crc}
+use Rattle.frame.specs.Frame.{standard, Verdict, Fault, read_crc}
 use Rattle.selection.specs.Selection.{size}
 use Rattle.refusal.specs.declared.Refusal.TheVariants.{Silence}
 
 -- the row of a block's bytes, "CRC_A ends each"; no bytes are silence
 abbrev pub block_row : List ℕ → List ℕ
 block_row [] = []
-block_row (f ∷ p) = standard (withCrc (f ∷ p))
+block_row (f ∷ p) = standard (with_crc (f ∷ p))
 
 -- what an end of size index i makes of a row, "tested 7, 2, 8, 3, 4"; 2 is "not whole bytes with parity, under 3 bytes, or over" its size
-unfoldable pub heardRow : ℕ → List ℕ → Verdict
-heardRow i h = cond (isNil h) (Fault Silence) (readCrc 3 (size i) h)
+unfoldable pub heard_row : ℕ → List ℕ → Verdict
+heard_row i h = cond (is_nil h) (Fault Silence) (read_crc 3 (size i) h)

@@ -5,8 +5,8 @@ pub mod within;
 
 ghost use Rattle.std.specs.Prelude.{◌≡◌, cond, [], ◌∷◌, ◌+◌, ◌≤◌, length};
 ghost use Rattle.rows.specs.Rows.{overlay};
-ghost use Rattle.block.specs.Cut.{payloadMax, follows, part, partBytes, fits};
-ghost use Rattle.block.specs.Block.{firstByte, kind, whole, block_of, isI, blockBytes, bytesIn, wtxOk};
+ghost use Rattle.block.specs.Cut.{payload_max, follows, part, part_bytes, fits};
+ghost use Rattle.block.specs.Block.{first_byte, kind, whole, block_of, is_i, block_bytes, bytes_in, wtx_ok};
 
 use refusal::Refusal;
 
@@ -42,7 +42,7 @@ pub enum Told {
 
 // The one block that carries a part of a message.
 pub fn is_i(b: Block) -> bool
-    ensures { result ≡ isI b }
+    ensures { result ≡ is_i b }
 {
     match b {
         Block::I(_, _) => true,
@@ -57,7 +57,7 @@ pub fn is_i(b: Block) -> bool
 
 // The longest payload that goes to a receiver of a size index.
 pub fn payload_max(index: u8) -> usize
-    ensures { result ≡ payloadMax index }
+    ensures { result ≡ payload_max index }
 {
     selection::numbers::size_of(index) - 3
 }
@@ -75,7 +75,7 @@ pub fn has_more(index: u8, at: usize, len: usize) -> bool
 
 // How many bytes that I has as its payload.
 fn part_bytes(index: u8, at: usize, len: usize) -> usize
-    ensures { result ≡ partBytes index at len }
+    ensures { result ≡ part_bytes index at len }
 {
     let most = payload_max(index);
     if len <= at {
@@ -102,7 +102,7 @@ pub fn joins_in(joined: usize, bytes: usize, room: usize) -> bool
 
 // A value that WTX may have.
 pub fn wtx_ok(v: u8) -> bool
-    ensures { result ≡ wtxOk v }
+    ensures { result ≡ wtx_ok v }
 {
     if v < 1 {
         return false;
@@ -112,7 +112,7 @@ pub fn wtx_ok(v: u8) -> bool
 
 // The first byte of an I.
 fn first_of_i(n: bool, chained: bool) -> u8
-    ensures { result ≡ firstByte (Block.I n chained) }
+    ensures { result ≡ first_byte (Block.I n chained) }
 {
     if chained {
         return if n { 0x13 } else { 0x12 };
@@ -122,7 +122,7 @@ fn first_of_i(n: bool, chained: bool) -> u8
 
 // A block's first byte; 0 for what is no block.
 fn first_byte(b: Block) -> u8
-    ensures { result ≡ firstByte b }
+    ensures { result ≡ first_byte b }
 {
     match b {
         Block::I(n, chained) => first_of_i(n, chained),
@@ -200,7 +200,7 @@ pub fn join(buffer: &mut [u8], joined: usize, payload: &[u8]) -> bool
 }
 
 fn no_bytes() -> BlockBytes
-    ensures { result ≡ bytesIn [] }
+    ensures { result ≡ bytes_in [] }
 {
     let bytes = [0u8; 256];
     BlockBytes {
@@ -210,7 +210,7 @@ fn no_bytes() -> BlockBytes
 }
 
 fn one_byte(first: u8) -> BlockBytes
-    ensures { result ≡ bytesIn (first ∷ []) }
+    ensures { result ≡ bytes_in (first ∷ []) }
 {
     let mut bytes = [0u8; 256];
     bytes[0] = first;
@@ -221,7 +221,7 @@ fn one_byte(first: u8) -> BlockBytes
 }
 
 fn two_bytes(first: u8, second: u8) -> BlockBytes
-    ensures { result ≡ bytesIn (first ∷ second ∷ []) }
+    ensures { result ≡ bytes_in (first ∷ second ∷ []) }
 {
     let mut bytes = [0u8; 256];
     bytes[0] = first;
@@ -234,8 +234,8 @@ fn two_bytes(first: u8, second: u8) -> BlockBytes
 
 // Writes the payload of the I of a message that begins at place at to the front of a row that has room for it.
 fn payload_in(out: &mut [u8], index: u8, at: usize, message: &[u8]) -> usize
-    requires { payloadMax index ≤ length out.old }
-    ensures value { result ≡ partBytes index at (length message.now) }
+    requires { payload_max index ≤ length out.old }
+    ensures value { result ≡ part_bytes index at (length message.now) }
     ensures out_after { out.new ≡ overlay out.old 0 (part index at message.now) }
 {
     let n = part_bytes(index, at, message.len());
@@ -248,7 +248,7 @@ fn payload_in(out: &mut [u8], index: u8, at: usize, message: &[u8]) -> usize
 
 // The bytes of that I.
 fn i_bytes(first: u8, index: u8, at: usize, message: &[u8]) -> BlockBytes
-    ensures { result ≡ bytesIn (first ∷ part index at message.now) }
+    ensures { result ≡ bytes_in (first ∷ part index at message.now) }
 {
     let mut bytes = [0u8; 256];
     bytes[0] = first;
@@ -261,7 +261,7 @@ fn i_bytes(first: u8, index: u8, at: usize, message: &[u8]) -> BlockBytes
 
 // The bytes of a block; an I's payload is the part of the message that begins at place at, for a receiver of a size index.
 pub fn block_bytes(b: Block, index: u8, at: usize, message: &[u8]) -> BlockBytes
-    ensures { result ≡ bytesIn (blockBytes b (part index at message.now)) }
+    ensures { result ≡ bytes_in (block_bytes b (part index at message.now)) }
 {
     let first = first_byte(b);
     match b {

@@ -1,9 +1,9 @@
 // A received row as the bytes of a good frame, and a block's bytes as the row that is sent. Called by our own crates only, which lend the room.
 ghost use Rattle.std.specs.Prelude.{◌≡◌, ◌≤◌, length, take};
-ghost use Rattle.limits.specs.Limits.{rowRoom};
+ghost use Rattle.limits.specs.Limits.{row_room};
 ghost use Rattle.rows.specs.Rows.{overlay};
-ghost use Rattle.frame.specs.Calls.{goodBytes};
-ghost use Rattle.block.specs.Row.{block_row, heardRow};
+ghost use Rattle.frame.specs.Calls.{good_bytes};
+ghost use Rattle.block.specs.Row.{block_row, heard_row};
 
 use crate::BlockBytes;
 use frame::Received;
@@ -11,8 +11,8 @@ use frame::Received;
 // Reads a row to the front of lent bytes as an end of this size index takes it; silence and a damaged frame have no bytes.
 pub fn read_row(own: u8, row: &[u8], out: &mut [u8]) -> usize
     requires { 256 ≤ length out.old }
-    ensures value { result ≡ length (goodBytes (heardRow own row.now)) }
-    ensures out_after { out.new ≡ overlay out.old 0 (goodBytes (heardRow own row.now)) }
+    ensures value { result ≡ length (good_bytes (heard_row own row.now)) }
+    ensures out_after { out.new ≡ overlay out.old 0 (good_bytes (heard_row own row.now)) }
 {
     let most = selection::numbers::size_of(own);
     let got = frame::within::read_crc_within(row, most, out);
@@ -24,7 +24,7 @@ pub fn read_row(own: u8, row: &[u8], out: &mut [u8]) -> usize
 
 // Writes the row of a block's bytes to the front of a lent row that has room for the longest frame.
 pub fn put_block(b: BlockBytes, out: &mut [u8]) -> usize
-    requires { (b.count ≤ 254) × (rowRoom ≤ length out.old) }
+    requires { (b.count ≤ 254) × (row_room ≤ length out.old) }
     ensures value { result ≡ length (block_row (take b.count b.bytes)) }
     ensures out_after { out.new ≡ overlay out.old 0 (block_row (take b.count b.bytes)) }
 {

@@ -5,7 +5,7 @@ use Rattle.std.specs.Prelude.{ℕ, suc, ◌-◌, ◌/◌, Bool, true, false, con
 use Rattle.rows.specs.Rows.{same}
 use Rattle.parity.specs.Bits.{unbits}
 use Rattle.uid.specs.Uid.{place, levels}
-use Rattle.selection.specs.Selection.{reqa, wupa, hlta, anticollision, others, select, sakFrame, atqa, rats, ats, atMost8}
+use Rattle.selection.specs.Selection.{reqa, wupa, hlta, anticollision, others, select, sak_frame, atqa, rats, ats, at_most8}
 use Rattle.card.specs.declared.Card.{Card}
 use Rattle.card.specs.declared.CardState.{CardState}
 use Rattle.card.specs.declared.CardState.TheVariants.{Off, Idle, Ready, Active, Halt, ReadyStar, ActiveStar, Protocol}
@@ -23,8 +23,8 @@ up Two = Three
 up Three = Three
 
 -- the bits k that an ANTICOLLISION of this length sends: of its bits behind SEL and NVB each ninth is parity
-abbrev pub bitsSent : List ℕ → ℕ
-bitsSent f = (length f - 18) - (length f - 18) / 9
+abbrev pub bits_sent : List ℕ → ℕ
+bits_sent f = (length f - 18) - (length f - 18) / 9
 
 -- FSDI, if the frame is RATS: the second byte's high half
 abbrev pub fsdi : List ℕ → ℕ
@@ -44,56 +44,56 @@ abbrev pub home : Bool → CardState
 home false = Idle
 home true = Halt
 
-abbrev pub readyIn : Bool → Level → CardState
-readyIn false l = Ready l
-readyIn true l = ReadyStar l
+abbrev pub ready_in : Bool → Level → CardState
+ready_in false l = Ready l
+ready_in true l = ReadyStar l
 
-abbrev pub activeIn : Bool → CardState
-activeIn false = Active
-activeIn true = ActiveStar
+abbrev pub active_in : Bool → CardState
+active_in false = Active
+active_in true = ActiveStar
 
 -- "SAK, then Ready at L+1, or Active after the last"
 unfoldable pub chosen : Card → Bool → Level → CardState
-chosen c woken l = cond (remain c l) (readyIn woken (up l)) (activeIn woken)
+chosen c woken l = cond (remain c l) (ready_in woken (up l)) (active_in woken)
 
 -- the frame is an ANTICOLLISION of level l, whose bytes are five, and its bits match
 abbrev pub matching : Level → List ℕ → List ℕ → Bool
-matching l five f = ltb (bitsSent f) 40 && same f (anticollision l (bitsSent f) five)
+matching l five f = ltb (bits_sent f) 40 && same f (anticollision l (bits_sent f) five)
 
 -- "Ready at level L", where five are the level's bytes: "ANTICOLLISION of level L whose bits match: the rest, same state. SELECT of level L
 -- that matches all 40 bits: SAK, .. Everything else, REQA and a mismatch included: silent, Idle"; a woken card: Halt
 unfoldable pub ready : Card → Bool → Level → List ℕ → List ℕ → Step
 ready c woken l five f =
-    cond (matching l five f) (readyIn woken l, others (bitsSent f) five)
-    (cond (same f (select l five)) (chosen c woken l, sakFrame (sak c l)) (home woken, []))
+    cond (matching l five f) (ready_in woken l, others (bits_sent f) five)
+    (cond (same f (select l five)) (chosen c woken l, sak_frame (sak c l)) (home woken, []))
 
 -- .. a card that is Ready at a level which its UID lacks has no match: "else"
-abbrev pub readyAt : Card → Bool → Level → List ℕ → Step
-readyAt c woken l f = cond (ltb (place l) (length (levels c.uid))) (ready c woken l (get_or (levels c.uid) (place l) []) f) (home woken, [])
+abbrev pub ready_at : Card → Bool → Level → List ℕ → Step
+ready_at c woken l f = cond (ltb (place l) (length (levels c.uid))) (ready c woken l (get_or (levels c.uid) (place l) []) f) (home woken, [])
 
 -- "Active: HLTA: silent, Halt. RATS where SAK was 20: ATS, Protocol. Else silent, Idle"; a woken card: Halt
 abbrev pub active : Card → Bool → List ℕ → Step
 active c woken f =
     cond (same f hlta) (Halt, [])
-    (cond (c.blocks && same f (rats (fsdi f))) (Protocol (atMost8 (fsdi f)), ats (atMost8 c.index)) (home woken, []))
+    (cond (c.blocks && same f (rats (fsdi f))) (Protocol (at_most8 (fsdi f)), ats (at_most8 c.index)) (home woken, []))
 
 -- The state rules, state by state. Blocks take over in Protocol
 unfoldable pub rules : Card → CardState → List ℕ → Step
 rules c Off f = (Off, [])
 rules c Idle f = cond (same f reqa || same f wupa) (Ready One, atqa c.uid.size) (Idle, [])
-rules c (Ready l) f = readyAt c false l f
+rules c (Ready l) f = ready_at c false l f
 rules c Active f = active c false f
 rules c Halt f = cond (same f wupa) (ReadyStar One, atqa c.uid.size) (Halt, [])
-rules c (ReadyStar l) f = readyAt c true l f
+rules c (ReadyStar l) f = ready_at c true l f
 rules c ActiveStar f = active c true f
 rules c (Protocol i) f = (Protocol i, [])
 
-abbrev pub withState : Card → CardState → Card
-withState c s = record { uid = c.uid; blocks = c.blocks; index = c.index; state = s }
+abbrev pub with_state : Card → CardState → Card
+with_state c s = record { uid = c.uid; blocks = c.blocks; index = c.index; state = s }
 
 -- the card after a frame, and what it answers
 unfoldable pub takes : Card → List ℕ → Card
-takes c f = withState c (rules c c.state f).0
+takes c f = with_state c (rules c c.state f).0
 
 unfoldable pub answers : Card → List ℕ → List ℕ
 answers c f = (rules c c.state f).1
@@ -109,8 +109,8 @@ powered (ReadyStar l) = ReadyStar l
 powered ActiveStar = ActiveStar
 powered (Protocol i) = Protocol i
 
-abbrev pub powerOn : Card → Card
-powerOn c = withState c (powered c.state)
+abbrev pub power_on : Card → Card
+power_on c = with_state c (powered c.state)
 
-abbrev pub powerOff : Card → Card
-powerOff c = withState c Off
+abbrev pub power_off : Card → Card
+power_off c = with_state c Off

@@ -1,13 +1,13 @@
 // A step of the rules handed back: the card in its next state, and the row that it sends at the front of the lent one.
 ghost use Rattle.std.specs.Prelude.{◌≡◌, [], ◌≤◌, length};
 ghost use Rattle.rows.specs.Rows.{overlay};
-ghost use Rattle.card.specs.Card.{withState};
+ghost use Rattle.card.specs.Card.{with_state};
 ghost use Rattle.card.specs.Calls.{taken};
 
 use crate::{Card, CardAnswer, CardState, Taken};
 
 pub fn with_state(c: Card, s: CardState) -> Card
-    ensures { result ≡ withState c s }
+    ensures { result ≡ with_state c s }
 {
     let u = c.uid;
     Card {

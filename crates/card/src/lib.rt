@@ -7,9 +7,9 @@ pub mod within;
 mod woken;
 
 ghost use Rattle.std.specs.Prelude.{◌≡◌};
-ghost use Rattle.card.specs.Card.{powered, powerOn, powerOff};
-ghost use Rattle.card.specs.Calls.{refusedCard, newCard, newCardSays};
-ghost use Rattle.uid.specs.Calls.{madeSays};
+ghost use Rattle.card.specs.Card.{powered, power_on, power_off};
+ghost use Rattle.card.specs.Calls.{refused_card, new_card, new_card_says};
+ghost use Rattle.uid.specs.Calls.{made_says};
 
 use refusal::Refusal;
 use uid::{Level, Made, Uid, UidSize};
@@ -58,7 +58,7 @@ pub struct Taken {
 }
 
 fn refused_card() -> NewCard
-    ensures { result ≡ refusedCard }
+    ensures { result ≡ refused_card }
 {
     let u = Uid {
         size: UidSize::Single,
@@ -78,8 +78,8 @@ fn refused_card() -> NewCard
 
 // A card without power. 6: the UID is not valid, or the size index is over 8.
 pub fn new_card(bytes: &[u8], blocks: bool, index: u8) -> NewCard
-    ensures value { result ≡ newCard bytes.now blocks index }
-    ensures made_value { madeSays result.made ≡ newCardSays bytes.now index }
+    ensures value { result ≡ new_card bytes.now blocks index }
+    ensures made_value { made_says result.made ≡ new_card_says bytes.now index }
 {
     if index > 8 {
         return refused_card();
@@ -118,7 +118,7 @@ fn powered(s: CardState) -> CardState
 
 // Power comes: a card that was Off is Idle.
 pub fn power_on(c: Card) -> Card
-    ensures { result ≡ powerOn c }
+    ensures { result ≡ power_on c }
 {
     let s = c.state;
     answer::with_state(c, powered(s))
@@ -126,7 +126,7 @@ pub fn power_on(c: Card) -> Card
 
 // Power is lost: Off from anywhere.
 pub fn power_off(c: Card) -> Card
-    ensures { result ≡ powerOff c }
+    ensures { result ≡ power_off c }
 {
     answer::with_state(c, CardState::Off)
 }

@@ -1,8 +1,8 @@
 // A card in Ready, or woken in Ready*: ANTICOLLISION and SELECT of its level.
 ghost use Rattle.std.specs.Prelude.{◌≡◌, ◌-◌, ◌/◌, ◌≤◌, ◌<◌, length};
 ghost use Rattle.rows.specs.Rows.{overlay};
-ghost use Rattle.selection.specs.Selection.{others, sakFrame};
-ghost use Rattle.card.specs.Card.{readyIn, remain, sak, chosen, up, matching, ready, rules};
+ghost use Rattle.selection.specs.Selection.{others, sak_frame};
+ghost use Rattle.card.specs.Card.{ready_in, remain, sak, chosen, up, matching, ready, rules};
 ghost use Rattle.card.specs.Calls.{taken};
 
 use crate::{Card, CardState, Taken};
@@ -72,7 +72,7 @@ fn is_matching(row: &[u8], l: Level, five: [u8; 5]) -> bool
 // The rest of the level, of which k bits were sent.
 fn send_rest(c: Card, woken: bool, l: Level, k: u8, five: [u8; 5], out: &mut [u8]) -> Taken
     requires { (k < 40) × (45 ≤ length out.old) }
-    ensures value { result ≡ taken c (readyIn woken l, others k five) }
+    ensures value { result ≡ taken c (ready_in woken l, others k five) }
     ensures out_after { out.new ≡ overlay out.old 0 (others k five) }
 {
     let level = selection::sent::level_row(five);
@@ -83,8 +83,8 @@ fn send_rest(c: Card, woken: bool, l: Level, k: u8, five: [u8; 5], out: &mut [u8
 // Level l is chosen.
 fn send_sak(c: Card, woken: bool, l: Level, out: &mut [u8]) -> Taken
     requires { 45 ≤ length out.old }
-    ensures value { result ≡ taken c (chosen c woken l, sakFrame (sak c l)) }
-    ensures out_after { out.new ≡ overlay out.old 0 (sakFrame (sak c l)) }
+    ensures value { result ≡ taken c (chosen c woken l, sak_frame (sak c l)) }
+    ensures out_after { out.new ≡ overlay out.old 0 (sak_frame (sak c l)) }
 {
     let f = selection::sent::sak_frame(sak_of(c, l));
     crate::answer::send(c, chosen(c, woken, l), &f, out)
@@ -110,8 +110,8 @@ fn ready_at(c: Card, woken: bool, l: Level, five: [u8; 5], row: &[u8], out: &mut
 // A card that is Ready at a level which its UID lacks matches nothing.
 pub fn take_ready(c: Card, woken: bool, l: Level, row: &[u8], out: &mut [u8]) -> Taken
     requires { 45 ≤ length out.old }
-    ensures value { result ≡ taken c (rules c (readyIn woken l) row.now) }
-    ensures out_after { out.new ≡ overlay out.old 0 (rules c (readyIn woken l) row.now).1 }
+    ensures value { result ≡ taken c (rules c (ready_in woken l) row.now) }
+    ensures out_after { out.new ≡ overlay out.old 0 (rules c (ready_in woken l) row.now).1 }
 {
     let u = c.uid;
     let z = u.size;

@@ -5,8 +5,8 @@ ghost use Rattle.rows.specs.Rows.{overlay};
 ghost use Rattle.selection.specs.Selection.{atqa};
 ghost use Rattle.uid.specs.declared.Level.TheVariants.{One};
 ghost use Rattle.card.specs.declared.CardState.TheVariants.{Idle, Halt};
-ghost use Rattle.card.specs.Card.{readyIn, activeIn, rules};
-ghost use Rattle.card.specs.Calls.{taken, bitsIn};
+ghost use Rattle.card.specs.Card.{ready_in, active_in, rules};
+ghost use Rattle.card.specs.Calls.{taken, bits_in};
 
 use crate::{Card, CardAnswer, CardState, Taken};
 use uid::Level;
@@ -14,7 +14,7 @@ use uid::Level;
 // ATQA, and Ready at level 1, or Ready* for a card that is woken from Halt.
 fn send_atqa(c: Card, woken: bool, out: &mut [u8]) -> Taken
     requires { 45 ≤ length out.old }
-    ensures value { result ≡ taken c (readyIn woken One, atqa c.uid.size) }
+    ensures value { result ≡ taken c (ready_in woken One, atqa c.uid.size) }
     ensures out_after { out.new ≡ overlay out.old 0 (atqa c.uid.size) }
 {
     let u = c.uid;
@@ -54,8 +54,8 @@ fn take_halt(c: Card, row: &[u8], out: &mut [u8]) -> Taken
 // A card in Active, or woken in Active*.
 fn take_active(c: Card, woken: bool, row: &[u8], out: &mut [u8]) -> Taken
     requires { 45 ≤ length out.old }
-    ensures value { result ≡ taken c (rules c (activeIn woken) row.now) }
-    ensures out_after { out.new ≡ overlay out.old 0 (rules c (activeIn woken) row.now).1 }
+    ensures value { result ≡ taken c (rules c (active_in woken) row.now) }
+    ensures out_after { out.new ≡ overlay out.old 0 (rules c (active_in woken) row.now).1 }
 {
     let hlta = selection::sent::hlta();
     if rows::is_same(row, &hlta) {
@@ -95,7 +95,7 @@ pub fn take_rules(c: Card, row: &[u8], out: &mut [u8]) -> Taken
 
 // How many air bits an answer has.
 pub fn bits_in(a: CardAnswer) -> usize
-    ensures { result ≡ bitsIn a }
+    ensures { result ≡ bits_in a }
 {
     match a {
         CardAnswer::Sends(n) => n,

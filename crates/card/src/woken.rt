@@ -1,7 +1,7 @@
 // T-03: the second states. A card that WUPA woke from Halt (woken) is in Ready* and Active* where another is in Ready and Active. All that
 // differs is where "else" leads.
 ghost use Rattle.std.specs.Prelude.{◌≡◌};
-ghost use Rattle.card.specs.Card.{home, readyIn, activeIn};
+ghost use Rattle.card.specs.Card.{home, ready_in, active_in};
 
 use crate::CardState;
 use uid::Level;
@@ -17,7 +17,7 @@ pub fn home(woken: bool) -> CardState
 }
 
 pub fn ready_in(woken: bool, l: Level) -> CardState
-    ensures { result ≡ readyIn woken l }
+    ensures { result ≡ ready_in woken l }
 {
     if woken {
         return CardState::ReadyStar(l);
@@ -26,7 +26,7 @@ pub fn ready_in(woken: bool, l: Level) -> CardState
 }
 
 pub fn active_in(woken: bool) -> CardState
-    ensures { result ≡ activeIn woken }
+    ensures { result ≡ active_in woken }
 {
     if woken {
         return CardState::ActiveStar;

@@ -2,19 +2,19 @@
 // Each answer goes to the front of a row that is lent with room for the longest, 112 bits.
 ghost use Rattle.std.specs.Prelude.{◌≡◌, not, ◌&&◌, ◌≤◌, length};
 ghost use Rattle.rows.specs.Rows.{overlay};
-ghost use Rattle.frame_b.specs.FrameB.{frameB};
-ghost use Rattle.frame_b.specs.LimitsB.{answerRoomB};
+ghost use Rattle.frame_b.specs.FrameB.{frame_b};
+ghost use Rattle.frame_b.specs.LimitsB.{answer_room_b};
 ghost use Rattle.selection_b.specs.TypeB.{done};
-ghost use Rattle.selection_b.specs.TakenB.{isRequest, slotsIn};
+ghost use Rattle.selection_b.specs.TakenB.{is_request, slots_in};
 ghost use Rattle.card_b.specs.declared.StateB.TheVariants.{Requested, Declared};
-ghost use Rattle.card_b.specs.CardB.{atqbOf, drawn, heeds, requested, asked, other, rules};
-ghost use Rattle.card_b.specs.CallsB.{taken, bitsIn};
+ghost use Rattle.card_b.specs.CardB.{atqb_of, drawn, heeds, requested, asked, other, rules};
+ghost use Rattle.card_b.specs.CallsB.{taken, bits_in};
 
 use crate::{AnswerB, CardB, StateB, TakenB};
 
 // The bits of an answer.
 pub fn bits_in(a: AnswerB) -> usize
-    ensures { result ≡ bitsIn a }
+    ensures { result ≡ bits_in a }
 {
     match a {
         AnswerB::Sends(n) => n,
@@ -35,7 +35,7 @@ pub fn is_drawn(number: u8, n: u8) -> bool
 
 // Is the row a request, and the number not 1 to its N?
 pub fn is_undrawn(number: u8, row: &[u8]) -> bool
-    ensures { result ≡ (isRequest row.now && not (drawn number (slotsIn row.now))) }
+    ensures { result ≡ (is_request row.now && not (drawn number (slots_in row.now))) }
 {
     let q = selection_b::taken::read_request(row);
     if !q.is {
@@ -60,9 +60,9 @@ fn heeds(s: StateB, wake: bool) -> bool
 
 // ATQB, and Declared.
 fn send_atqb(c: CardB, out: &mut [u8]) -> TakenB
-    requires { answerRoomB ≤ length out.old }
-    ensures value { result ≡ taken c (Declared, frameB (atqbOf c)) }
-    ensures out_after { out.new ≡ overlay out.old 0 (frameB (atqbOf c)) }
+    requires { answer_room_b ≤ length out.old }
+    ensures value { result ≡ taken c (Declared, frame_b (atqb_of c)) }
+    ensures out_after { out.new ≡ overlay out.old 0 (frame_b (atqb_of c)) }
 {
     let pupi = c.pupi;
     let application = c.application;
@@ -73,7 +73,7 @@ fn send_atqb(c: CardB, out: &mut [u8]) -> TakenB
 
 // An admitted request.
 fn take_requested(c: CardB, number: u8, out: &mut [u8]) -> TakenB
-    requires { answerRoomB ≤ length out.old }
+    requires { answer_room_b ≤ length out.old }
     ensures value { result ≡ taken c (requested c number) }
     ensures out_after { out.new ≡ overlay out.old 0 (requested c number).1 }
 {
@@ -88,7 +88,7 @@ fn take_requested(c: CardB, number: u8, out: &mut [u8]) -> TakenB
 
 // REQB, or WUPB where wake.
 fn take_asked(c: CardB, number: u8, wake: bool, n: u8, afi: u8, out: &mut [u8]) -> TakenB
-    requires { answerRoomB ≤ length out.old }
+    requires { answer_room_b ≤ length out.old }
     ensures value { result ≡ taken c (asked c c.state number wake n afi) }
     ensures out_after { out.new ≡ overlay out.old 0 (asked c c.state number wake n afi).1 }
 {
@@ -107,7 +107,7 @@ fn take_asked(c: CardB, number: u8, wake: bool, n: u8, afi: u8, out: &mut [u8]) 
 
 // A frame that is no request, in Requested.
 fn take_marked(c: CardB, slot: u8, row: &[u8], out: &mut [u8]) -> TakenB
-    requires { answerRoomB ≤ length out.old }
+    requires { answer_room_b ≤ length out.old }
     ensures value { result ≡ taken c (other c (Requested slot) row.now) }
     ensures out_after { out.new ≡ overlay out.old 0 (other c (Requested slot) row.now).1 }
 {
@@ -119,7 +119,7 @@ fn take_marked(c: CardB, slot: u8, row: &[u8], out: &mut [u8]) -> TakenB
 
 // .. in Declared.
 fn take_declared(c: CardB, row: &[u8], out: &mut [u8]) -> TakenB
-    requires { answerRoomB ≤ length out.old }
+    requires { answer_room_b ≤ length out.old }
     ensures value { result ≡ taken c (other c Declared row.now) }
     ensures out_after { out.new ≡ overlay out.old 0 (other c Declared row.now).1 }
 {
@@ -137,7 +137,7 @@ fn take_declared(c: CardB, row: &[u8], out: &mut [u8]) -> TakenB
 
 // .. by the card's state.
 fn take_other(c: CardB, row: &[u8], out: &mut [u8]) -> TakenB
-    requires { answerRoomB ≤ length out.old }
+    requires { answer_room_b ≤ length out.old }
     ensures value { result ≡ taken c (other c c.state row.now) }
     ensures out_after { out.new ≡ overlay out.old 0 (other c c.state row.now).1 }
 {
@@ -154,7 +154,7 @@ fn take_other(c: CardB, row: &[u8], out: &mut [u8]) -> TakenB
 
 // A frame, by the card's rules.
 pub fn take_rules(c: CardB, number: u8, row: &[u8], out: &mut [u8]) -> TakenB
-    requires { answerRoomB ≤ length out.old }
+    requires { answer_room_b ≤ length out.old }
     ensures value { result ≡ taken c (rules c c.state number row.now) }
     ensures out_after { out.new ≡ overlay out.old 0 (rules c c.state number row.now).1 }
 {

@@ -3,9 +3,9 @@
 ghost use Rattle.std.specs.Prelude.{◌≡◌, cond, length, ◌<◌, ◌^◌};
 ghost use Rattle.rows.specs.Rows.{overlay};
 ghost use Rattle.block.specs.Cut.{part};
-ghost use Rattle.block.specs.Block.{behind, blockBytes, bytesIn};
-ghost use Rattle.card_blocks.specs.CardFrames.{cardHears};
-ghost use Rattle.card_blocks.specs.CardRules.{cardOpen, cardAt, cardSilent, cardSends, cardI, cardJoins, cardNext, cardGranted, cardTakesI, cardTakesAck, cardTakesNak, cardRules, owes, lentFor, cardTakes, cardReplies, cardAsks};
+ghost use Rattle.block.specs.Block.{behind, block_bytes, bytes_in};
+ghost use Rattle.card_blocks.specs.CardFrames.{card_hears};
+ghost use Rattle.card_blocks.specs.CardRules.{card_open, card_at, card_silent, card_sends, card_i, card_joins, card_next, card_granted, card_takes_i, card_takes_ack, card_takes_nak, card_rules, owes, lent_for, card_takes, card_replies, card_asks};
 
 use block::{Block, BlockBytes, Told};
 use refusal::Refusal;
@@ -42,7 +42,7 @@ pub struct CardStep {
 
 // After RATS.
 pub fn open(own: u8, reader: u8) -> CardLink
-    ensures { result ≡ cardOpen own reader }
+    ensures { result ≡ card_open own reader }
 {
     CardLink {
         own,
@@ -64,7 +64,7 @@ fn card_at(
     joined: usize,
     at: usize,
 ) -> CardLink
-    ensures { result ≡ cardAt c n phase last joined at }
+    ensures { result ≡ card_at c n phase last joined at }
 {
     CardLink {
         own: c.own,
@@ -78,7 +78,7 @@ fn card_at(
 }
 
 fn silent(c: CardLink, told: Told) -> CardStep
-    ensures { result ≡ cardSilent c told }
+    ensures { result ≡ card_silent c told }
 {
     CardStep {
         link: c,
@@ -90,7 +90,7 @@ fn silent(c: CardLink, told: Told) -> CardStep
 
 // Sends what its link then has as its last block.
 fn sends(c: CardLink) -> CardStep
-    ensures { result ≡ cardSends c }
+    ensures { result ≡ card_sends c }
 {
     let last = c.last;
     CardStep {
@@ -103,7 +103,7 @@ fn sends(c: CardLink) -> CardStep
 
 // The I of its answer, of len bytes, that begins at place at.
 fn sends_i(c: CardLink, n: bool, at: usize, len: usize) -> CardStep
-    ensures { result ≡ cardI c n at len }
+    ensures { result ≡ card_i c n at len }
 {
     if block::has_more(c.reader, at, len) {
         return sends(card_at(c, n, CardPhase::Answering, Block::I(n, true), 0, at));
@@ -113,7 +113,7 @@ fn sends_i(c: CardLink, n: bool, at: usize, len: usize) -> CardStep
 
 // An I that is joined: n is the number then, end how many bytes are joined.
 fn joins(c: CardLink, n: bool, chained: bool, end: usize) -> CardStep
-    ensures { result ≡ cardJoins c n chained end }
+    ensures { result ≡ card_joins c n chained end }
 {
     if chained {
         let link = card_at(c, n, CardPhase::Receiving, Block::Ack(n), end, 0);
@@ -134,7 +134,7 @@ fn joins(c: CardLink, n: bool, chained: bool, end: usize) -> CardStep
 }
 
 fn takes_i(c: CardLink, chained: bool, bytes: usize, room: usize) -> CardStep
-    ensures { result ≡ cardTakesI c chained bytes room }
+    ensures { result ≡ card_takes_i c chained bytes room }
 {
     if block::joins_in(c.joined, bytes, room) {
         return joins(c, !c.number, chained, c.joined + bytes);
@@ -145,7 +145,7 @@ fn takes_i(c: CardLink, chained: bool, bytes: usize, room: usize) -> CardStep
 // The next I of its answer. An answer that ends before the last I ends before the next one too: 1, ahead of a sum that might not fit.
 fn next_i(c: CardLink, len: usize) -> CardStep
     requires { len < 2 ^ 63 }
-    ensures { lentFor c len result ≡ lentFor c len (cardNext c CardPhase.Answering len) }
+    ensures { lent_for c len result ≡ lent_for c len (card_next c CardPhase.Answering len) }
 {
     if len < c.at {
         return silent(c, Told::Refused(Refusal::Room));
@@ -156,7 +156,7 @@ fn next_i(c: CardLink, len: usize) -> CardStep
 // R(ACK) of the other number. This and what calls it give the step of the rules as far as it goes with the answer that is lent.
 fn next(c: CardLink, phase: CardPhase, len: usize) -> CardStep
     requires { len < 2 ^ 63 }
-    ensures { lentFor c len result ≡ lentFor c len (cardNext c phase len) }
+    ensures { lent_for c len result ≡ lent_for c len (card_next c phase len) }
 {
     match phase {
         CardPhase::Answering => next_i(c, len),
@@ -168,7 +168,7 @@ fn next(c: CardLink, phase: CardPhase, len: usize) -> CardStep
 
 fn takes_ack(c: CardLink, n: bool, len: usize) -> CardStep
     requires { len < 2 ^ 63 }
-    ensures { lentFor c len result ≡ lentFor c len (cardTakesAck c n len) }
+    ensures { lent_for c len result ≡ lent_for c len (card_takes_ack c n len) }
 {
     if n == c.number {
         return sends(c);
@@ -178,7 +178,7 @@ fn takes_ack(c: CardLink, n: bool, len: usize) -> CardStep
 }
 
 fn takes_nak(c: CardLink, n: bool) -> CardStep
-    ensures { result ≡ cardTakesNak c n }
+    ensures { result ≡ card_takes_nak c n }
 {
     if n == c.number {
         return sends(c);
@@ -189,7 +189,7 @@ fn takes_nak(c: CardLink, n: bool) -> CardStep
 
 // A WTX answer.
 fn granted(c: CardLink, phase: CardPhase, w: u8) -> CardStep
-    ensures { result ≡ cardGranted c phase w }
+    ensures { result ≡ card_granted c phase w }
 {
     match phase {
         CardPhase::Waiting(v) => {
@@ -208,7 +208,7 @@ fn granted(c: CardLink, phase: CardPhase, w: u8) -> CardStep
 }
 
 fn deselected(c: CardLink) -> CardStep
-    ensures { result ≡ cardRules c Block.Deselect 0 0 0 }
+    ensures { result ≡ card_rules c Block.Deselect 0 0 0 }
 {
     CardStep {
         link: open(c.own, c.reader),
@@ -221,7 +221,7 @@ fn deselected(c: CardLink) -> CardStep
 // What a card that owes nothing does with a block.
 fn rules(c: CardLink, b: Block, bytes: usize, room: usize, len: usize) -> CardStep
     requires { len < 2 ^ 63 }
-    ensures { lentFor c len result ≡ lentFor c len (cardRules c b bytes room len) }
+    ensures { lent_for c len result ≡ lent_for c len (card_rules c b bytes room len) }
 {
     let phase = c.phase;
     match b {
@@ -248,7 +248,7 @@ pub fn owes_answer(phase: CardPhase) -> bool
 
 // A step as far as it goes with an answer of len bytes lent, from which an I is cut.
 fn lent_for(c: CardLink, len: usize, step: CardStep) -> CardStep
-    ensures { result ≡ lentFor c len step }
+    ensures { result ≡ lent_for c len step }
 {
     let send = step.send;
     if block::is_i(send) {
@@ -266,7 +266,7 @@ fn lent_for(c: CardLink, len: usize, step: CardStep) -> CardStep
 // What a card does with a block whose payload has so many bytes, with a buffer of room bytes and an answer of len bytes lent.
 fn takes(c: CardLink, b: Block, bytes: usize, room: usize, len: usize) -> CardStep
     requires { len < 2 ^ 63 }
-    ensures { result ≡ cardTakes c b bytes room len }
+    ensures { result ≡ card_takes c b bytes room len }
 {
     let phase = c.phase;
     if owes_answer(phase) {
@@ -277,7 +277,7 @@ fn takes(c: CardLink, b: Block, bytes: usize, room: usize, len: usize) -> CardSt
 
 // The host's answer, of len bytes.
 pub fn replies(c: CardLink, len: usize) -> CardStep
-    ensures { result ≡ cardReplies c len }
+    ensures { result ≡ card_replies c len }
 {
     let phase = c.phase;
     if owes_answer(phase) {
@@ -291,7 +291,7 @@ pub fn replies(c: CardLink, len: usize) -> CardStep
 
 // The host asks for WTX.
 pub fn asks(c: CardLink, v: u8) -> CardStep
-    ensures { result ≡ cardAsks c v }
+    ensures { result ≡ card_asks c v }
 {
     let phase = c.phase;
     if owes_answer(phase) {
@@ -305,7 +305,7 @@ pub fn asks(c: CardLink, v: u8) -> CardStep
 
 // What a card does with a frame's bytes, none where it is silence or damaged. An accepted payload goes straight behind those joined.
 pub fn hears(c: CardLink, bytes: &[u8], answer: &[u8], buffer: &mut [u8]) -> CardStep
-    ensures value { result ≡ cardHears c bytes.now (length buffer.old) (length answer.now) }
+    ensures value { result ≡ card_hears c bytes.now (length buffer.old) (length answer.now) }
     ensures buffer_after { buffer.new ≡ cond result.joins (overlay buffer.old c.joined (behind bytes.now)) buffer.old }
 {
     let b = block::read_block(bytes);
@@ -322,7 +322,7 @@ pub fn hears(c: CardLink, bytes: &[u8], answer: &[u8], buffer: &mut [u8]) -> Car
 
 // The bytes of the block that a step sends.
 pub fn sent(step: CardStep, answer: &[u8]) -> BlockBytes
-    ensures { result ≡ bytesIn (blockBytes step.send (part step.link.reader step.link.at answer.now)) }
+    ensures { result ≡ bytes_in (block_bytes step.send (part step.link.reader step.link.at answer.now)) }
 {
     let send = step.send;
     let link = step.link;

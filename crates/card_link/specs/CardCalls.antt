@@ -2,37 +2,37 @@
 -- word; RATS opens the link; in Protocol the block rules hold; DESELECT's answer leads to Halt. Rows in, rows out.
 --
 -- The calls, each with the same contract form. With o what the definition gives:
---     take(x, row, answer, buffer, out)   takeCall x row answer buffer (length out)
---     reply(x, answer, out)               replyCall x answer (length out)
---     ask(x, wtx, out)                    askCall x wtx (length out)
+--     take(x, row, answer, buffer, out)   take_call x row answer buffer (length out)
+--     reply(x, answer, out)               reply_call x answer (length out)
+--     ask(x, wtx, out)                    ask_call x wtx (length out)
 -- the answer is `turn_of o`, buffer at exit `o.buffer` and out at exit `overlay out 0 o.sent`. `power_on` and `power_off` have no more
 -- than `poweredOn x` and `poweredOff x`. A call tests 11, 1, 6, 10; a refused call sends nothing and changes nothing. CardSays.antt says the
 -- answers in the table's numbers.
 use Rattle.std.specs.Prelude.{ℕ, Bool, true, false, cond, not, List, [], length, ltb}
-use Rattle.limits.specs.Limits.{rowRoom}
+use Rattle.limits.specs.Limits.{row_room}
 use Rattle.refusal.specs.declared.Refusal.{Refusal}
 use Rattle.refusal.specs.declared.Refusal.TheVariants.{Room, NotDue}
-use Rattle.card.specs.Card.{takes, answers, withState, powerOn, powerOff}
+use Rattle.card.specs.Card.{takes, answers, with_state, power_on, power_off}
 use Rattle.card.specs.declared.Card.{Card}
 use Rattle.card.specs.declared.CardState.{CardState}
 use Rattle.card.specs.declared.CardState.TheVariants.{Off, Idle, Ready, Active, Halt, ReadyStar, ActiveStar, Protocol}
 use Rattle.block.specs.declared.Told.{Told}
 use Rattle.block.specs.declared.Told.TheVariants.{Quiet, Message, Granted, Deselected, Refused}
 use Rattle.block.specs.Out.{Out}
-use Rattle.block.specs.Row.{block_row, heardRow}
+use Rattle.block.specs.Row.{block_row, heard_row}
 use Rattle.card_blocks.specs.declared.CardLink.{CardLink}
 use Rattle.card_link.specs.declared.LinkCard.{LinkCard}
 use Rattle.card_link.specs.declared.CardTurn.{CardTurn}
-use Rattle.card_blocks.specs.CardRules.{cardOpen, owes}
-use Rattle.card_blocks.specs.CardFrames.{cardBlock, cardReply, cardWtx}
+use Rattle.card_blocks.specs.CardRules.{card_open, owes}
+use Rattle.card_blocks.specs.CardFrames.{card_block, card_reply, card_wtx}
 
 -- no link: a card outside Protocol carries nothing of an earlier one
 abbrev pub no_link : CardLink
-no_link = cardOpen 0 0
+no_link = card_open 0 0
 
 -- the link of a card that a frame has led to this state from outside Protocol: RATS opens it, "card [starts] at 1"
 abbrev pub link_in : Card → CardState → CardLink
-link_in c (Protocol i) = cardOpen c.index i
+link_in c (Protocol i) = card_open c.index i
 link_in c Off = no_link
 link_in c Idle = no_link
 link_in c (Ready l) = no_link
@@ -42,20 +42,20 @@ link_in c (ReadyStar l) = no_link
 link_in c ActiveStar = no_link
 
 -- the card by the link's news: "DESELECT: its answer, then Halt"
-abbrev pub leftBy : Told → Card → CardLink → LinkCard
-leftBy Deselected c l = record { card = withState c Halt; link = no_link }
-leftBy Quiet c l = record { card = c; link = l }
-leftBy (Message n) c l = record { card = c; link = l }
-leftBy Granted c l = record { card = c; link = l }
-leftBy (Refused e) c l = record { card = c; link = l }
+abbrev pub left_by : Told → Card → CardLink → LinkCard
+left_by Deselected c l = record { card = with_state c Halt; link = no_link }
+left_by Quiet c l = record { card = c; link = l }
+left_by (Message n) c l = record { card = c; link = l }
+left_by Granted c l = record { card = c; link = l }
+left_by (Refused e) c l = record { card = c; link = l }
 
 -- what comes of a call; sent is a row here
 abbrev pub with_row : Card → Out CardLink → Out LinkCard
-with_row c o = record { link = leftBy o.told c o.link; sent = block_row o.sent; told = o.told; buffer = o.buffer }
+with_row c o = record { link = left_by o.told c o.link; sent = block_row o.sent; told = o.told; buffer = o.buffer }
 
 -- a frame outside Protocol
-unfoldable pub takesOutside : LinkCard → List ℕ → List ℕ → Out LinkCard
-takesOutside x f buffer =
+unfoldable pub takes_outside : LinkCard → List ℕ → List ℕ → Out LinkCard
+takes_outside x f buffer =
     record {
       link = record { card = takes x.card f; link = link_in x.card (takes x.card f).state };
       sent = answers x.card f;
@@ -64,32 +64,32 @@ takesOutside x f buffer =
     }
 
 -- .. in Protocol: "blocks: as in 2, with the card's size"
-unfoldable pub takesInside : LinkCard → List ℕ → List ℕ → List ℕ → Out LinkCard
-takesInside x f m buffer = with_row x.card (cardBlock x.link (heardRow x.link.own f) m buffer)
+unfoldable pub takes_inside : LinkCard → List ℕ → List ℕ → List ℕ → Out LinkCard
+takes_inside x f m buffer = with_row x.card (card_block x.link (heard_row x.link.own f) m buffer)
 
-abbrev pub takesIn : CardState → LinkCard → List ℕ → List ℕ → List ℕ → Out LinkCard
-takesIn (Protocol i) x f m buffer = takesInside x f m buffer
-takesIn Off x f m buffer = takesOutside x f buffer
-takesIn Idle x f m buffer = takesOutside x f buffer
-takesIn (Ready l) x f m buffer = takesOutside x f buffer
-takesIn Active x f m buffer = takesOutside x f buffer
-takesIn Halt x f m buffer = takesOutside x f buffer
-takesIn (ReadyStar l) x f m buffer = takesOutside x f buffer
-takesIn ActiveStar x f m buffer = takesOutside x f buffer
+abbrev pub takes_in : CardState → LinkCard → List ℕ → List ℕ → List ℕ → Out LinkCard
+takes_in (Protocol i) x f m buffer = takes_inside x f m buffer
+takes_in Off x f m buffer = takes_outside x f buffer
+takes_in Idle x f m buffer = takes_outside x f buffer
+takes_in (Ready l) x f m buffer = takes_outside x f buffer
+takes_in Active x f m buffer = takes_outside x f buffer
+takes_in Halt x f m buffer = takes_outside x f buffer
+takes_in (ReadyStar l) x f m buffer = takes_outside x f buffer
+takes_in ActiveStar x f m buffer = takes_outside x f buffer
 
 -- "a card owing its host's answer takes no frame", and only then is its host's call due
-abbrev pub owesIn : CardState → CardLink → Bool
-owesIn (Protocol i) l = owes l.phase
-owesIn Off l = false
-owesIn Idle l = false
-owesIn (Ready l') l = false
-owesIn Active l = false
-owesIn Halt l = false
-owesIn (ReadyStar l') l = false
-owesIn ActiveStar l = false
+abbrev pub owes_in : CardState → CardLink → Bool
+owes_in (Protocol i) l = owes l.phase
+owes_in Off l = false
+owes_in Idle l = false
+owes_in (Ready l') l = false
+owes_in Active l = false
+owes_in Halt l = false
+owes_in (ReadyStar l') l = false
+owes_in ActiveStar l = false
 
 abbrev pub owing : LinkCard → Bool
-owing x = owesIn x.card.state x.link
+owing x = owes_in x.card.state x.link
 
 -- declined: "unchanged", "all of it unchanged"
 abbrev pub declined : LinkCard → List ℕ → Refusal → Out LinkCard
@@ -97,26 +97,26 @@ declined x buffer e = record { link = x; sent = []; told = Refused e; buffer = b
 
 -- 11 and 1 around what is due. Each call that writes a row asks for room for the longest frame, whatever is heard
 unfoldable pub called : Bool → LinkCard → List ℕ → ℕ → Out LinkCard → Out LinkCard
-called due x buffer room o = cond (not due) (declined x buffer NotDue) (cond (ltb room rowRoom) (declined x buffer Room) o)
+called due x buffer room o = cond (not due) (declined x buffer NotDue) (cond (ltb room row_room) (declined x buffer Room) o)
 
 -- A frame f is heard, with an answer m and a message buffer lent:
-unfoldable pub takeCall : LinkCard → List ℕ → List ℕ → List ℕ → ℕ → Out LinkCard
-takeCall x f m buffer room = called (not (owing x)) x buffer room (takesIn x.card.state x f m buffer)
+unfoldable pub take_call : LinkCard → List ℕ → List ℕ → List ℕ → ℕ → Out LinkCard
+take_call x f m buffer room = called (not (owing x)) x buffer room (takes_in x.card.state x f m buffer)
 
 -- .. the host answers m: 10 where it is over 4,096 bytes
-unfoldable pub replyCall : LinkCard → List ℕ → ℕ → Out LinkCard
-replyCall x m room = called (owing x) x [] room (with_row x.card (cardReply x.link m []))
+unfoldable pub reply_call : LinkCard → List ℕ → ℕ → Out LinkCard
+reply_call x m room = called (owing x) x [] room (with_row x.card (card_reply x.link m []))
 
 -- .. the host asks for WTX: 6 outside 1 to 59
-unfoldable pub askCall : LinkCard → ℕ → ℕ → Out LinkCard
-askCall x v room = called (owing x) x [] room (with_row x.card (cardWtx x.link v []))
+unfoldable pub ask_call : LinkCard → ℕ → ℕ → Out LinkCard
+ask_call x v room = called (owing x) x [] room (with_row x.card (card_wtx x.link v []))
 
 -- "Off: silent until power brings Idle. Loss of power brings Off from anywhere"
-abbrev pub poweredOn : LinkCard → LinkCard
-poweredOn x = record { card = powerOn x.card; link = x.link }
+abbrev pub powered_on : LinkCard → LinkCard
+powered_on x = record { card = power_on x.card; link = x.link }
 
-abbrev pub poweredOff : LinkCard → LinkCard
-poweredOff x = record { card = powerOff x.card; link = no_link }
+abbrev pub powered_off : LinkCard → LinkCard
+powered_off x = record { card = power_off x.card; link = no_link }
 
 -- the answer of a call
 abbrev pub turn_of : Out LinkCard → CardTurn

@@ -1,16 +1,16 @@
 // The whole card, every state: outside Protocol the rules of crate card, in Protocol the block rules. Rows in, rows out.
 ghost use Rattle.std.specs.Prelude.{◌≡◌, cond, [], ◌≤◌, length};
-ghost use Rattle.limits.specs.Limits.{rowRoom};
+ghost use Rattle.limits.specs.Limits.{row_room};
 ghost use Rattle.rows.specs.Rows.{overlay};
-ghost use Rattle.frame.specs.Calls.{goodBytes};
+ghost use Rattle.frame.specs.Calls.{good_bytes};
 ghost use Rattle.block.specs.Block.{behind};
-ghost use Rattle.block.specs.Row.{heardRow};
-ghost use Rattle.block.specs.Says.{toldSays};
-ghost use Rattle.uid.specs.Calls.{madeSays};
-ghost use Rattle.card.specs.Calls.{newCard, newCardSays};
-ghost use Rattle.card_blocks.specs.CardFrames.{cardHears, cardOut};
-ghost use Rattle.card_link.specs.CardCalls.{no_link, link_in, leftBy, with_row, takesOutside, takesInside, takesIn, owing, declined, takeCall, replyCall, askCall, poweredOn, poweredOff, turn_of};
-ghost use Rattle.card_link.specs.CardSays.{takeSays, replySays, askSays};
+ghost use Rattle.block.specs.Row.{heard_row};
+ghost use Rattle.block.specs.Says.{told_says};
+ghost use Rattle.uid.specs.Calls.{made_says};
+ghost use Rattle.card.specs.Calls.{new_card, new_card_says};
+ghost use Rattle.card_blocks.specs.CardFrames.{card_hears, card_out};
+ghost use Rattle.card_link.specs.CardCalls.{no_link, link_in, left_by, with_row, takes_outside, takes_inside, takes_in, owing, declined, take_call, reply_call, ask_call, powered_on, powered_off, turn_of};
+ghost use Rattle.card_link.specs.CardSays.{take_says, reply_says, ask_says};
 
 use crate::{CardTurn, LinkCard};
 use block::Told;
@@ -28,10 +28,10 @@ pub struct NewLinkCard {
 
 // A card without power. 6: the UID is not valid, or the size index is over 8.
 pub fn new_card(bytes: &[u8], blocks: bool, index: u8) -> NewLinkCard
-    ensures card_value { result.card.card ≡ (newCard bytes.now blocks index).card }
+    ensures card_value { result.card.card ≡ (new_card bytes.now blocks index).card }
     ensures link_value { result.card.link ≡ no_link }
-    ensures made_value { result.made ≡ (newCard bytes.now blocks index).made }
-    ensures made_value_2 { madeSays result.made ≡ newCardSays bytes.now index }
+    ensures made_value { result.made ≡ (new_card bytes.now blocks index).made }
+    ensures made_value_2 { made_says result.made ≡ new_card_says bytes.now index }
 {
     let new = card::new_card(bytes, blocks, index);
     let card = new.card;
@@ -45,7 +45,7 @@ pub fn new_card(bytes: &[u8], blocks: bool, index: u8) -> NewLinkCard
 
 // Power comes: a card that was Off is Idle.
 pub fn power_on(x: LinkCard) -> LinkCard
-    ensures { result ≡ poweredOn x }
+    ensures { result ≡ powered_on x }
 {
     let card = x.card;
     let link = x.link;
@@ -55,7 +55,7 @@ pub fn power_on(x: LinkCard) -> LinkCard
 
 // Power is lost: Off from anywhere, and no link.
 pub fn power_off(x: LinkCard) -> LinkCard
-    ensures { result ≡ poweredOff x }
+    ensures { result ≡ powered_off x }
 {
     let card = x.card;
     let off = card::power_off(card);
@@ -111,7 +111,7 @@ fn link_in(c: Card, s: CardState) -> CardLink
 }
 
 fn halted(c: Card) -> LinkCard
-    ensures { result ≡ leftBy Told.Deselected c no_link }
+    ensures { result ≡ left_by Told.Deselected c no_link }
 {
     let u = c.uid;
     let card = Card {
@@ -126,7 +126,7 @@ fn halted(c: Card) -> LinkCard
 
 // The card by the link's news: DESELECT leads to Halt.
 fn left_by(told: Told, card: Card, link: CardLink) -> LinkCard
-    ensures { result ≡ leftBy told card link }
+    ensures { result ≡ left_by told card link }
 {
     match told {
         Told::Deselected => halted(card),
@@ -139,8 +139,8 @@ fn left_by(told: Told, card: Card, link: CardLink) -> LinkCard
 
 // What a card does with a row.
 fn hear_row(c: CardLink, row: &[u8], answer: &[u8], buffer: &mut [u8]) -> CardStep
-    ensures value { result ≡ cardHears c (goodBytes (heardRow c.own row.now)) (length buffer.old) (length answer.now) }
-    ensures buffer_after { buffer.new ≡ cond result.joins (overlay buffer.old c.joined (behind (goodBytes (heardRow c.own row.now)))) buffer.old }
+    ensures value { result ≡ card_hears c (good_bytes (heard_row c.own row.now)) (length buffer.old) (length answer.now) }
+    ensures buffer_after { buffer.new ≡ cond result.joins (overlay buffer.old c.joined (behind (good_bytes (heard_row c.own row.now)))) buffer.old }
 {
     let mut bytes = [0u8; 256];
     let n = block::within::read_row(c.own, row, &mut bytes);
@@ -149,9 +149,9 @@ fn hear_row(c: CardLink, row: &[u8], answer: &[u8], buffer: &mut [u8]) -> CardSt
 
 // A step of the link handed back, and its block at the front of the lent row.
 fn finish(card: Card, step: CardStep, answer: &[u8], out: &mut [u8]) -> CardTurn
-    requires { rowRoom ≤ length out.old }
-    ensures value { result ≡ turn_of (with_row card (cardOut step answer.now [] 0 [])) }
-    ensures out_after { out.new ≡ overlay out.old 0 (with_row card (cardOut step answer.now [] 0 [])).sent }
+    requires { row_room ≤ length out.old }
+    ensures value { result ≡ turn_of (with_row card (card_out step answer.now [] 0 [])) }
+    ensures out_after { out.new ≡ overlay out.old 0 (with_row card (card_out step answer.now [] 0 [])).sent }
 {
     let told = step.told;
     let link = step.link;
@@ -167,9 +167,9 @@ fn finish(card: Card, step: CardStep, answer: &[u8], out: &mut [u8]) -> CardTurn
 
 // A frame outside Protocol.
 fn take_outside(x: LinkCard, row: &[u8], out: &mut [u8]) -> CardTurn
-    requires { rowRoom ≤ length out.old }
-    ensures value { result ≡ turn_of (takesOutside x row.now []) }
-    ensures out_after { out.new ≡ overlay out.old 0 (takesOutside x row.now []).sent }
+    requires { row_room ≤ length out.old }
+    ensures value { result ≡ turn_of (takes_outside x row.now []) }
+    ensures out_after { out.new ≡ overlay out.old 0 (takes_outside x row.now []).sent }
 {
     let old = x.card;
     let t = card::within::take_rules(old, row, out);
@@ -192,10 +192,10 @@ fn take_inside(
     buffer: &mut [u8],
     out: &mut [u8],
 ) -> CardTurn
-    requires { rowRoom ≤ length out.old }
-    ensures value { result ≡ turn_of (takesInside x row.now answer.now buffer.old) }
-    ensures buffer_after { buffer.new ≡ (takesInside x row.now answer.now buffer.old).buffer }
-    ensures out_after { out.new ≡ overlay out.old 0 (takesInside x row.now answer.now buffer.old).sent }
+    requires { row_room ≤ length out.old }
+    ensures value { result ≡ turn_of (takes_inside x row.now answer.now buffer.old) }
+    ensures buffer_after { buffer.new ≡ (takes_inside x row.now answer.now buffer.old).buffer }
+    ensures out_after { out.new ≡ overlay out.old 0 (takes_inside x row.now answer.now buffer.old).sent }
 {
     let card = x.card;
     let link = x.link;
@@ -205,10 +205,10 @@ fn take_inside(
 
 // A frame that a card takes, by its state.
 fn take_due(x: LinkCard, row: &[u8], answer: &[u8], buffer: &mut [u8], out: &mut [u8]) -> CardTurn
-    requires { rowRoom ≤ length out.old }
-    ensures value { result ≡ turn_of (takesIn x.card.state x row.now answer.now buffer.old) }
-    ensures buffer_after { buffer.new ≡ (takesIn x.card.state x row.now answer.now buffer.old).buffer }
-    ensures out_after { out.new ≡ overlay out.old 0 (takesIn x.card.state x row.now answer.now buffer.old).sent }
+    requires { row_room ≤ length out.old }
+    ensures value { result ≡ turn_of (takes_in x.card.state x row.now answer.now buffer.old) }
+    ensures buffer_after { buffer.new ≡ (takes_in x.card.state x row.now answer.now buffer.old).buffer }
+    ensures out_after { out.new ≡ overlay out.old 0 (takes_in x.card.state x row.now answer.now buffer.old).sent }
 {
     let card = x.card;
     let s = card.state;
@@ -227,10 +227,10 @@ fn take_due(x: LinkCard, row: &[u8], answer: &[u8], buffer: &mut [u8], out: &mut
 // The card takes a frame, any row of any length, with its host's answer and a message buffer lent. What it sends stands at the front of the
 // lent row, which has room for the longest frame. 11: the card owes its host's answer.
 pub fn take(x: LinkCard, row: &[u8], answer: &[u8], buffer: &mut [u8], out: &mut [u8]) -> CardTurn
-    ensures value { result ≡ turn_of (takeCall x row.now answer.now buffer.old (length out.old)) }
-    ensures buffer_after { buffer.new ≡ (takeCall x row.now answer.now buffer.old (length out.old)).buffer }
-    ensures out_after { out.new ≡ overlay out.old 0 (takeCall x row.now answer.now buffer.old (length out.old)).sent }
-    ensures told_value { toldSays result.told ≡ takeSays x row.now answer.now buffer.old (length out.old) }
+    ensures value { result ≡ turn_of (take_call x row.now answer.now buffer.old (length out.old)) }
+    ensures buffer_after { buffer.new ≡ (take_call x row.now answer.now buffer.old (length out.old)).buffer }
+    ensures out_after { out.new ≡ overlay out.old 0 (take_call x row.now answer.now buffer.old (length out.old)).sent }
+    ensures told_value { told_says result.told ≡ take_says x row.now answer.now buffer.old (length out.old) }
 {
     if is_owing(x) {
         return declines(x, Refusal::NotDue);
@@ -243,9 +243,9 @@ pub fn take(x: LinkCard, row: &[u8], answer: &[u8], buffer: &mut [u8], out: &mut
 
 // The host's answer to the message that was delivered. 10: it is over 4,096 bytes.
 pub fn reply(x: LinkCard, answer: &[u8], out: &mut [u8]) -> CardTurn
-    ensures value { result ≡ turn_of (replyCall x answer.now (length out.old)) }
-    ensures out_after { out.new ≡ overlay out.old 0 (replyCall x answer.now (length out.old)).sent }
-    ensures told_value { toldSays result.told ≡ replySays x answer.now (length out.old) }
+    ensures value { result ≡ turn_of (reply_call x answer.now (length out.old)) }
+    ensures out_after { out.new ≡ overlay out.old 0 (reply_call x answer.now (length out.old)).sent }
+    ensures told_value { told_says result.told ≡ reply_says x answer.now (length out.old) }
 {
     if !is_owing(x) {
         return declines(x, Refusal::NotDue);
@@ -261,9 +261,9 @@ pub fn reply(x: LinkCard, answer: &[u8], out: &mut [u8]) -> CardTurn
 
 // The host asks for WTX before its answer. 6: the value is not 1 to 59.
 pub fn ask(x: LinkCard, wtx: u8, out: &mut [u8]) -> CardTurn
-    ensures value { result ≡ turn_of (askCall x wtx (length out.old)) }
-    ensures out_after { out.new ≡ overlay out.old 0 (askCall x wtx (length out.old)).sent }
-    ensures told_value { toldSays result.told ≡ askSays x wtx (length out.old) }
+    ensures value { result ≡ turn_of (ask_call x wtx (length out.old)) }
+    ensures out_after { out.new ≡ overlay out.old 0 (ask_call x wtx (length out.old)).sent }
+    ensures told_value { told_says result.told ≡ ask_says x wtx (length out.old) }
 {
     if !is_owing(x) {
         return declines(x, Refusal::NotDue);

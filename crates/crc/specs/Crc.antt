@@ -14,26 +14,26 @@ shifts zero c = c
 shifts (suc n) c = shifts n (shift c)
 
 -- .. after one byte more
-unfoldable pub crcByte : ℕ → ℕ → ℕ
-crcByte c b = shifts 8 (bit_xor c b)
+unfoldable pub crc_byte : ℕ → ℕ → ℕ
+crc_byte c b = shifts 8 (bit_xor c b)
 
 -- .. after bytes
-unfoldable pub crcFrom : ℕ → List ℕ → ℕ
-crcFrom c [] = c
-crcFrom c (b ∷ l) = crcFrom (crcByte c b) l
+unfoldable pub crc_from : ℕ → List ℕ → ℕ
+crc_from c [] = c
+crc_from c (b ∷ l) = crc_from (crc_byte c b) l
 
 -- CRC_A of bytes, as a number of 16 bits
-unfoldable pub crcA : List ℕ → ℕ
-crcA l = crcFrom 0x6363 l
+unfoldable pub crc_a : List ℕ → ℕ
+crc_a l = crc_from 0x6363 l
 
 -- CRC_A as it is sent, low byte first
-unfoldable pub crcBytes : List ℕ → List ℕ
-crcBytes l = crcA l % 256 ∷ crcA l / 256 ∷ []
+unfoldable pub crc_bytes : List ℕ → List ℕ
+crc_bytes l = crc_a l % 256 ∷ crc_a l / 256 ∷ []
 
 -- bytes and then their CRC_A
-unfoldable pub withCrc : List ℕ → List ℕ
-withCrc l = l ++ crcBytes l
+unfoldable pub with_crc : List ℕ → List ℕ
+with_crc l = l ++ crc_bytes l
 
 -- the last two bytes are the CRC_A of those before; fewer than two bytes have none
-unfoldable pub crcGood : List ℕ → Bool
-crcGood l = same l (withCrc (take (length l - 2) l))
+unfoldable pub crc_good : List ℕ → Bool
+crc_good l = same l (with_crc (take (length l - 2) l))

@@ -16,5 +16,5 @@ unfoldable pub placed : ℕ → ℕ
 placed j = j % 16 * 16 ^ (j / 16)
 
 -- the table of n bits by half bytes: for each half byte at each of the four places, what they make of a register that holds it
-unfoldable pub halfTable : ℕ → List ℕ
-halfTable n = entries (λ j. shifts n (placed j)) 0 64
+unfoldable pub half_table : ℕ → List ℕ
+half_table n = entries (λ j. shifts n (placed j)) 0 64

@@ -3,9 +3,9 @@ use Rattle.std.specs.Prelude.{◌≡◌, ℕ, zero, suc, ◌+◌, ◌*◌, ◌/�
 use Rattle.std.proofs.Common.{sym, ◌∙◌, arith}
 use Rattle.std.specs.Int.Bits.{bit_xor}
 use Rattle.std.proofs.lemmas.Nat.{xor_lt}
-use Rattle.crc.specs.Crc.{shifts, crcByte}
-use Rattle.crc.specs.Table.{entries, table, placed, halfTable}
-use Rattle.crc.specs.LinearLaws.{shifts-byte, shifts-pair, shifts-halves, pair-shifts}
+use Rattle.crc.specs.Crc.{shifts, crc_byte}
+use Rattle.crc.specs.Table.{entries, table, placed, half_table}
+use Rattle.crc.specs.LinearLaws.{shifts_byte, shifts_pair, shifts_halves, pair_shifts}
 
 entry : (f : ℕ → ℕ) (i k j : ℕ) → j < k → get_or (entries f i k) j 0 ≡ f (i + j)
 unfolding entries
@@ -17,27 +17,27 @@ table_at : (n : ℕ) (t : List ℕ) (j : ℕ) → t ≡ table n → j < 256 → 
 unfolding table
 table_at n t j e h = let z : 0 + j ≡ j = omega arith in rw e (rw z at (entry (shifts n) 0 256 j h))
 
-half_at : (n : ℕ) (t : List ℕ) (j : ℕ) → t ≡ halfTable n → j < 64 → get_or t j 0 ≡ shifts n (placed j)
-unfolding halfTable
+half_at : (n : ℕ) (t : List ℕ) (j : ℕ) → t ≡ half_table n → j < 64 → get_or t j 0 ≡ shifts n (placed j)
+unfolding half_table
 half_at n t j e h = let z : 0 + j ≡ j = omega arith in rw e (rw z at (entry (λ j. shifts n (placed j)) 0 64 j h))
 
-pub byte-by-table : (t : List ℕ) (c b : ℕ) → t ≡ table 8 → bit_xor (get_or t (bit_xor c b % 256) 0) (bit_xor c b / 256) ≡ crcByte c b
-unfolding crcByte
-byte-by-table t c b e = rw (table_at 8 t (bit_xor c b % 256) e (omega arith)) (sym (shifts-byte (bit_xor c b)))
+pub byte_by_table : (t : List ℕ) (c b : ℕ) → t ≡ table 8 → bit_xor (get_or t (bit_xor c b % 256) 0) (bit_xor c b / 256) ≡ crc_byte c b
+unfolding crc_byte
+byte_by_table t c b e = rw (table_at 8 t (bit_xor c b % 256) e (omega arith)) (sym (shifts_byte (bit_xor c b)))
 
-pub pair-by-table : (t u : List ℕ) (c a b : ℕ) → t ≡ table 8 → u ≡ table 16 → c < 65536 → a < 256 → b < 256
-    → bit_xor (get_or u (bit_xor c (a + b * 256) % 256) 0) (get_or t (bit_xor c (a + b * 256) / 256) 0) ≡ crcByte (crcByte c a) b
-pair-by-table t u c a b e f h k m =
+pub pair_by_table : (t u : List ℕ) (c a b : ℕ) → t ≡ table 8 → u ≡ table 16 → c < 65536 → a < 256 → b < 256
+    → bit_xor (get_or u (bit_xor c (a + b * 256) % 256) 0) (get_or t (bit_xor c (a + b * 256) / 256) 0) ≡ crc_byte (crc_byte c a) b
+pair_by_table t u c a b e f h k m =
     let x : ℕ = bit_xor c (a + b * 256) in
     let l : x < 65536 = xor_lt 16 c (a + b * 256) h (omega arith) in
     rw (table_at 16 u (x % 256) f (omega arith), table_at 8 t (x / 256) e (omega arith))
-    (sym (shifts-pair x) ∙ sym (pair-shifts c a b k))
+    (sym (shifts_pair x) ∙ sym (pair_shifts c a b k))
 
-pub eight-by-table : (t : List ℕ) (c : ℕ) → t ≡ halfTable 64 → c < 65536
+pub eight_by_table : (t : List ℕ) (c : ℕ) → t ≡ half_table 64 → c < 65536
     → bit_xor (bit_xor (bit_xor (get_or t (c % 16) 0) (get_or t (16 + c / 16 % 16) 0)) (get_or t (32 + c / 256 % 16) 0)) (get_or t (48 + c / 4096) 0)
     ≡ shifts 64 c
 unfolding placed
-eight-by-table t c e h =
+eight_by_table t c e h =
     let m0 : c % 16 % 16 ≡ c % 16 = omega arith in
     let d0 : c % 16 / 16 ≡ 0 = omega arith in
     let m1 : (16 + c / 16 % 16) % 16 ≡ c / 16 % 16 = omega arith in
@@ -62,4 +62,4 @@ eight-by-table t c e h =
       d3,
       o,
     )
-    (sym (shifts-halves 64 c))
+    (sym (shifts_halves 64 c))

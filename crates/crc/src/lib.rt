@@ -7,9 +7,9 @@
 // function, without a loop or a branch. Eight bytes are taken from a register of 0, so that they do not wait for those before them; the last table
 // brings the register over them.
 ghost use Rattle.std.specs.Prelude.{◌≡◌, get_or};
-ghost use Rattle.crc.specs.Crc.{shifts, crcByte, crcFrom, crcA, crcBytes, crcGood};
-ghost use Rattle.crc.specs.CrcOf.{crcOf, sentOf, goodOf, crcB, crcBytesB, crcGoodB};
-ghost use Rattle.crc.specs.Table.{table, halfTable};
+ghost use Rattle.crc.specs.Crc.{shifts, crc_byte, crc_from, crc_a, crc_bytes, crc_good};
+ghost use Rattle.crc.specs.CrcOf.{crc_of, sent_of, good_of, crc_b, crc_bytes_b, crc_good_b};
+ghost use Rattle.crc.specs.Table.{table, half_table};
 
 mod tables;
 
@@ -33,7 +33,7 @@ fn entry(t: &[u16; 256], b: u8) -> u16
 // The register after one byte more.
 fn crc_byte(one: &[u16; 256], c: u16, b: u8) -> u16
     requires { one.now ≡ table 8 }
-    ensures { result ≡ crcByte c b }
+    ensures { result ≡ crc_byte c b }
 {
     let x = c ^ (b as u16);
     entry(one, (x % 256) as u8) ^ (x / 256)
@@ -42,7 +42,7 @@ fn crc_byte(one: &[u16; 256], c: u16, b: u8) -> u16
 // .. after bytes, one at a time.
 fn by_bytes(one: &[u16; 256], start: u16, bytes: &[u8]) -> u16
     requires { one.now ≡ table 8 }
-    ensures { result ≡ crcFrom start bytes.now }
+    ensures { result ≡ crc_from start bytes.now }
 {
     let mut c = start;
     for i in 0..bytes.len() {
@@ -54,7 +54,7 @@ fn by_bytes(one: &[u16; 256], start: u16, bytes: &[u8]) -> u16
 // .. after two bytes more.
 fn crc_pair(one: &[u16; 256], two: &[u16; 256], c: u16, a: u8, b: u8) -> u16
     requires { (one.now ≡ table 8) × (two.now ≡ table 16) }
-    ensures { result ≡ crcByte (crcByte c a) b }
+    ensures { result ≡ crc_byte (crc_byte c a) b }
 {
     let x = c ^ ((a as u16) + (b as u16) * 256);
     entry(two, (x % 256) as u8) ^ entry(one, (x / 256) as u8)
@@ -63,7 +63,7 @@ fn crc_pair(one: &[u16; 256], two: &[u16; 256], c: u16, a: u8, b: u8) -> u16
 // .. after bytes, two at a time.
 fn by_pairs(one: &[u16; 256], two: &[u16; 256], start: u16, bytes: &[u8]) -> u16
     requires { (one.now ≡ table 8) × (two.now ≡ table 16) }
-    ensures { result ≡ crcFrom start bytes.now }
+    ensures { result ≡ crc_from start bytes.now }
 {
     let mut c = start;
     let mut i = 0usize;
@@ -76,7 +76,7 @@ fn by_pairs(one: &[u16; 256], two: &[u16; 256], start: u16, bytes: &[u8]) -> u16
 
 // .. after eight bytes of zeros.
 fn over_eight(over: &[u16; 64], c: u16) -> u16
-    requires { over.now ≡ halfTable 64 }
+    requires { over.now ≡ half_table 64 }
     ensures { result ≡ shifts 64 c }
 {
     let low = over[(c % 16) as usize] ^ over[(16 + c / 16 % 16) as usize];
@@ -85,8 +85,8 @@ fn over_eight(over: &[u16; 64], c: u16) -> u16
 
 // .. after bytes, eight at a time.
 fn by_eights(one: &[u16; 256], two: &[u16; 256], over: &[u16; 64], start: u16, bytes: &[u8]) -> u16
-    requires { (one.now ≡ table 8) × (two.now ≡ table 16) × (over.now ≡ halfTable 64) }
-    ensures { result ≡ crcFrom start bytes.now }
+    requires { (one.now ≡ table 8) × (two.now ≡ table 16) × (over.now ≡ half_table 64) }
+    ensures { result ≡ crc_from start bytes.now }
 {
     let mut c = start;
     let mut i = 0usize;
@@ -100,7 +100,7 @@ fn by_eights(one: &[u16; 256], two: &[u16; 256], over: &[u16; 64], start: u16, b
 // .. after bytes, with all tables at hand.
 fn by_all(one: &[u16; 256], start: u16, bytes: &[u8]) -> u16
     requires { one.now ≡ table 8 }
-    ensures { result ≡ crcFrom start bytes.now }
+    ensures { result ≡ crc_from start bytes.now }
 {
     by_eights(one, &tables::TWO_BYTES, &tables::OVER_EIGHT, start, bytes)
 }
@@ -108,7 +108,7 @@ fn by_all(one: &[u16; 256], start: u16, bytes: &[u8]) -> u16
 // .. after bytes. Below sixteen the first table does: there are no two eights that could go side by side.
 fn by_tables(one: &[u16; 256], start: u16, bytes: &[u8]) -> u16
     requires { one.now ≡ table 8 }
-    ensures { result ≡ crcFrom start bytes.now }
+    ensures { result ≡ crc_from start bytes.now }
 {
     if bytes.len() < 16 {
         return by_bytes(one, start, bytes);
@@ -118,14 +118,14 @@ fn by_tables(one: &[u16; 256], start: u16, bytes: &[u8]) -> u16
 
 // The CRC of bytes, by its start value and by what the register is turned by at the end.
 fn crc_of(start: u16, end: u16, bytes: &[u8]) -> u16
-    ensures { result ≡ crcOf start end bytes.now }
+    ensures { result ≡ crc_of start end bytes.now }
 {
     by_tables(&tables::ONE_BYTE, start, bytes) ^ end
 }
 
 // .. as it is sent, low byte first.
 fn sent_of(start: u16, end: u16, bytes: &[u8]) -> [u8; 2]
-    ensures { result ≡ sentOf start end bytes.now }
+    ensures { result ≡ sent_of start end bytes.now }
 {
     let c = crc_of(start, end, bytes);
     [(c % 256) as u8, (c / 256) as u8]
@@ -133,7 +133,7 @@ fn sent_of(start: u16, end: u16, bytes: &[u8]) -> [u8; 2]
 
 // Are the last two bytes the CRC of those before? Fewer than two bytes have none.
 fn is_good_of(start: u16, end: u16, bytes: &[u8]) -> bool
-    ensures { result ≡ goodOf start end bytes.now }
+    ensures { result ≡ good_of start end bytes.now }
 {
     if bytes.len() < 2 {
         return false;
@@ -145,42 +145,42 @@ fn is_good_of(start: u16, end: u16, bytes: &[u8]) -> bool
 
 // CRC_A of bytes.
 pub fn crc_a(bytes: &[u8]) -> u16
-    ensures { result ≡ crcA bytes.now }
+    ensures { result ≡ crc_a bytes.now }
 {
     crc_of(START_A, END_A, bytes)
 }
 
 // CRC_A of bytes as it is sent, low byte first.
 pub fn crc_bytes(bytes: &[u8]) -> [u8; 2]
-    ensures { result ≡ crcBytes bytes.now }
+    ensures { result ≡ crc_bytes bytes.now }
 {
     sent_of(START_A, END_A, bytes)
 }
 
 // Are the last two bytes the CRC_A of those before? Fewer than two bytes have none.
 pub fn is_good(bytes: &[u8]) -> bool
-    ensures { result ≡ crcGood bytes.now }
+    ensures { result ≡ crc_good bytes.now }
 {
     is_good_of(START_A, END_A, bytes)
 }
 
 // CRC_B of bytes.
 pub fn crc_b(bytes: &[u8]) -> u16
-    ensures { result ≡ crcB bytes.now }
+    ensures { result ≡ crc_b bytes.now }
 {
     crc_of(START_B, END_B, bytes)
 }
 
 // CRC_B of bytes as it is sent, low byte first.
 pub fn crc_bytes_b(bytes: &[u8]) -> [u8; 2]
-    ensures { result ≡ crcBytesB bytes.now }
+    ensures { result ≡ crc_bytes_b bytes.now }
 {
     sent_of(START_B, END_B, bytes)
 }
 
 // Are the last two bytes the CRC_B of those before? Fewer than two bytes have none.
 pub fn is_good_b(bytes: &[u8]) -> bool
-    ensures { result ≡ crcGoodB bytes.now }
+    ensures { result ≡ crc_good_b bytes.now }
 {
     is_good_of(START_B, END_B, bytes)
 }

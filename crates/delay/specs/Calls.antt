@@ -11,17 +11,17 @@ pub record OffSaid : Type 0 where
   pub number : ℕ
   pub off : ℤ
 
-abbrev pub judgedSays : Judged → OffSaid
-judgedSays (Off z) = record { number = 0; off = z }
-judgedSays TooLong = record { number = 14; off = pos 0 }
+abbrev pub judged_says : Judged → OffSaid
+judged_says (Off z) = record { number = 0; off = z }
+judged_says TooLong = record { number = 14; off = pos 0 }
 
 abbrev pub number_of : Judged → ℕ
-number_of j = (judgedSays j).number
+number_of j = (judged_says j).number
 
 -- measured less due
-unfoldable pub offBy : Kind → Bool → ℕ → ℤ
-offBy k one d = pos d -ℤ pos (due k one d)
+unfoldable pub off_by : Kind → Bool → ℕ → ℤ
+off_by k one d = pos d -ℤ pos (due k one d)
 
-abbrev pub judgeSays : Kind → Bool → ℕ → ℕ → OffSaid
-judgeSays k one sent heard =
-    cond (nat_le 2147483648 (delay sent heard)) (record { number = 14; off = pos 0 }) (record { number = 0; off = offBy k one (delay sent heard) })
+abbrev pub judge_says : Kind → Bool → ℕ → ℕ → OffSaid
+judge_says k one sent heard =
+    cond (nat_le 2147483648 (delay sent heard)) (record { number = 14; off = pos 0 }) (record { number = 0; off = off_by k one (delay sent heard) })

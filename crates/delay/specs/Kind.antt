@@ -11,32 +11,32 @@ use Rattle.delay.specs.declared.Kind.{Kind}
 use Rattle.delay.specs.declared.Kind.TheVariants.{Reqa, Wupa, Anticollision, Select, Other}
 
 -- n bytes with parity, as far as a row has them; bits that are not there are 0
-unfoldable pub bytesIn : ℕ → List ℕ → List ℕ
-bytesIn zero r = []
-bytesIn (suc n) r = unbits (take 8 r) ∷ bytesIn n (drop 9 r)
+unfoldable pub bytes_in : ℕ → List ℕ → List ℕ
+bytes_in zero r = []
+bytes_in (suc n) r = unbits (take 8 r) ∷ bytes_in n (drop 9 r)
 
 -- the level's five bytes, behind SEL and NVB
-unfoldable pub fiveOf : List ℕ → List ℕ
-fiveOf f = bytesIn 5 (drop 18 f)
+unfoldable pub five_of : List ℕ → List ℕ
+five_of f = bytes_in 5 (drop 18 f)
 
 -- a card with these bytes at some level takes it for an ANTICOLLISION that matches
-unfoldable pub isAnticollision : List ℕ → List ℕ → Bool
-isAnticollision five f = matching One five f || (matching Two five f || matching Three five f)
+unfoldable pub is_anticollision : List ℕ → List ℕ → Bool
+is_anticollision five f = matching One five f || (matching Two five f || matching Three five f)
 
 -- .. for the SELECT of some level
-unfoldable pub isSelect : List ℕ → List ℕ → Bool
-isSelect five f = same f (select One five) || (same f (select Two five) || same f (select Three five))
+unfoldable pub is_select : List ℕ → List ℕ → Bool
+is_select five f = same f (select One five) || (same f (select Two five) || same f (select Three five))
 
-unfoldable pub levelKind : List ℕ → Kind
-levelKind f = cond (isAnticollision (fiveOf f) f) Anticollision (cond (isSelect (fiveOf f) f) Select Other)
+unfoldable pub level_kind : List ℕ → Kind
+level_kind f = cond (is_anticollision (five_of f) f) Anticollision (cond (is_select (five_of f) f) Select Other)
 
 unfoldable pub kind_of : List ℕ → Kind
-kind_of f = cond (same f reqa) Reqa (cond (same f wupa) Wupa (levelKind f))
+kind_of f = cond (same f reqa) Reqa (cond (same f wupa) Wupa (level_kind f))
 
 -- "Parity is no data bit": where the row ends in whole bytes its last bit is parity. A short frame and a broken byte have none
-abbrev pub lastBit : List ℕ → ℕ
-lastBit f = slice_index f (length f - cond (length f % 9 == 0) 2 1)
+abbrev pub last_bit : List ℕ → ℕ
+last_bit f = slice_index f (length f - cond (length f % 9 == 0) 2 1)
 
 -- a row that is empty, or whose last data bit collided, is judged as after a 0
-unfoldable pub afterOne : List ℕ → Bool
-afterOne f = lastBit f == 1
+unfoldable pub after_one : List ℕ → Bool
+after_one f = last_bit f == 1

@@ -3,49 +3,49 @@ use Rattle.std.specs.Prelude.{◌≡◌, ℕ, ◌+◌, ◌-◌, ◌%◌, ◌<◌
 use Rattle.std.proofs.Math.Path.{refl}
 use Rattle.std.proofs.Common.{sym, ap, ◌∙◌, true≢false, arith, length-drop, drop_of_length-le, drop-drop, take_all, eq-eqb, ne_eqb}
 use Rattle.rows.specs.Rows.{clean, same, Bits}
-use Rattle.rows.specs.CleanLaws.{bits-clean}
-use Rattle.rows.specs.ListLaws.{same-ne, all_append, all_take}
+use Rattle.rows.specs.CleanLaws.{bits_clean}
+use Rattle.rows.specs.ListLaws.{same_ne, all_append, all_take_law}
 use Rattle.parity.specs.Bits.{unbits}
 use Rattle.frame.specs.Frame.{standard}
-use Rattle.frame.specs.FrameLaws.{bits-standard}
+use Rattle.frame.specs.FrameLaws.{bits_standard}
 use Rattle.uid.specs.declared.Level.{Level}
 use Rattle.uid.specs.declared.Level.TheVariants.{One, Two, Three}
 use Rattle.selection.specs.Selection.{sel, nvb, cut, anticollision, select}
-use Rattle.card.specs.Card.{bitsSent, matching}
+use Rattle.card.specs.Card.{bits_sent, matching}
 use Rattle.delay.specs.declared.Kind.{Kind}
 use Rattle.delay.specs.declared.Kind.TheVariants.{Anticollision, Select, Other}
-use Rattle.delay.specs.Kind.{bytesIn, fiveOf, isAnticollision, isSelect, levelKind, afterOne}
+use Rattle.delay.specs.Kind.{bytes_in, five_of, is_anticollision, is_select, level_kind, after_one}
 
 -- ---- the last data bit
 
-pub after_none : (f : List ℕ) → length f ≡ 0 → false ≡ afterOne f
-unfolding afterOne
+pub after_none : (f : List ℕ) → length f ≡ 0 → false ≡ after_one f
+unfolding after_one
 after_none [] h = refl
 after_none (x ∷ f) h = absurd (omega arith)
 
 module _ (f : List ℕ) where
-  pub after-whole : length f % 9 ≡ 0 → (slice_index f (length f - 2) == 1) ≡ afterOne f
-  unfolding afterOne
-  after-whole h = rw (eq-eqb (length f % 9) 0 h)
+  pub after_whole : length f % 9 ≡ 0 → (slice_index f (length f - 2) == 1) ≡ after_one f
+  unfolding after_one
+  after_whole h = rw (eq-eqb (length f % 9) 0 h)
 
-  pub after-broken : (length f % 9 ≢ 0) → (slice_index f (length f - 1) == 1) ≡ afterOne f
-  unfolding afterOne
-  after-broken h = rw (ne_eqb (length f % 9) 0 h)
+  pub after_broken : (length f % 9 ≢ 0) → (slice_index f (length f - 1) == 1) ≡ after_one f
+  unfolding after_one
+  after_broken h = rw (ne_eqb (length f % 9) 0 h)
 
 -- ---- the five bytes
 
-pub byte-none : (f : List ℕ) (at : ℕ) → length f ≤ at → 0 ≡ unbits (take 8 (drop at f))
+pub byte_none : (f : List ℕ) (at : ℕ) → length f ≤ at → 0 ≡ unbits (take 8 (drop at f))
 unfolding unbits
-byte-none f at h = rw (drop_of_length-le f h)
+byte_none f at h = rw (drop_of_length-le f h)
 
-pub byte-part : (f : List ℕ) (at : ℕ) → length f - at < 8 → unbits (take (length f - at) (drop at f)) ≡ unbits (take 8 (drop at f))
-byte-part f at h =
+pub byte_part : (f : List ℕ) (at : ℕ) → length f - at < 8 → unbits (take (length f - at) (drop at f)) ≡ unbits (take 8 (drop at f))
+byte_part f at h =
     rw (take_all (length f - at) (drop at f) (rw length-drop (omega arith)), take_all 8 (drop at f) (rw length-drop (omega arith)))
 
-pub five-is : (f : List ℕ) → fiveOf f
+pub five_is : (f : List ℕ) → five_of f
     ≡ unbits (take 8 (drop 18 f)) ∷ unbits (take 8 (drop 27 f)) ∷ unbits (take 8 (drop 36 f)) ∷ unbits (take 8 (drop 45 f)) ∷ unbits (take 8 (drop 54 f)) ∷ []
-unfolding fiveOf bytesIn
-five-is f =
+unfolding five_of bytes_in
+five_is f =
     let b : drop 9 (drop 18 f) ≡ drop 27 f = drop-drop 9 18 f in
     let c : drop 9 (drop 27 f) ≡ drop 36 f = drop-drop 9 27 f in
     let d : drop 9 (drop 36 f) ≡ drop 45 f = drop-drop 9 36 f in
@@ -54,31 +54,31 @@ five-is f =
 
 -- ---- the kind
 
-pub level-kind : (f five : List ℕ) {a s : Bool} → five ≡ fiveOf f → isAnticollision five f ≡ a → isSelect five f ≡ s → levelKind f ≡ cond a Anticollision (cond s Select Other)
-unfolding levelKind
-level-kind f five e x y = rw (← e, x, y)
+pub level_kind_law : (f five : List ℕ) {a s : Bool} → five ≡ five_of f → is_anticollision five f ≡ a → is_select five f ≡ s → level_kind f ≡ cond a Anticollision (cond s Select Other)
+unfolding level_kind
+level_kind_law f five e x y = rw (← e, x, y)
 
 -- no frame that is sent has a collided bit
 module _ (f : List ℕ) (u : clean f ≡ false) where
   unlike : (g : List ℕ) → Bits g → same f g ≡ false
-  unlike g b = same-ne f g (λ e. true≢false (sym (bits-clean g b) ∙ ap clean (sym e) ∙ u))
+  unlike g b = same_ne f g (λ e. true≢false (sym (bits_clean g b) ∙ ap clean (sym e) ∙ u))
 
-  not-matching : (l : Level) (five : List ℕ) → matching l five f ≡ false
+  not_matching : (l : Level) (five : List ℕ) → matching l five f ≡ false
   unfolding anticollision
-  not-matching l five =
-      let H : List ℕ = sel l ∷ nvb (bitsSent f) ∷ [] in
-      rw (unlike (anticollision l (bitsSent f) five) (all_append (λ x. x < 2) (standard H) _ (bits-standard H) (all_take (λ x. x < 2) (cut (bitsSent f)) (standard five) (bits-standard five)))) (go (nat_lt (bitsSent f) 40))
+  not_matching l five =
+      let H : List ℕ = sel l ∷ nvb (bits_sent f) ∷ [] in
+      rw (unlike (anticollision l (bits_sent f) five) (all_append (λ x. x < 2) (standard H) _ (bits_standard H) (all_take_law (λ x. x < 2) (cut (bits_sent f)) (standard five) (bits_standard five)))) (go (nat_lt (bits_sent f) 40))
     where
       go : (b : Bool) → (b && false) ≡ false
       go true = refl
       go false = refl
 
-  not-select : (l : Level) (five : List ℕ) → same f (select l five) ≡ false
+  not_select : (l : Level) (five : List ℕ) → same f (select l five) ≡ false
   unfolding select
-  not-select l five = unlike (select l five) (bits-standard _)
+  not_select l five = unlike (select l five) (bits_standard _)
 
-  pub collided-other : levelKind f ≡ Other
-  unfolding levelKind isAnticollision isSelect
-  collided-other =
-      let five : List ℕ = fiveOf f in
-      rw (not-matching One five, not-matching Two five, not-matching Three five, not-select One five, not-select Two five, not-select Three five)
+  pub collided_other : level_kind f ≡ Other
+  unfolding level_kind is_anticollision is_select
+  collided_other =
+      let five : List ℕ = five_of f in
+      rw (not_matching One five, not_matching Two five, not_matching Three five, not_select One five, not_select Two five, not_select Three five)

@@ -23,11 +23,11 @@ module _ (a b : ℕ) where
       go true e = rw (early a b (ltb-true a b e)) (y (ltb-true a b e))
       go false e = rw (late a b (ltb-false a b e)) (x (ltb-false a b e))
 
-  pub apart-is : unsigned_abs (pos a -ℤ pos b) ≡ apart a b
-  apart-is = cases (λ z. unsigned_abs z ≡ apart a b) (λ h. omega arith) (λ h. omega arith)
+  pub apart_is : unsigned_abs (pos a -ℤ pos b) ≡ apart a b
+  apart_is = cases (λ z. unsigned_abs z ≡ apart a b) (λ h. omega arith) (λ h. omega arith)
 
   pub zero_same : pos a -ℤ pos b ≡ pos 0 → a ≡ b
-  zero_same e = let h : apart a b ≡ 0 = sym apart-is ∙ ap unsigned_abs e in omega arith
+  zero_same e = let h : apart a b ≡ 0 = sym apart_is ∙ ap unsigned_abs e in omega arith
 
   -- no more than n + 1 early; no more than n late
   pub at_least : (n : ℕ) → b ≤ a + suc n → negsuc n ≤ℤ (pos a -ℤ pos b)

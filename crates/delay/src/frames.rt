@@ -5,14 +5,14 @@ ghost use Rattle.rows.specs.Rows.{clean, same};
 ghost use Rattle.selection.specs.Selection.{select};
 ghost use Rattle.parity.specs.Bits.{unbits};
 ghost use Rattle.card.specs.Card.{matching};
-ghost use Rattle.delay.specs.Kind.{fiveOf, isAnticollision, isSelect, levelKind, kind_of, afterOne};
+ghost use Rattle.delay.specs.Kind.{five_of, is_anticollision, is_select, level_kind, kind_of, after_one};
 
 use crate::Kind;
 use uid::Level;
 
 // Was the last data bit a 1? Each ninth bit of a row is parity; behind a short frame's bits and a broken byte's there is none.
 pub fn after_one(row: &[u8]) -> bool
-    ensures { result ≡ afterOne row.now }
+    ensures { result ≡ after_one row.now }
 {
     let n = row.len();
     if n == 0 {
@@ -41,7 +41,7 @@ fn byte_from(row: &[u8], at: usize) -> u8
 // The five bytes behind SEL and NVB.
 fn five_of(row: &[u8]) -> [u8; 5]
     requires { clean row.now ≡ true }
-    ensures { result ≡ fiveOf row.now }
+    ensures { result ≡ five_of row.now }
 {
     let a = byte_from(row, 18);
     let b = byte_from(row, 27);
@@ -74,7 +74,7 @@ fn is_matching(row: &[u8], l: Level, five: [u8; 5]) -> bool
 
 // .. of any level?
 fn is_anticollision(row: &[u8], five: [u8; 5]) -> bool
-    ensures { result ≡ isAnticollision five row.now }
+    ensures { result ≡ is_anticollision five row.now }
 {
     if is_matching(row, Level::One, five) {
         return true;
@@ -95,7 +95,7 @@ fn is_select_of(row: &[u8], l: Level, five: [u8; 5]) -> bool
 
 // .. of any level?
 fn is_select(row: &[u8], five: [u8; 5]) -> bool
-    ensures { result ≡ isSelect five row.now }
+    ensures { result ≡ is_select five row.now }
 {
     if is_select_of(row, Level::One, five) {
         return true;
@@ -109,7 +109,7 @@ fn is_select(row: &[u8], five: [u8; 5]) -> bool
 // ANTICOLLISION, SELECT, or another frame.
 fn level_kind(row: &[u8]) -> Kind
     requires { clean row.now ≡ true }
-    ensures { result ≡ levelKind row.now }
+    ensures { result ≡ level_kind row.now }
 {
     let five = five_of(row);
     if is_anticollision(row, five) {

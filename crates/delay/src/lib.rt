@@ -2,8 +2,8 @@
 // answer began at another.
 ghost use Rattle.std.specs.Prelude.{◌≡◌, ◌<◌, pos, ◌-ℤ◌};
 ghost use Rattle.delay.specs.Delay.{grid, point, nearest, fixed, due};
-ghost use Rattle.delay.specs.Kind.{kind_of, afterOne};
-ghost use Rattle.delay.specs.Calls.{judgedSays, judgeSays, number_of};
+ghost use Rattle.delay.specs.Kind.{kind_of, after_one};
+ghost use Rattle.delay.specs.Calls.{judged_says, judge_says, number_of};
 
 mod frames;
 
@@ -75,7 +75,7 @@ fn difference(delay: u32, due: u32) -> i64
 
 // Judges an answer that began at tick `heard` to a frame of this kind whose last pause ended at tick `sent`; `one`: its last data bit was a 1.
 pub fn judge(kind: Kind, one: bool, sent: u32, heard: u32) -> Judged
-    ensures { judgedSays result ≡ judgeSays kind one sent heard }
+    ensures { judged_says result ≡ judge_says kind one sent heard }
 {
     let delay = std::num::wrapping_sub_u32(heard, sent);
     if 2147483648 <= delay {
@@ -87,7 +87,7 @@ pub fn judge(kind: Kind, one: bool, sent: u32, heard: u32) -> Judged
 
 // .. to the reader's frame `row`, one byte for each air bit. Its kind and its last data bit are found in the row.
 pub fn judge_row(row: &[u8], sent: u32, heard: u32) -> Judged
-    ensures { judgedSays result ≡ judgeSays (kind_of row.now) (afterOne row.now) sent heard }
+    ensures { judged_says result ≡ judge_says (kind_of row.now) (after_one row.now) sent heard }
 {
     let kind = frames::kind_of(row);
     let one = frames::after_one(row);

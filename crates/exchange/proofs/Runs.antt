@@ -9,12 +9,12 @@ use Rattle.block.specs.declared.Told.{Told}
 use Rattle.block.specs.declared.Told.TheVariants.{Quiet, Message, Refused}
 use Rattle.rows.specs.Rows.{overlay}
 use Rattle.selection.specs.Selection.{size}
-use Rattle.block.specs.Cut.{payloadMax, follows, part, fits}
-use Rattle.block.specs.Block.{kind, wtxOk}
-use Rattle.card_blocks.specs.CardRules.{cardOpen, lentFor, cardTakes, cardReplies, cardAsks, cardI, cardTakesI, cardTakesAck, cardTakesNak}
-use Rattle.card_blocks.specs.CardFrames.{cardBlock, cardReply, cardWtx, cardOut}
-use Rattle.reader_blocks.specs.ReaderRules.{readerOpen, readerI, readerAgain, readerRepeats, readerEchoes, readerStarts, readerTakesI, readerTakesAck, lentFor as messageFor}
-use Rattle.reader_blocks.specs.ReaderFrames.{readerBlock, readerSend, readerOut}
+use Rattle.block.specs.Cut.{payload_max, follows, part, fits}
+use Rattle.block.specs.Block.{kind, wtx_ok}
+use Rattle.card_blocks.specs.CardRules.{card_open, lent_for, card_takes, card_replies, card_asks, card_i, card_takes_i, card_takes_ack, card_takes_nak}
+use Rattle.card_blocks.specs.CardFrames.{card_block, card_reply, card_wtx, card_out}
+use Rattle.reader_blocks.specs.ReaderRules.{reader_open, reader_i, reader_again, reader_repeats, reader_echoes, reader_starts, reader_takes_i, reader_takes_ack, lent_for as messageFor}
+use Rattle.reader_blocks.specs.ReaderFrames.{reader_block, reader_send, reader_out}
 use Rattle.exchange.specs.Exchange.{Fate, Arrives, Fails, Act, Answers, Asks, Waits, Round, clean, passes, Run, exchange, talk}
 
 -- n bytes that count up from b
@@ -38,7 +38,7 @@ seen r = (r.got, r.told, length r.downs, r.ends.down, r.ends.up)
 
 -- the run of a message and its answer, with buffers of d bytes and u bytes
 runs : List ℕ → List ℕ → List Round → ℕ → ℕ → List (List ℕ) × Told × ℕ × List ℕ × List ℕ
-runs m a xs d u = seen (talk m a xs (record { reader = readerOpen 0 0 false; card = cardOpen 0 0; down = unheld d; up = unheld u; lent = [] }))
+runs m a xs d u = seen (talk m a xs (record { reader = reader_open 0 0 false; card = card_open 0 0; down = unheld d; up = unheld u; lent = [] }))
 
 table :
     -- an empty message and an empty answer
@@ -75,5 +75,5 @@ table :
     × (runs (from 0x30 3) (from 0x30 3) (clean ∷ clean ∷ clean ∷ clean ∷ clean ∷ clean ∷ clean ∷ clean ∷ []) 2 16 ≡ ([], Refused Forbidden, 6, unheld 2, unheld 16))
     -- a reader's: 10
     × (runs (from 0x30 3) (from 0x30 3) (clean ∷ clean ∷ []) 16 2 ≡ ((from 0x30 3) ∷ [], Refused TooLong, 1, held 0x30 3 13, unheld 2))
-unfolding from unheld held round runs seen talk exchange passes cardBlock cardReply cardWtx cardOut lentFor cardTakes messageFor cardTakesI cardTakesAck cardTakesNak cardReplies cardAsks cardI size payloadMax kind follows part fits wtxOk overlay readerBlock readerTakesI readerTakesAck readerSend readerOut readerI readerAgain readerRepeats readerEchoes readerStarts
+unfolding from unheld held round runs seen talk exchange passes card_block card_reply card_wtx card_out lent_for card_takes messageFor card_takes_i card_takes_ack card_takes_nak card_replies card_asks card_i size payload_max kind follows part fits wtx_ok overlay reader_block reader_takes_i reader_takes_ack reader_send reader_out reader_i reader_again reader_repeats reader_echoes reader_starts
 table = (refl, refl, refl, refl, refl, refl, refl, refl, refl, refl, refl, refl, refl, refl, refl, refl, refl)

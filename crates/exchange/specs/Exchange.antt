@@ -10,13 +10,13 @@ use Rattle.card_blocks.specs.declared.CardLink.{CardLink}
 use Rattle.reader_blocks.specs.declared.ReaderLink.{ReaderLink}
 use Rattle.rows.specs.Rows.{overlay}
 use Rattle.frame.specs.Frame.{Verdict, Fault}
-use Rattle.block.specs.Cut.{cut, lastNumber}
+use Rattle.block.specs.Cut.{cut, last_number}
 use Rattle.block.specs.Out.{Out}
-use Rattle.block.specs.Block.{block_of, isI, verdict}
+use Rattle.block.specs.Block.{block_of, is_i, verdict}
 use Rattle.card_blocks.specs.CardRules.{owes}
-use Rattle.card_blocks.specs.CardFrames.{cardBlock, cardReply, cardWtx}
-use Rattle.reader_blocks.specs.ReaderRules.{readerOpen}
-use Rattle.reader_blocks.specs.ReaderFrames.{readerBlock, readerSend}
+use Rattle.card_blocks.specs.CardFrames.{card_block, card_reply, card_wtx}
+use Rattle.reader_blocks.specs.ReaderRules.{reader_open}
+use Rattle.reader_blocks.specs.ReaderFrames.{reader_block, reader_send}
 
 -- a frame on its way arrives, or fails one of the tests 7, 2, 8, 3, 4 where it is heard
 pub data Fate : Type 0 where
@@ -53,8 +53,8 @@ carried (Fails e) i bytes = Fault e
 
 -- the card's host, with the answer a: what the card does then, and the answer that is lent from now on
 abbrev pub acts : Act → Out CardLink → List ℕ → List ℕ → Out CardLink × List ℕ
-acts Answers o a lent = (cardReply o.link a o.buffer, a)
-acts (Asks v) o a lent = (cardWtx o.link v o.buffer, lent)
+acts Answers o a lent = (card_reply o.link a o.buffer, a)
+acts (Asks v) o a lent = (card_wtx o.link v o.buffer, lent)
 acts Waits o a lent = (o, lent)
 
 abbrev pub delivered : Told → List ℕ → List (List ℕ)
@@ -75,9 +75,9 @@ pub record Passed : Type 0 where
 -- a round: the card hears the frame f, its host acts if an answer is owed, the reader hears what the card sends
 unfoldable pub passes : List ℕ → List ℕ → Round → Ends → List ℕ → Passed
 passes m a x e f =
-    let c : Out CardLink = cardBlock e.card (carried x.down e.card.own f) e.lent e.down in
+    let c : Out CardLink = card_block e.card (carried x.down e.card.own f) e.lent e.down in
     let h : Out CardLink × List ℕ = cond (owes c.link.phase) (acts x.host c a e.lent) (c, e.lent) in
-    let r : Out ReaderLink = readerBlock e.reader (carried x.up e.reader.own h.0.sent) m e.up in
+    let r : Out ReaderLink = reader_block e.reader (carried x.up e.reader.own h.0.sent) m e.up in
     record {
       got = delivered c.told c.buffer;
       reply = h.0.sent;
@@ -94,12 +94,12 @@ pub record Run : Type 0 where
   pub told : Told
   pub ends : Ends
 
-abbrev pub isQuiet : Told → Bool
-isQuiet Quiet = true
-isQuiet (Message n) = false
-isQuiet Granted = false
-isQuiet Deselected = false
-isQuiet (Refused e) = false
+abbrev pub is_quiet : Told → Bool
+is_quiet Quiet = true
+is_quiet (Message n) = false
+is_quiet Granted = false
+is_quiet Deselected = false
+is_quiet (Refused e) = false
 
 abbrev pub over : Told → Ends → Run
 over t e = record { got = []; downs = []; ups = []; told = t; ends = e }
@@ -113,7 +113,7 @@ exchange m a [] e t f = over t e
 exchange m a (x ∷ xs) e t f =
     let p : Passed = passes m a x e f in
     let r : Run = exchange m a xs p.ends p.told p.next in
-    cond (isQuiet t) (after f p r) (over t e)
+    cond (is_quiet t) (after f p r) (over t e)
 
 -- the ends when the reader's host has handed in a message, and the reader has done s
 abbrev pub handed : Ends → Out ReaderLink → Ends
@@ -121,12 +121,12 @@ handed e s = record { reader = s.link; card = e.card; down = e.down; up = s.buff
 
 -- the reader's host hands in the message m, whose answer is a
 unfoldable pub talk : List ℕ → List ℕ → List Round → Ends → Run
-talk m a xs e = let s : Out ReaderLink = readerSend e.reader m e.up in exchange m a xs (handed e s) s.told s.sent
+talk m a xs e = let s : Out ReaderLink = reader_send e.reader m e.up in exchange m a xs (handed e s) s.told s.sent
 
 -- those of the frames that are I blocks
-unfoldable pub iBlocks : List (List ℕ) → List (List ℕ)
-iBlocks [] = []
-iBlocks (f ∷ fs) = cond (isI (block_of f)) (f ∷ iBlocks fs) (iBlocks fs)
+unfoldable pub i_blocks : List (List ℕ) → List (List ℕ)
+i_blocks [] = []
+i_blocks (f ∷ fs) = cond (is_i (block_of f)) (f ∷ i_blocks fs) (i_blocks fs)
 
 -- a block that a card in Protocol may have sent last: DESELECT's answer leaves Protocol, and WTX has one byte
 abbrev pub Fine : Block → Type 0
@@ -140,7 +140,7 @@ Fine Nothing = Unit
 
 -- between messages: the reader of size index i is open, the card of size index j listens, the numbers differ
 pub record Between (i j : ℕ) (e : Ends) : Type 0 where
-  pub reader : e.reader ≡ readerOpen i j e.reader.number
+  pub reader : e.reader ≡ reader_open i j e.reader.number
   pub number : e.card.number ≡ not e.reader.number
   pub phase : e.card.phase ≡ Receiving
   pub joined : e.card.joined ≡ 0
@@ -164,5 +164,5 @@ pub record Exchanged (i j : ℕ) (m a : List ℕ) (e : Ends) (r : Run) : Type 0 
   pub down : r.ends.down ≡ overlay e.down 0 m
   -- the I blocks each way are just those into which the message and the answer are cut, the first with the reader's number; the answer goes on
   -- with the number of the message's last block
-  pub downs : iBlocks r.downs ≡ cut j e.reader.number m
-  pub ups : iBlocks r.ups ≡ cut i (lastNumber j e.reader.number m) a
+  pub downs : i_blocks r.downs ≡ cut j e.reader.number m
+  pub ups : i_blocks r.ups ≡ cut i (last_number j e.reader.number m) a

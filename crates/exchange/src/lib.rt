@@ -6,13 +6,13 @@
 // specs/Lossy.antt: the run on rows where frames may be lost or damaged, of which `rowTalk` is the case without errors; `lossy` is that run.
 // What holds of it is in crate lost_blocks.
 ghost use Rattle.std.specs.Prelude.{◌≡◌, true, false, cond, ℕ, ◌-◌, ◌^◌, ◌≤◌, ◌<◌, length, take, get_or};
-ghost use Rattle.limits.specs.Limits.{rowRoom};
+ghost use Rattle.limits.specs.Limits.{row_room};
 ghost use Rattle.rows.specs.Rows.{overlay};
-ghost use Rattle.card_link.specs.CardCalls.{takeCall, turn_of};
-ghost use Rattle.exchange.specs.Exchange.{isQuiet};
-ghost use Rattle.exchange.specs.RowExchange.{toldOf, toldBy, Terms};
-ghost use Rattle.exchange.specs.Lossy.{heardAs, passageOf, actOf, roundBy, fatesAt, roundsFrom};
-ghost use Rattle.exchange.specs.Steps.{endsOf, actsOn, actsRow, hosted, hostedRow, countIn, lastIn, advanced, begun, goesOn, doneBy, Fit, state_of, roundOf, outcomeOf, exchangeOf, lossyOf};
+ghost use Rattle.card_link.specs.CardCalls.{take_call, turn_of};
+ghost use Rattle.exchange.specs.Exchange.{is_quiet};
+ghost use Rattle.exchange.specs.RowExchange.{told_of, told_by, Terms};
+ghost use Rattle.exchange.specs.Lossy.{heard_as, passage_of, act_of, round_by, fates_at, rounds_from};
+ghost use Rattle.exchange.specs.Steps.{ends_of, acts_on, acts_row, hosted, hosted_row, count_in, last_in, advanced, begun, goes_on, done_by, Fit, state_of, round_of, outcome_of, exchange_of, lossy_of};
 ghost use Rattle.exchange.specs.Promise.{Exchanges};
 
 use block::Told;
@@ -64,7 +64,7 @@ pub struct Hosted {
 }
 
 fn told_of(a: Answer) -> Told
-    ensures { result ≡ toldOf a }
+    ensures { result ≡ told_of a }
 {
     match a {
         Answer::Sends(_) => Told::Quiet,
@@ -77,7 +77,7 @@ fn told_of(a: Answer) -> Told
 
 // What the reader's host is told of its message.
 fn told_by(a: LinkAnswer) -> Told
-    ensures { result ≡ toldBy a }
+    ensures { result ≡ told_by a }
 {
     match a {
         LinkAnswer::Selection(s) => told_of(s),
@@ -87,7 +87,7 @@ fn told_by(a: LinkAnswer) -> Told
 }
 
 fn is_quiet(t: Told) -> bool
-    ensures { result ≡ isQuiet t }
+    ensures { result ≡ is_quiet t }
 {
     match t {
         Told::Quiet => true,
@@ -108,9 +108,9 @@ fn card_turn(
     down: &mut [u8],
     out: &mut [u8],
 ) -> CardTurn
-    ensures value { result ≡ turn_of (takeCall y row.now (cond answered answer.now before.now) down.old (length out.old)) }
-    ensures down_after { down.new ≡ (takeCall y row.now (cond answered answer.now before.now) down.old (length out.old)).buffer }
-    ensures out_after { out.new ≡ overlay out.old 0 (takeCall y row.now (cond answered answer.now before.now) down.old (length out.old)).sent }
+    ensures value { result ≡ turn_of (take_call y row.now (cond answered answer.now before.now) down.old (length out.old)) }
+    ensures down_after { down.new ≡ (take_call y row.now (cond answered answer.now before.now) down.old (length out.old)).buffer }
+    ensures out_after { out.new ≡ overlay out.old 0 (take_call y row.now (cond answered answer.now before.now) down.old (length out.old)).sent }
 {
     if answered {
         return card_link::whole::take(y, row, answer, down, out);
@@ -120,7 +120,7 @@ fn card_turn(
 
 // What an end hears of a frame.
 fn heard_as<'a>(fate: u8, frame: &'a [u8], noise: &'a [u8]) -> &'a [u8]
-    ensures { result.now ≡ heardAs (passageOf noise.now fate) frame.now }
+    ensures { result.now ≡ heard_as (passage_of noise.now fate) frame.now }
 {
     if fate == 0 {
         return frame;
@@ -140,8 +140,8 @@ fn host_acts(
     answer: &[u8],
     out: &mut [u8],
 ) -> Hosted
-    ensures value { result ≡ actsOn (actOf act) y bits answered answer.now (length out.old) }
-    ensures out_after { out.new ≡ actsRow (actOf act) y answer.now out.old }
+    ensures value { result ≡ acts_on (act_of act) y bits answered answer.now (length out.old) }
+    ensures out_after { out.new ≡ acts_row (act_of act) y answer.now out.old }
 {
     if act == 0 {
         let t = card_link::whole::reply(y, answer, out);
@@ -177,8 +177,8 @@ fn host_turn(
     answer: &[u8],
     out: &mut [u8],
 ) -> Hosted
-    ensures value { result ≡ hosted (actOf act) y bits answered answer.now (length out.old) }
-    ensures out_after { out.new ≡ hostedRow (actOf act) y answer.now out.old }
+    ensures value { result ≡ hosted (act_of act) y bits answered answer.now (length out.old) }
+    ensures out_after { out.new ≡ hosted_row (act_of act) y answer.now out.old }
 {
     if card_link::whole::is_owing(y) {
         return host_acts(y, bits, answered, act, answer, out);
@@ -192,7 +192,7 @@ fn host_turn(
 
 // How many messages the card's host got.
 fn count_in(t: Told) -> usize
-    ensures { result ≡ countIn t }
+    ensures { result ≡ count_in t }
 {
     match t {
         Told::Quiet => 0,
@@ -205,7 +205,7 @@ fn count_in(t: Told) -> usize
 
 // How many bytes the last of them has.
 fn last_in(t: Told, last: usize) -> usize
-    ensures { result ≡ lastIn t last }
+    ensures { result ≡ last_in t last }
 {
     match t {
         Told::Quiet => last,
@@ -249,8 +249,8 @@ fn round(
     up: &mut [u8],
     row: &mut [u8],
 ) -> Progress
-    requires { Fit p × (p.rounds < 2 ^ 64 - 1) × (length row.old ≡ rowRoom) }
-    ensures row_after { state_of result before.now answer.now down.new up.new row.new ≡ roundOf message.now answer.now (roundBy noise.now x) (state_of p before.now answer.now down.old up.old row.old) }
+    requires { Fit p × (p.rounds < 2 ^ 64 - 1) × (length row.old ≡ row_room) }
+    ensures row_after { state_of result before.now answer.now down.new up.new row.new ≡ round_of message.now answer.now (round_by noise.now x) (state_of p before.now answer.now down.old up.old row.old) }
     ensures fit { Fit result }
 {
     let y = p.card;
@@ -286,7 +286,7 @@ fn at(numbers: &[u8], k: usize) -> u8
 
 // The numbers of round k.
 fn fates_at(downs: &[u8], hosts: &[u8], ups: &[u8], k: usize) -> Fates
-    ensures { result ≡ fatesAt downs.now hosts.now ups.now k }
+    ensures { result ≡ fates_at downs.now hosts.now ups.now k }
 {
     Fates {
         down: at(downs, k),
@@ -315,7 +315,7 @@ fn begin(turn: LinkTurn, card: LinkCard) -> Progress
 
 // Is a round left, and has the reader's host been told nothing?
 fn goes_on(p: Progress, rounds: usize) -> bool
-    ensures { result ≡ goesOn p rounds }
+    ensures { result ≡ goes_on p rounds }
 {
     if p.rounds < rounds {
         let told = p.told;
@@ -325,7 +325,7 @@ fn goes_on(p: Progress, rounds: usize) -> bool
 }
 
 fn done(p: Progress) -> Outcome
-    ensures { result ≡ doneBy p }
+    ensures { result ≡ done_by p }
 {
     let reader = p.reader;
     let card = p.card;
@@ -358,7 +358,7 @@ pub fn lossy(
     down: &mut [u8],
     up: &mut [u8],
 ) -> Outcome
-    ensures { outcomeOf result before.now answer.now down.new up.new ≡ lossyOf reader card message.now before.now answer.now (roundsFrom noise.now downs.now hosts.now ups.now 0 rounds) down.old up.old }
+    ensures { outcome_of result before.now answer.now down.new up.new ≡ lossy_of reader card message.now before.now answer.now (rounds_from noise.now downs.now hosts.now ups.now 0 rounds) down.old up.old }
 {
     let mut row = [0u8; limits::ROW_ROOM];
     let turn = reader_link::whole::send(reader, message, &mut row);
@@ -383,8 +383,8 @@ pub fn exchange(
     down: &mut [u8],
     up: &mut [u8],
 ) -> Outcome
-    ensures up_after { outcomeOf result before.now answer.now down.new up.new ≡ exchangeOf reader card message.now before.now answer.now rounds down.old up.old }
-    ensures by_index { (i j : ℕ) → Terms i j message.now answer.now rounds (endsOf reader card down.old up.old false before.now answer.now) → Exchanges i j reader card message.now before.now answer.now rounds down.old up.old result down.new up.new }
+    ensures up_after { outcome_of result before.now answer.now down.new up.new ≡ exchange_of reader card message.now before.now answer.now rounds down.old up.old }
+    ensures by_index { (i j : ℕ) → Terms i j message.now answer.now rounds (ends_of reader card down.old up.old false before.now answer.now) → Exchanges i j reader card message.now before.now answer.now rounds down.old up.old result down.new up.new }
 {
     lossy(
         reader, card, message, before, answer, b"", b"", b"", b"", rounds, down, up,

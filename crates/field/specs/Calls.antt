@@ -3,7 +3,7 @@ use Rattle.std.specs.Prelude.{ℕ, List, ◌++◌, length, take, drop}
 use Rattle.card.specs.Card.{takes, answers}
 use Rattle.card.specs.declared.Card.{Card}
 use Rattle.field.specs.Merge.{join}
-use Rattle.field.specs.Field.{allTake, heardFrom}
+use Rattle.field.specs.Field.{all_take, heard_from}
 use Rattle.field.specs.declared.within.One.{One}
 use Rattle.field.specs.declared.within.Together.{Together}
 
@@ -12,8 +12,8 @@ abbrev pub one : Card → List ℕ → List ℕ → One
 one c f s = record { card = takes c f; bits = length (join (answers c f) s) }
 
 -- the first n cards take the frame, the others are not in the field
-unfoldable pub cardsAfter : List Card → ℕ → List ℕ → List Card
-cardsAfter cs n f = allTake f (take n cs) ++ drop n cs
+unfoldable pub cards_after : List Card → ℕ → List ℕ → List Card
+cards_after cs n f = all_take f (take n cs) ++ drop n cs
 
 abbrev pub together : List Card → ℕ → List ℕ → Together
-together cs n f = record { cards = cardsAfter cs n f; bits = length (heardFrom f (take n cs)) }
+together cs n f = record { cards = cards_after cs n f; bits = length (heard_from f (take n cs)) }

@@ -5,9 +5,9 @@ use Rattle.card.specs.Card.{takes, answers}
 use Rattle.card.specs.declared.Card.{Card}
 
 -- every card takes the frame
-unfoldable pub allTake : List ℕ → List Card → List Card
-allTake f cs = map (λ c. takes c f) cs
+unfoldable pub all_take : List ℕ → List Card → List Card
+all_take f cs = map (λ c. takes c f) cs
 
 -- what is heard
-unfoldable pub heardFrom : List ℕ → List Card → List ℕ
-heardFrom f cs = merge (map (λ c. answers c f) cs)
+unfoldable pub heard_from : List ℕ → List Card → List ℕ
+heard_from f cs = merge (map (λ c. answers c f) cs)

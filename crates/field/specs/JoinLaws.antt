@@ -5,45 +5,45 @@ use Rattle.std.proofs.Math.Seq.{take-length}
 use Rattle.std.proofs.lemmas.List.{get_or_at}
 use Rattle.std.proofs.Math.Dec.{leb-suc-suc}
 use Rattle.rows.specs.Rows.{overlay}
-use Rattle.rows.specs.RowLaws.{overlay-copy}
+use Rattle.rows.specs.RowLaws.{overlay_copy}
 use Rattle.field.specs.Merge.{meet, join}
 
 -- ---- how long they are together
 
-pub length-join-most : (a s : List ℕ) → length s ≤ length a → length (join a s) ≡ length a
+pub length_join_most : (a s : List ℕ) → length s ≤ length a → length (join a s) ≡ length a
 unfolding join
-length-join-most [] [] h = refl
-length-join-most [] (y ∷ s) h = absurd (not-suc-le-zero h)
-length-join-most (x ∷ a) [] h = refl
-length-join-most (x ∷ a) (y ∷ s) h = ap suc (length-join-most a s (omega arith))
+length_join_most [] [] h = refl
+length_join_most [] (y ∷ s) h = absurd (not-suc-le-zero h)
+length_join_most (x ∷ a) [] h = refl
+length_join_most (x ∷ a) (y ∷ s) h = ap suc (length_join_most a s (omega arith))
 
-pub length-join-more : (a s : List ℕ) → length a ≤ length s → length (join a s) ≡ length s
+pub length_join_more : (a s : List ℕ) → length a ≤ length s → length (join a s) ≡ length s
 unfolding join
-length-join-more [] s h = refl
-length-join-more (x ∷ a) [] h = absurd (not-suc-le-zero h)
-length-join-more (x ∷ a) (y ∷ s) h = ap suc (length-join-more a s (omega arith))
+length_join_more [] s h = refl
+length_join_more (x ∷ a) [] h = absurd (not-suc-le-zero h)
+length_join_more (x ∷ a) (y ∷ s) h = ap suc (length_join_more a s (omega arith))
 
 -- no shorter than either
-length-join-least : (a s : List ℕ) → length a ≤ length (join a s)
+length_join_least : (a s : List ℕ) → length a ≤ length (join a s)
 unfolding join
-length-join-least [] s = omega arith
-length-join-least (x ∷ a) [] = omega arith
-length-join-least (x ∷ a) (y ∷ s) = omega (arith, length-join-least a s)
+length_join_least [] s = omega arith
+length_join_least (x ∷ a) [] = omega arith
+length_join_least (x ∷ a) (y ∷ s) = omega (arith, length_join_least a s)
 
-pub length-join-other : (a s : List ℕ) → length s ≤ length (join a s)
+pub length_join_other : (a s : List ℕ) → length s ≤ length (join a s)
 unfolding join
-length-join-other [] s = omega arith
-length-join-other (x ∷ a) [] = omega arith
-length-join-other (x ∷ a) (y ∷ s) = omega (arith, length-join-other a s)
+length_join_other [] s = omega arith
+length_join_other (x ∷ a) [] = omega arith
+length_join_other (x ∷ a) (y ∷ s) = omega (arith, length_join_other a s)
 
 -- ---- a turn of the loop
 
-bit-join : (a s : List ℕ) (i : ℕ) → i < length a → get_or (join a s) i 0 ≡ cond (ltb i (length s)) (meet (get_or a i 0) (get_or s i 0)) (get_or a i 0)
+bit_join : (a s : List ℕ) (i : ℕ) → i < length a → get_or (join a s) i 0 ≡ cond (ltb i (length s)) (meet (get_or a i 0) (get_or s i 0)) (get_or a i 0)
 unfolding join
-bit-join [] s i h = absurd (not-suc-le-zero h)
-bit-join (x ∷ a) [] i h = rw (le-ltb i 0 (omega arith))
-bit-join (x ∷ a) (y ∷ s) zero h = rw (lt-ltb 0 (suc (length s)) (omega arith))
-bit-join (x ∷ a) (y ∷ s) (suc i) h = rw (leb-suc-suc (suc i) (length s)) (bit-join a s i (omega arith))
+bit_join [] s i h = absurd (not-suc-le-zero h)
+bit_join (x ∷ a) [] i h = rw (le-ltb i 0 (omega arith))
+bit_join (x ∷ a) (y ∷ s) zero h = rw (lt-ltb 0 (suc (length s)) (omega arith))
+bit_join (x ∷ a) (y ∷ s) (suc i) h = rw (leb-suc-suc (suc i) (length s)) (bit_join a s i (omega arith))
 
 -- a row written at the front of a row
 pub front : (d s : List ℕ) → overlay d 0 s ≡ s ++ drop (length s) d
@@ -56,16 +56,16 @@ behind d s i e h = rw (front, e, drop-cons d i 0 h) (get_or_at s (get_or d i 0) 
 
 -- the row d, of which b bits are heard so far, and the answer a
 module _ (d : List ℕ) (b : ℕ) (a : List ℕ) (hb : b ≤ length d) (ha : length a ≤ length d) where
-  pub join-turn : (i : ℕ) → i < length a
+  pub join_turn : (i : ℕ) → i < length a
       → set (overlay d 0 (take i (join a (take b d)))) i
       (cond (ltb i b) (meet (get_or a i 0) (get_or (overlay d 0 (take i (join a (take b d)))) i 0)) (get_or a i 0))
       ≡ overlay d 0 (take (i + 1) (join a (take b d)))
-  join-turn i h =
+  join_turn i h =
       let J : List ℕ = join a (take b d) in
-      let e : length (take i J) ≡ i = length-take-le i J (omega (arith, length-join-least a (take b d))) in
+      let e : length (take i J) ≡ i = length-take-le i J (omega (arith, length_join_least a (take b d))) in
       let bit : get_or J i 0 ≡ cond (ltb i b) (meet (get_or a i 0) (get_or d i 0)) (get_or a i 0) =
-      bit-join a (take b d) i h ∙ rw (length-take-le b d hb) (go (ltb i b) refl) in
-      rw (behind d (take i J) i e (omega arith), ← bit) (rw zero-add at (overlay-copy d 0 J i (omega arith) (omega (arith, length-join-least a (take b d)))))
+      bit_join a (take b d) i h ∙ rw (length-take-le b d hb) (go (ltb i b) refl) in
+      rw (behind d (take i J) i e (omega arith), ← bit) (rw zero-add at (overlay_copy d 0 J i (omega arith) (omega (arith, length_join_least a (take b d)))))
     where
       go : (t : Bool) → ltb i b ≡ t → cond t (meet (get_or a i 0) (get_or (take b d) i 0)) (get_or a i 0) ≡ cond t (meet (get_or a i 0) (get_or d i 0)) (get_or a i 0)
       go true e = ap (meet (get_or a i 0)) (get_or-take b d i 0 (ltb-true i b e))
@@ -74,18 +74,18 @@ module _ (d : List ℕ) (b : ℕ) (a : List ℕ) (hb : b ≤ length d) (ha : len
 -- ---- and its end
 
 -- a row whose front is written over with itself
-over-self : (b : ℕ) (d : List ℕ) → b ≤ length d → d ≡ take b d ++ drop (length (take b d)) d
-over-self b d h = rw (length-take-le b d h, take-append-drop)
+over_self : (b : ℕ) (d : List ℕ) → b ≤ length d → d ≡ take b d ++ drop (length (take b d)) d
+over_self b d h = rw (length-take-le b d h, take-append-drop)
 
 done : (d : List ℕ) (b : ℕ) (a : List ℕ) → b ≤ length d → length a ≤ length d
     → take (length a) (join a (take b d)) ++ drop (length (take (length a) (join a (take b d)))) d
     ≡ join a (take b d) ++ drop (length (join a (take b d))) d
 unfolding join
-done d b [] h k = over-self b d h
+done d b [] h k = over_self b d h
 done [] b (x ∷ a) h k = absurd (not-suc-le-zero k)
 done (y ∷ d) zero (x ∷ a) h k = rw (take-length a)
 done (y ∷ d) (suc b) (x ∷ a) h k = ap (λ r. meet x y ∷ r) (done d b a (omega arith) (omega arith))
 
-pub join-done : (d : List ℕ) (b : ℕ) (a : List ℕ) → b ≤ length d → length a ≤ length d
+pub join_done : (d : List ℕ) (b : ℕ) (a : List ℕ) → b ≤ length d → length a ≤ length d
     → overlay d 0 (take (length a) (join a (take b d))) ≡ overlay d 0 (join a (take b d))
-join-done d b a h k = front d (take (length a) (join a (take b d))) ∙ done d b a h k ∙ sym (front d (join a (take b d)))
+join_done d b a h k = front d (take (length a) (join a (take b d))) ∙ done d b a h k ∙ sym (front d (join a (take b d)))

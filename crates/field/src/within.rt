@@ -1,10 +1,10 @@
 // One frame taken by every card of a field. Called by our own crates only, which lend the room: firmware sweeps a field.
 ghost use Rattle.std.specs.Prelude.{◌≡◌, cond, ◌≤◌, length, take};
-ghost use Rattle.limits.specs.Limits.{mostCards};
+ghost use Rattle.limits.specs.Limits.{most_cards};
 ghost use Rattle.rows.specs.Rows.{overlay};
 ghost use Rattle.card.specs.Card.{takes, answers};
 ghost use Rattle.field.specs.Merge.{meet, join};
-ghost use Rattle.field.specs.Field.{heardFrom};
+ghost use Rattle.field.specs.Field.{heard_from};
 ghost use Rattle.field.specs.Calls.{together, one};
 
 use card::Card;
@@ -76,9 +76,9 @@ pub fn take_one(c: Card, frame: &[u8], heard: &mut [u8], bits: usize) -> One
 
 // Each of the first n cards takes the frame. The row in which all answers are heard grows from the last card to the first.
 pub fn take_all(start: [Card; MOST_CARDS], n: usize, frame: &[u8], heard: &mut [u8]) -> Together
-    requires { (n ≤ mostCards) × (45 ≤ length heard.old) }
+    requires { (n ≤ most_cards) × (45 ≤ length heard.old) }
     ensures value { result ≡ together start n frame.now }
-    ensures heard_after { heard.new ≡ overlay heard.old 0 (heardFrom frame.now (take n start)) }
+    ensures heard_after { heard.new ≡ overlay heard.old 0 (heard_from frame.now (take n start)) }
 {
     let mut cards = start;
     let mut bits: usize = 0;

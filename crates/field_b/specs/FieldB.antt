@@ -5,20 +5,20 @@ use Rattle.card_b.specs.CardB.{takes, answers}
 use Rattle.card_b.specs.declared.CardB.{CardB}
 use Rattle.field_b.specs.declared.Drawn.{Drawn}
 
-abbrev pub withCard : Drawn → CardB → Drawn
-withCard d c = record { card = c; number = d.number }
+abbrev pub with_card : Drawn → CardB → Drawn
+with_card d c = record { card = c; number = d.number }
 
 -- a card takes the frame, with its number, and answers
-unfoldable pub takesB : List ℕ → Drawn → Drawn
-takesB f d = withCard d (takes d.card d.number f)
+unfoldable pub takes_b : List ℕ → Drawn → Drawn
+takes_b f d = with_card d (takes d.card d.number f)
 
-unfoldable pub answersB : List ℕ → Drawn → List ℕ
-answersB f d = answers d.card d.number f
+unfoldable pub answers_b : List ℕ → Drawn → List ℕ
+answers_b f d = answers d.card d.number f
 
 -- every card takes the frame
-unfoldable pub allTake : List ℕ → List Drawn → List Drawn
-allTake f ds = map (takesB f) ds
+unfoldable pub all_take : List ℕ → List Drawn → List Drawn
+all_take f ds = map (takes_b f) ds
 
 -- what is heard
-unfoldable pub heardFrom : List ℕ → List Drawn → List ℕ
-heardFrom f ds = merge (map (answersB f) ds)
+unfoldable pub heard_from : List ℕ → List Drawn → List ℕ
+heard_from f ds = merge (map (answers_b f) ds)

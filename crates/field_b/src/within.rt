@@ -1,10 +1,10 @@
 // One frame taken by every card of a field. Called by our own crates only, which lend the room: firmware calls for a whole request.
 ghost use Rattle.std.specs.Prelude.{◌≡◌, ◌≤◌, length, take};
-ghost use Rattle.limits.specs.Limits.{mostCards};
+ghost use Rattle.limits.specs.Limits.{most_cards};
 ghost use Rattle.rows.specs.Rows.{overlay};
-ghost use Rattle.frame_b.specs.LimitsB.{answerRoomB};
+ghost use Rattle.frame_b.specs.LimitsB.{answer_room_b};
 ghost use Rattle.field.specs.Merge.{join};
-ghost use Rattle.field_b.specs.FieldB.{answersB, heardFrom};
+ghost use Rattle.field_b.specs.FieldB.{answers_b, heard_from};
 ghost use Rattle.field_b.specs.CallsB.{together, one};
 
 use crate::Drawn;
@@ -26,9 +26,9 @@ pub struct TogetherB {
 
 // One card takes the frame, and its answer joins the bits that are heard so far.
 pub fn take_one(d: Drawn, frame: &[u8], heard: &mut [u8], bits: usize) -> OneB
-    requires { (bits ≤ length heard.old) × (answerRoomB ≤ length heard.old) }
+    requires { (bits ≤ length heard.old) × (answer_room_b ≤ length heard.old) }
     ensures value { result ≡ one d frame.now (take bits heard.old) }
-    ensures heard_after { heard.new ≡ overlay heard.old 0 (join (answersB frame.now d) (take bits heard.old)) }
+    ensures heard_after { heard.new ≡ overlay heard.old 0 (join (answers_b frame.now d) (take bits heard.old)) }
 {
     let c = d.card;
     let number = d.number;
@@ -50,9 +50,9 @@ pub fn take_one(d: Drawn, frame: &[u8], heard: &mut [u8], bits: usize) -> OneB
 
 // Each of the first n cards takes the frame. The row in which all answers are heard grows from the last card to the first.
 pub fn take_all(start: [Drawn; MOST_CARDS], n: usize, frame: &[u8], heard: &mut [u8]) -> TogetherB
-    requires { (n ≤ mostCards) × (answerRoomB ≤ length heard.old) }
+    requires { (n ≤ most_cards) × (answer_room_b ≤ length heard.old) }
     ensures value { result ≡ together start n frame.now }
-    ensures heard_after { heard.new ≡ overlay heard.old 0 (heardFrom frame.now (take n start)) }
+    ensures heard_after { heard.new ≡ overlay heard.old 0 (heard_from frame.now (take n start)) }
 {
     let mut cards = start;
     let mut bits: usize = 0;

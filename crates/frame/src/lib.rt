@@ -6,10 +6,10 @@
 // 2, 8, 3, 4, and room, which does not depend on what was heard, before all of them. Writing is refused with 1 alone: the table gives 2 for
 // what is received.
 ghost use Rattle.std.specs.Prelude.{◌≡◌, length};
-ghost use Rattle.crc.specs.Crc.{withCrc};
-ghost use Rattle.frame.specs.Frame.{short, airByte, standard, wholeBytes, readFrame, readCrc};
-ghost use Rattle.frame.specs.Calls.{writtenSays, writeSays, writeShortSays, rowAfter, receivedSays, readSays, bytesAfter, shortSays, readShort};
-ghost use Rattle.limits.specs.Limits.{mostBytes};
+ghost use Rattle.crc.specs.Crc.{with_crc};
+ghost use Rattle.frame.specs.Frame.{short, air_byte, standard, whole_bytes, read_frame, read_crc};
+ghost use Rattle.frame.specs.Calls.{written_says, write_says, write_short_says, row_after, received_says, read_says, bytes_after, short_says, read_short};
+ghost use Rattle.limits.specs.Limits.{most_bytes};
 
 use refusal::Refusal;
 
@@ -39,7 +39,7 @@ pub enum ReceivedShort {
 
 // A byte on the air: its bits, the lowest first, and then odd parity.
 pub fn air_byte(b: u8) -> [u8; 9]
-    ensures { result ≡ airByte b }
+    ensures { result ≡ air_byte b }
 {
     let d = parity::bits_of(b);
     let p = parity::odd_parity(b);
@@ -48,8 +48,8 @@ pub fn air_byte(b: u8) -> [u8; 9]
 
 // Writes bytes, each with its parity. 1 to 256 of them are a standard frame.
 pub fn write(bytes: &[u8], out: &mut [u8]) -> Written
-    ensures result_value { writtenSays result ≡ writeSays 0 (length out.old) (length bytes.now) }
-    ensures out_after { out.new ≡ rowAfter result (standard bytes.now) out.old }
+    ensures result_value { written_says result ≡ write_says 0 (length out.old) (length bytes.now) }
+    ensures out_after { out.new ≡ row_after result (standard bytes.now) out.old }
 {
     let n = bytes.len();
     if out.len() / 9 < n {
@@ -61,8 +61,8 @@ pub fn write(bytes: &[u8], out: &mut [u8]) -> Written
 
 // Writes bytes and then their CRC_A, each byte with its parity. 1 to 254 of them make a standard frame.
 pub fn write_crc(bytes: &[u8], out: &mut [u8]) -> Written
-    ensures result_value { writtenSays result ≡ writeSays 2 (length out.old) (length bytes.now) }
-    ensures out_after { out.new ≡ rowAfter result (standard (withCrc bytes.now)) out.old }
+    ensures result_value { written_says result ≡ write_says 2 (length out.old) (length bytes.now) }
+    ensures out_after { out.new ≡ row_after result (standard (with_crc bytes.now)) out.old }
 {
     let m = bytes.len();
     if out.len() / 9 < m + 2 {
@@ -76,8 +76,8 @@ pub fn write_crc(bytes: &[u8], out: &mut [u8]) -> Written
 
 // Writes the seven low bits of a byte as a short frame.
 pub fn write_short(b: u8, out: &mut [u8]) -> Written
-    ensures result_value { writtenSays result ≡ writeShortSays (length out.old) }
-    ensures out_after { out.new ≡ rowAfter result (short b) out.old }
+    ensures result_value { written_says result ≡ write_short_says (length out.old) }
+    ensures out_after { out.new ≡ row_after result (short b) out.old }
 {
     if out.len() < 7 {
         return Written::NotWritten(Refusal::Room);
@@ -89,23 +89,23 @@ pub fn write_short(b: u8, out: &mut [u8]) -> Written
 
 // Reads a received row as a standard frame of 1 to 256 bytes. It asks for 256 bytes of room, whatever is heard.
 pub fn read(row: &[u8], out: &mut [u8]) -> Received
-    ensures result_value { receivedSays result ≡ readSays (length out.old) (readFrame 1 mostBytes row.now) }
-    ensures out_after { out.new ≡ bytesAfter result (readFrame 1 mostBytes row.now) out.old }
+    ensures result_value { received_says result ≡ read_says (length out.old) (read_frame 1 most_bytes row.now) }
+    ensures out_after { out.new ≡ bytes_after result (read_frame 1 most_bytes row.now) out.old }
 {
     within::read_within(row, 1, limits::MOST_BYTES, out)
 }
 
 // Reads a received row as a standard frame of 3 to 256 bytes that end with their CRC_A, which is not handed on.
 pub fn read_crc(row: &[u8], out: &mut [u8]) -> Received
-    ensures result_value { receivedSays result ≡ readSays (length out.old) (readCrc 3 mostBytes row.now) }
-    ensures out_after { out.new ≡ bytesAfter result (readCrc 3 mostBytes row.now) out.old }
+    ensures result_value { received_says result ≡ read_says (length out.old) (read_crc 3 most_bytes row.now) }
+    ensures out_after { out.new ≡ bytes_after result (read_crc 3 most_bytes row.now) out.old }
 {
     within::read_crc_within(row, limits::MOST_BYTES, out)
 }
 
 // Reads a received row as a short frame.
 pub fn read_short(row: &[u8]) -> ReceivedShort
-    ensures { shortSays result ≡ readShort row.now }
+    ensures { short_says result ≡ read_short row.now }
 {
     if row.len() != 7 {
         return ReceivedShort::NotShort(Refusal::Length);
@@ -118,7 +118,7 @@ pub fn read_short(row: &[u8]) -> ReceivedShort
 
 // Is a row of n bits whole bytes with parity, least to most of them?
 fn is_whole(n: usize, least: usize, most: usize) -> bool
-    ensures { result ≡ wholeBytes least most n }
+    ensures { result ≡ whole_bytes least most n }
 {
     if n % 9 != 0 {
         return false;

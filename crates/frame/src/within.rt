@@ -1,9 +1,9 @@
 // Functions that only crates of this repository call: each has a condition, and its callers' proofs show that they meet it.
 ghost use Rattle.std.specs.Prelude.{◌≡◌, true, ◌+◌, ◌*◌, ◌≤◌, length, take, drop};
 ghost use Rattle.rows.specs.Rows.{overlay, clean};
-ghost use Rattle.frame.specs.Frame.{standard, data_of, bytesOf, wrongByte, firstWrong, readFrame, withoutCrc, readCrc};
-ghost use Rattle.frame.specs.Calls.{received, readAnswer, bytesAfter};
-ghost use Rattle.limits.specs.Limits.{mostBytes};
+ghost use Rattle.frame.specs.Frame.{standard, data_of, bytes_of, wrong_byte, first_wrong, read_frame, without_crc, read_crc};
+ghost use Rattle.frame.specs.Calls.{received, read_answer, bytes_after};
+ghost use Rattle.limits.specs.Limits.{most_bytes};
 
 use crate::Received;
 use refusal::Refusal;
@@ -22,7 +22,7 @@ pub fn put_bytes(out: &mut [u8], at: usize, bytes: &[u8])
 // Has the byte at index at no collided data bit and wrong parity? A collided parity bit is wrong.
 fn is_wrong(row: &[u8], at: usize) -> bool
     requires { at + 9 ≤ length row.now }
-    ensures { result ≡ wrongByte (drop at row.now) }
+    ensures { result ≡ wrong_byte (drop at row.now) }
 {
     if !rows::is_clean(&row[at..at + 8]) {
         return false;
@@ -35,7 +35,7 @@ fn is_wrong(row: &[u8], at: usize) -> bool
 // wrong.
 pub fn first_wrong(row: &[u8], at: usize, n: usize) -> usize
     requires { at + 9 * n ≤ length row.now }
-    ensures { result ≡ firstWrong n (drop at row.now) }
+    ensures { result ≡ first_wrong n (drop at row.now) }
 {
     for i in 0..n {
         if is_wrong(row, at + 9 * i) {
@@ -48,7 +48,7 @@ pub fn first_wrong(row: &[u8], at: usize, n: usize) -> usize
 // Writes the n bytes of a row with no collided bit at the front of out, parity left out.
 pub fn bytes_of(row: &[u8], n: usize, out: &mut [u8])
     requires { (9 * n ≤ length row.now) × (n ≤ length out.old) × (clean row.now ≡ true) }
-    ensures { out.new ≡ overlay out.old 0 (bytesOf n (data_of n row.now)) }
+    ensures { out.new ≡ overlay out.old 0 (bytes_of n (data_of n row.now)) }
 {
     for i in 0..n {
         out[i] = parity::within::byte_at(row, 9 * i);
@@ -59,8 +59,8 @@ pub fn bytes_of(row: &[u8], n: usize, out: &mut [u8])
 // place of that one; n where none is so.
 pub fn sound_bytes(row: &[u8], n: usize, out: &mut [u8]) -> usize
     requires { (9 * n ≤ length row.now) × (n ≤ length out.old) × (clean row.now ≡ true) }
-    ensures value { result ≡ firstWrong n row.now }
-    ensures out_after { out.new ≡ overlay out.old 0 (bytesOf result (data_of result row.now)) }
+    ensures value { result ≡ first_wrong n row.now }
+    ensures out_after { out.new ≡ overlay out.old 0 (bytes_of result (data_of result row.now)) }
 {
     for k in 0..n {
         let b = parity::within::byte_at(row, 9 * k);
@@ -75,9 +75,9 @@ pub fn sound_bytes(row: &[u8], n: usize, out: &mut [u8]) -> usize
 // Reads a received row as a standard frame of least to most bytes, tested 2, 8, 3; before these 1, room for 256 bytes. The bytes are read into
 // an array of its own while their parity is tested, so that the row is walked once for both and nothing is written into out before all is right.
 pub fn read_within(row: &[u8], least: usize, most: usize, out: &mut [u8]) -> Received
-    requires { most ≤ mostBytes }
-    ensures value { result ≡ readAnswer (length out.old) (readFrame least most row.now) }
-    ensures out_after { out.new ≡ bytesAfter result (readFrame least most row.now) out.old }
+    requires { most ≤ most_bytes }
+    ensures value { result ≡ read_answer (length out.old) (read_frame least most row.now) }
+    ensures out_after { out.new ≡ bytes_after result (read_frame least most row.now) out.old }
 {
     if out.len() < limits::MOST_BYTES {
         return Received::NotReceived(Refusal::Room);
@@ -101,8 +101,8 @@ pub fn read_within(row: &[u8], least: usize, most: usize, out: &mut [u8]) -> Rec
 // Hands on the first n of the held bytes without CRC_A, their last two; 4 where those are wrong.
 pub fn without_crc(held: &[u8], n: usize, out: &mut [u8]) -> Received
     requires { (2 ≤ n) × (n ≤ length held.now) × (n ≤ length out.old) }
-    ensures value { result ≡ received (withoutCrc (take n held.now)) }
-    ensures out_after { out.new ≡ bytesAfter result (withoutCrc (take n held.now)) out.old }
+    ensures value { result ≡ received (without_crc (take n held.now)) }
+    ensures out_after { out.new ≡ bytes_after result (without_crc (take n held.now)) out.old }
 {
     if !crc::is_good(&held[..n]) {
         return Received::NotReceived(Refusal::Crc);
@@ -115,9 +115,9 @@ pub fn without_crc(held: &[u8], n: usize, out: &mut [u8]) -> Received
 // Reads a received row as a standard frame of 3 to most bytes that end with their CRC_A, tested 2, 8, 3, 4; before these 1. The bytes
 // are read into an array of its own, so that nothing is written into out before CRC_A is found right.
 pub fn read_crc_within(row: &[u8], most: usize, out: &mut [u8]) -> Received
-    requires { most ≤ mostBytes }
-    ensures value { result ≡ readAnswer (length out.old) (readCrc 3 most row.now) }
-    ensures out_after { out.new ≡ bytesAfter result (readCrc 3 most row.now) out.old }
+    requires { most ≤ most_bytes }
+    ensures value { result ≡ read_answer (length out.old) (read_crc 3 most row.now) }
+    ensures out_after { out.new ≡ bytes_after result (read_crc 3 most row.now) out.old }
 {
     if out.len() < limits::MOST_BYTES {
         return Received::NotReceived(Refusal::Room);

@@ -28,30 +28,30 @@ energies [] = true
 energies (x ∷ h) = energy x && energies h
 
 -- the level: the gate's own, or "a share times the profile's peak is rounded once"; off has none, and 0 stands in its place
-abbrev pub levelOf : Gate → Float → Float
-levelOf (Level l) peak = l
-levelOf (Share s) peak = mul binary32 s peak
-levelOf Off peak = zero
+abbrev pub level_of : Gate → Float → Float
+level_of (Level l) peak = l
+level_of (Share s) peak = mul binary32 s peak
+level_of Off peak = zero
 
 -- not "a level that comes out 0"
-unfoldable pub levelTaken : Float → Bool
-levelTaken l = energy l && ne l zero
+unfoldable pub level_taken : Float → Bool
+level_taken l = energy l && ne l zero
 
 -- not "a share not above 0 and at most 1, or a level that comes out 0"
-unfoldable pub shareTaken : Float → Float → Bool
-shareTaken s level = lt zero s && le s one && ne level zero
+unfoldable pub share_taken : Float → Float → Bool
+share_taken s level = lt zero s && le s one && ne level zero
 
-abbrev pub gateTaken : Gate → Float → Bool
-gateTaken (Level l) level = levelTaken l
-gateTaken (Share s) level = shareTaken s level
-gateTaken Off level = true
+abbrev pub gate_taken : Gate → Float → Bool
+gate_taken (Level l) level = level_taken l
+gate_taken (Share s) level = share_taken s level
+gate_taken Off level = true
 
 -- the whole test for 13, at a level: "A lone last half is 13"
-unfoldable pub takenAt : Profile → Float → List Float → Bool
-takenAt p level h = eqb (length h % 2) 0 && energies h && energy p.floor && energy p.peak && gateTaken p.gate level
+unfoldable pub taken_at : Profile → Float → List Float → Bool
+taken_at p level h = eqb (length h % 2) 0 && energies h && energy p.floor && energy p.peak && gate_taken p.gate level
 
 abbrev pub taken : Profile → List Float → Bool
-taken p h = takenAt p (levelOf p.gate p.peak) h
+taken p h = taken_at p (level_of p.gate p.peak) h
 
 -- ---- halves, bits, the end, the row
 
@@ -84,4 +84,4 @@ gated (Share s) level floor h = row_at level floor h
 gated Off level floor h = []
 
 abbrev pub row_of : Profile → List Float → List ℕ
-row_of p h = gated p.gate (levelOf p.gate p.peak) p.floor h
+row_of p h = gated p.gate (level_of p.gate p.peak) p.floor h

@@ -5,7 +5,7 @@ use Rattle.std.specs.Float.Ieee.{of_bits, lt, le, eq, ne, mul}
 use Rattle.front.specs.declared.Profile.{Profile}
 use Rattle.front.specs.declared.Gate.TheVariants.{Level, Share, Off}
 use Rattle.front.specs.declared.Heard.TheVariants.{NoRoom, NotEnergies}
-use Rattle.front.specs.Front.{energy, energies, levelOf, levelTaken, shareTaken, takenAt, taken, loaded, row_at, row_of}
+use Rattle.front.specs.Front.{energy, energies, level_of, level_taken, share_taken, taken_at, taken, loaded, row_at, row_of}
 use Rattle.front.specs.Calls.{number_of}
 
 abbrev f : ℕ → Float
@@ -13,7 +13,7 @@ f = of_bits binary32
 
 -- a share and the level that it comes to, tested
 abbrev tested : ℕ → ℕ → Bool
-tested s peak = shareTaken (f s) (levelOf (Share (f s)) (f peak))
+tested s peak = share_taken (f s) (level_of (Share (f s)) (f peak))
 
 abbrev share : Profile
 share = record { floor = f 0x3DCCCCCD; peak = f 0x40800000; gate = Share (f 0x3E800000) }
@@ -28,53 +28,53 @@ pub record FrontTable : Type 0 where
   -- a NaN, both infinities, the number next below zero; minus zero, the largest finite number
   pub nan : energy (f 0x7FC00000) ≡ false
   pub infinity : energy (f 0x7F800000) ≡ false
-  pub minus-infinity : energy (f 0xFF800000) ≡ false
-  pub below-zero : energy (f 0x80000001) ≡ false
-  pub minus-zero : energy (f 0x80000000) ≡ true
+  pub minus_infinity : energy (f 0xFF800000) ≡ false
+  pub below_zero : energy (f 0x80000001) ≡ false
+  pub minus_zero : energy (f 0x80000000) ≡ true
   pub largest : energy (f 0x7F7FFFFF) ≡ true
   -- a level of 0 or minus zero; the least subnormal level
-  pub level-zero : levelTaken (f 0) ≡ false
-  pub level-minus : levelTaken (f 0x80000000) ≡ false
-  pub level-least : levelTaken (f 1) ≡ true
+  pub level_zero : level_taken (f 0) ≡ false
+  pub level_minus : level_taken (f 0x80000000) ≡ false
+  pub level_least : level_taken (f 1) ≡ true
   -- a share of 0, of just over 1, of 1, with the least peak
-  pub share-zero : tested 0 0x3F800000 ≡ false
-  pub share-over : tested 0x3F800001 0x3F800000 ≡ false
-  pub share-one : tested 0x3F800000 1 ≡ true
+  pub share_zero : tested 0 0x3F800000 ≡ false
+  pub share_over : tested 0x3F800001 0x3F800000 ≡ false
+  pub share_one : tested 0x3F800000 1 ≡ true
   -- half of the least number is 0, to the even one; a little more than half is that number; a peak of 0 leaves no level
   pub underflow : tested 0x3F000000 1 ≡ false
-  pub no-underflow : tested 0x3F000001 1 ≡ true
-  pub peak-zero : tested 0x3F800000 0 ≡ false
+  pub no_underflow : tested 0x3F000001 1 ≡ true
+  pub peak_zero : tested 0x3F800000 0 ≡ false
   -- floor 0.1, a quarter of a peak of 4: first half alone, second alone (the first is at the floor), both; the end; a half behind it
   pub row : row_of share (map f worked) ≡ 1 ∷ 0 ∷ 2 ∷ []
-  pub row-taken : taken share (map f worked) ≡ true
+  pub row_taken : taken share (map f worked) ≡ true
   -- .. a strong half and a weak one, for `as-sent`
   pub strong : loaded (f 0x3F800000) (f 0x3DCCCCCD) (f 0x40800000) ≡ true
   pub weak : loaded (f 0x3F800000) (f 0x3DCCCCCD) (f 0x3F7FFFFF) ≡ false
   -- .. off
   pub off : row_of (record { floor = f 0; peak = f 0; gate = Off }) (map f worked) ≡ []
 
-pub front-table : FrontTable
-unfolding energies takenAt loaded row_at energy levelTaken shareTaken lt le eq ne mul of_bits
-front-table = record {
+pub front_table : FrontTable
+unfolding energies taken_at loaded row_at energy level_taken share_taken lt le eq ne mul of_bits
+front_table = record {
   room = refl;
   thirteen = refl;
   nan = refl;
   infinity = refl;
-  minus-infinity = refl;
-  below-zero = refl;
-  minus-zero = refl;
+  minus_infinity = refl;
+  below_zero = refl;
+  minus_zero = refl;
   largest = refl;
-  level-zero = refl;
-  level-minus = refl;
-  level-least = refl;
-  share-zero = refl;
-  share-over = refl;
-  share-one = refl;
+  level_zero = refl;
+  level_minus = refl;
+  level_least = refl;
+  share_zero = refl;
+  share_over = refl;
+  share_one = refl;
   underflow = refl;
-  no-underflow = refl;
-  peak-zero = refl;
+  no_underflow = refl;
+  peak_zero = refl;
   row = refl;
-  row-taken = refl;
+  row_taken = refl;
   strong = refl;
   weak = refl;
   off = refl;

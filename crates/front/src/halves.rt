@@ -1,13 +1,13 @@
 // The level, which halves are loaded, and the bits that they make.
 ghost use Rattle.std.specs.Prelude.{◌≡◌, ◌/◌, ◌≤◌, length};
 ghost use Rattle.rows.specs.Rows.{overlay};
-ghost use Rattle.front.specs.Front.{levelOf, loaded, ending, bit_of, row_at};
+ghost use Rattle.front.specs.Front.{level_of, loaded, ending, bit_of, row_at};
 
 use crate::Gate;
 
 // The gate's own level, or "a share times the profile's peak"; 0 where the gate is off and has none.
 pub fn level_of(gate: Gate, peak: f32) -> f32
-    ensures { result ≡ levelOf gate peak }
+    ensures { result ≡ level_of gate peak }
 {
     match gate {
         Gate::Level(level) => level,

@@ -2,7 +2,7 @@
 // crate makes a received row of them, which the frame code reads like any other.
 ghost use Rattle.std.specs.Prelude.{◌≡◌, length};
 ghost use Rattle.front.specs.Front.{row_of};
-ghost use Rattle.front.specs.Calls.{heardSays, number_of, receiveSays, placesAfter};
+ghost use Rattle.front.specs.Calls.{heard_says, number_of, receive_says, places_after};
 
 mod halves;
 mod tests;
@@ -37,8 +37,8 @@ pub enum Heard {
 // The energies of the halves, first half of the first bit first, as a received row: 0, 1, and 2 for a collided bit. It asks for a place for each
 // whole bit handed in. Tested 1, then 13.
 pub fn receive(profile: Profile, halves: &[f32], places: &mut [u8]) -> Heard
-    ensures result_value { heardSays result ≡ receiveSays (length places.old) profile halves.now }
-    ensures places_after { places.new ≡ placesAfter result (row_of profile halves.now) places.old }
+    ensures result_value { heard_says result ≡ receive_says (length places.old) profile halves.now }
+    ensures places_after { places.new ≡ places_after result (row_of profile halves.now) places.old }
 {
     if places.len() < halves.len() / 2 {
         return Heard::NoRoom;

@@ -1,6 +1,6 @@
 // What is refused with 13.
 ghost use Rattle.std.specs.Prelude.{◌≡◌};
-ghost use Rattle.front.specs.Front.{energy, energies, levelTaken, shareTaken, gateTaken, takenAt};
+ghost use Rattle.front.specs.Front.{energy, energies, level_taken, share_taken, gate_taken, taken_at};
 
 use crate::{Gate, Profile};
 
@@ -25,7 +25,7 @@ fn are_energies(halves: &[f32]) -> bool
 
 // Is this a fixed level: an energy, and not zero?
 fn is_level(own: f32) -> bool
-    ensures { result ≡ levelTaken own }
+    ensures { result ≡ level_taken own }
 {
     if is_energy(own) {
         return own != 0.0;
@@ -35,7 +35,7 @@ fn is_level(own: f32) -> bool
 
 // Is this a share, above 0 and at most 1, and the level that it comes to not zero?
 fn is_share(share: f32, level: f32) -> bool
-    ensures { result ≡ shareTaken share level }
+    ensures { result ≡ share_taken share level }
 {
     if share > 0.0 {
         if share <= 1.0 {
@@ -47,7 +47,7 @@ fn is_share(share: f32, level: f32) -> bool
 
 // Is this a gate, and does it come to a level that is not zero? Off comes to none.
 fn is_gate(gate: Gate, level: f32) -> bool
-    ensures { result ≡ gateTaken gate level }
+    ensures { result ≡ gate_taken gate level }
 {
     match gate {
         Gate::Level(own) => is_level(own),
@@ -58,7 +58,7 @@ fn is_gate(gate: Gate, level: f32) -> bool
 
 // Is all that was handed over taken, the gate coming to this level? Else it is refused with 13.
 pub fn is_taken(profile: Profile, level: f32, halves: &[f32]) -> bool
-    ensures { result ≡ takenAt profile level halves.now }
+    ensures { result ≡ taken_at profile level halves.now }
 {
     if halves.len() % 2 != 0 {
         return false;

@@ -17,10 +17,10 @@ four = tag 0x11 (Ready 0) ∷ tag 0x21 (Ready 0) ∷ tag 0x12 (Ready 0) ∷ tag 
 typed : (low : ℕ) (y : StateV) → low < 256 → Typed (tag low y)
 typed low y h = record { eight = refl; bytes = (h, (omega arith, (omega arith, (omega arith, (omega arith, (omega arith, (omega arith, (omega arith, tt)))))))); dsfid = omega arith }
 
-pub terms-met : Terms 0 four
+pub terms_met : Terms 0 four
 unfolding apart any same
-terms-met = record {
-  afi-byte = omega arith;
+terms_met = record {
+  afi_byte = omega arith;
   typed = (typed 0x11 (Ready 0) (omega arith), (typed 0x21 (Ready 0) (omega arith), (typed 0x12 (Ready 0) (omega arith), (typed 0x13 Quiet (omega arith), tt))));
   rest = (refl, (refl, (refl, (refl, tt))));
   different = refl;

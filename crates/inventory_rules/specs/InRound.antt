@@ -1,6 +1,6 @@
 -- A tag in a round: how many EOFs it still waits for. Named by the laws only.
 use Rattle.std.specs.Prelude.{ℕ, ◌-◌, cond, eqb}
-use Rattle.tag.specs.Tag.{withState, waiting}
+use Rattle.tag.specs.Tag.{with_state, waiting}
 use Rattle.sent_v.specs.declared.Round.{Round}
 use Rattle.request_v.specs.declared.Tag.{Tag}
 use Rattle.inventory_rules.specs.Claim.{place}
@@ -9,5 +9,5 @@ use Rattle.inventory_rules.specs.Claim.{place}
 unfoldable pub left : ℕ → ℕ → ℕ
 left s p = cond (eqb p 16) 0 (p - s)
 
-unfoldable pub inRound : Round → ℕ → Tag → Tag
-inRound k s t = withState t (waiting (left s (place k t)) t.state)
+unfoldable pub in_round : Round → ℕ → Tag → Tag
+in_round k s t = with_state t (waiting (left s (place k t)) t.state)

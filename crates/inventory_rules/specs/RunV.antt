@@ -2,9 +2,9 @@
 -- tag's rules, and the reader hears their merged bits. No tag's memory or locks are looked at by an inventory, so that none are named.
 use Rattle.std.specs.Prelude.{ℕ, zero, suc, Bool, cond, List, [], ◌∷◌, map, eqb}
 use Rattle.field.specs.Merge.{merge}
-use Rattle.tag.specs.Tag.{takes, answers, takesEof, answersEof}
+use Rattle.tag.specs.Tag.{takes, answers, takes_eof, answers_eof}
 use Rattle.reader_v.specs.ReaderV.{hear}
-use Rattle.reader_v.specs.CallsV.{roundFrame}
+use Rattle.reader_v.specs.CallsV.{round_frame}
 use Rattle.refusal.specs.Refusal.{number_of}
 use Rattle.selection_b.specs.declared.Held.{Held}
 use Rattle.request_v.specs.declared.Tag.{Tag}
@@ -36,11 +36,11 @@ abbrev pub tells : Held → TurnV → Told
 tells k t = record { held = k; dsfid = t.dsfid; uid = t.uid }
 
 -- in a round's first slot its request is out, in every other an EOF
-unfoldable pub heardOf : ReaderV → List Tag → List ℕ
-heardOf r ts = cond (eqb r.slot 0) (merge (map (λ t. answers t [] [] (roundFrame r.round)) ts)) (merge (map answersEof ts))
+unfoldable pub heard_of : ReaderV → List Tag → List ℕ
+heard_of r ts = cond (eqb r.slot 0) (merge (map (λ t. answers t [] [] (round_frame r.round)) ts)) (merge (map answers_eof ts))
 
-unfoldable pub tagsAfter : ReaderV → List Tag → List Tag
-tagsAfter r ts = cond (eqb r.slot 0) (map (λ t. takes t [] (roundFrame r.round)) ts) (map takesEof ts)
+unfoldable pub tags_after : ReaderV → List Tag → List Tag
+tags_after r ts = cond (eqb r.slot 0) (map (λ t. takes t [] (round_frame r.round)) ts) (map takes_eof ts)
 
 -- the run goes on while requests or EOFs go out
 abbrev pub follow : AnswerR → TurnV → List Tag → Out → Out
@@ -58,5 +58,5 @@ follow (Declines e) t ts o = ended ts t.reader (number_of e)
 unfoldable pub run : ℕ → ReaderV → List Tag → Out
 run zero r ts = ended ts r 0
 run (suc n) r ts =
-    let t : TurnV = hear r (heardOf r ts) in
-    follow t.answer t (tagsAfter r ts) (run n t.reader (tagsAfter r ts))
+    let t : TurnV = hear r (heard_of r ts) in
+    follow t.answer t (tags_after r ts) (run n t.reader (tags_after r ts))

@@ -2,9 +2,9 @@
 pub mod within;
 
 ghost use Rattle.std.specs.Prelude.{◌≡◌, ◌+◌, ◌%◌, ◌*◌, min, get_or};
-ghost use Rattle.limits.specs.Limits.{mostCards};
+ghost use Rattle.limits.specs.Limits.{most_cards};
 ghost use Rattle.refusal.specs.Refusal.{place_of};
-ghost use Rattle.kept.specs.Kept.{flag, levelTag, levelOf, sizeTag, size_of, bytes_at, uidIn, word, number, refused, toldNumber, toldRefuses, toldEvent, toldLength};
+ghost use Rattle.kept.specs.Kept.{flag, level_tag, level_of, size_tag, size_of, bytes_at, uid_in, word, number, refused, told_number, told_refuses, told_event, told_length};
 
 use block::Told;
 use refusal::Refusal;
@@ -18,7 +18,7 @@ pub const UID_ROOM: usize = 10;
 
 // So many cards as a field's array holds.
 pub fn few(n: usize) -> usize
-    ensures { result ≡ min n mostCards }
+    ensures { result ≡ min n most_cards }
 {
     if n < limits::MOST_CARDS {
         return n;
@@ -43,7 +43,7 @@ pub fn flag(x: bool) -> u8
 }
 
 pub fn level_tag(l: Level) -> u8
-    ensures { result ≡ levelTag l }
+    ensures { result ≡ level_tag l }
 {
     match l {
         Level::One => 0,
@@ -53,7 +53,7 @@ pub fn level_tag(l: Level) -> u8
 }
 
 pub fn level_of(b: u8) -> Level
-    ensures { result ≡ levelOf b }
+    ensures { result ≡ level_of b }
 {
     if b == 0 {
         return Level::One;
@@ -65,7 +65,7 @@ pub fn level_of(b: u8) -> Level
 }
 
 pub fn size_tag(z: UidSize) -> u8
-    ensures { result ≡ sizeTag z }
+    ensures { result ≡ size_tag z }
 {
     match z {
         UidSize::Single => 0,
@@ -105,7 +105,7 @@ fn ten_of(b: &[u8]) -> [u8; 10]
 
 // The UID that lent bytes say: at the same places in a reader's state and in a card's.
 pub fn uid_of(b: &[u8]) -> Uid
-    ensures { result ≡ uidIn b.now }
+    ensures { result ≡ uid_in b.now }
 {
     let size = size_of(at(b, 9));
     let bytes = ten_of(b);
@@ -196,7 +196,7 @@ pub fn place(e: Refusal) -> usize
 
 // So many bits to send, or minus a refusal's number.
 pub fn told_number(bits: usize, t: Told) -> usize
-    ensures { result ≡ toldNumber bits t }
+    ensures { result ≡ told_number bits t }
 {
     match t {
         Told::Quiet => bits,
@@ -209,7 +209,7 @@ pub fn told_number(bits: usize, t: Told) -> usize
 
 // Is it a refusal?
 pub fn told_refuses(t: Told) -> bool
-    ensures { result ≡ toldRefuses t }
+    ensures { result ≡ told_refuses t }
 {
     match t {
         Told::Quiet => false,
@@ -222,7 +222,7 @@ pub fn told_refuses(t: Told) -> bool
 
 // What else a host is told: the event's number ..
 pub fn told_event(t: Told) -> u8
-    ensures { result ≡ toldEvent t }
+    ensures { result ≡ told_event t }
 {
     match t {
         Told::Quiet => 0,
@@ -235,7 +235,7 @@ pub fn told_event(t: Told) -> u8
 
 // .. and the length of a message, or the byte index that comes with a refusal (T-07).
 pub fn told_length(t: Told) -> usize
-    ensures { result ≡ toldLength t }
+    ensures { result ≡ told_length t }
 {
     match t {
         Told::Quiet => 0,

@@ -1,16 +1,16 @@
 // Functions that only crates of this repository call: each has a condition, and its callers' proofs show that they meet it.
 ghost use Rattle.std.specs.Prelude.{◌≡◌, ◌≤◌, length};
 ghost use Rattle.rows.specs.Rows.{overlay};
-ghost use Rattle.uid.specs.Uid.{byte_count, uidBytes};
-ghost use Rattle.kept.specs.Kept.{uidRoom};
+ghost use Rattle.uid.specs.Uid.{byte_count, uid_bytes};
+ghost use Rattle.kept.specs.Kept.{uid_room};
 
 use uid::Uid;
 
 // Writes a UID's own bytes to the front of a lent row that has room for the longest, and gives how many they are.
 pub fn put_uid(u: Uid, out: &mut [u8]) -> usize
-    requires { uidRoom ≤ length out.old }
+    requires { uid_room ≤ length out.old }
     ensures value { result ≡ byte_count u.size }
-    ensures out_after { out.new ≡ overlay out.old 0 (uidBytes u) }
+    ensures out_after { out.new ≡ overlay out.old 0 (uid_bytes u) }
 {
     let size = u.size;
     let b = u.bytes;

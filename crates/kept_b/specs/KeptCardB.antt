@@ -10,47 +10,47 @@ use Rattle.card_b.specs.declared.CardB.{CardB}
 use Rattle.card_b.specs.declared.AnswerB.{AnswerB}
 use Rattle.card_b.specs.declared.AnswerB.TheVariants.{Sends, Silent, NotTaken}
 use Rattle.card_b.specs.declared.TakenB.{TakenB}
-use Rattle.kept.specs.Kept.{bytes_at, flag, flagOf, refused}
+use Rattle.kept.specs.Kept.{bytes_at, flag, flag_of, refused}
 
-abbrev pub stateTag : StateB → ℕ
-stateTag Off = 0
-stateTag Idle = 1
-stateTag (Requested n) = 2
-stateTag Declared = 3
-stateTag Active = 4
-stateTag Halt = 5
+abbrev pub state_tag : StateB → ℕ
+state_tag Off = 0
+state_tag Idle = 1
+state_tag (Requested n) = 2
+state_tag Declared = 3
+state_tag Active = 4
+state_tag Halt = 5
 
-abbrev pub stateSlot : StateB → ℕ
-stateSlot Off = 0
-stateSlot Idle = 0
-stateSlot (Requested n) = n
-stateSlot Declared = 0
-stateSlot Active = 0
-stateSlot Halt = 0
+abbrev pub state_slot : StateB → ℕ
+state_slot Off = 0
+state_slot Idle = 0
+state_slot (Requested n) = n
+state_slot Declared = 0
+state_slot Active = 0
+state_slot Halt = 0
 
 -- a state by its byte and its slot
-abbrev pub stateIn : ℕ → ℕ → StateB
-stateIn t n =
+abbrev pub state_in : ℕ → ℕ → StateB
+state_in t n =
     cond (eqb t 0) Off
     (cond (eqb t 1) Idle
     (cond (eqb t 2) (Requested n)
     (cond (eqb t 3) Declared
     (cond (eqb t 4) Active Halt))))
 
-unfoldable pub cardBytes : CardB → List ℕ
-cardBytes c =
-    stateTag c.state ∷ stateSlot c.state ∷ c.afi ∷ flag c.markers
+unfoldable pub card_bytes : CardB → List ℕ
+card_bytes c =
+    state_tag c.state ∷ state_slot c.state ∷ c.afi ∷ flag c.markers
     ∷ (bytes_at 4 c.pupi 0 ++ (bytes_at 4 c.application 0 ++ bytes_at 3 c.protocol 0))
 
 -- every row of bytes is one card
-unfoldable pub cardIn : List ℕ → CardB
-cardIn b = record {
+unfoldable pub card_in : List ℕ → CardB
+card_in b = record {
   pupi = bytes_at 4 b 4;
   afi = get_or b 2 0;
-  markers = flagOf (get_or b 3 0);
+  markers = flag_of (get_or b 3 0);
   application = bytes_at 4 b 8;
   protocol = bytes_at 3 b 12;
-  state = stateIn (get_or b 0 0) (get_or b 1 0);
+  state = state_in (get_or b 0 0) (get_or b 1 0);
 }
 
 -- what every card in memory has: arrays of their length
@@ -60,15 +60,15 @@ Fits c = (length c.pupi ≡ 4) × ((length c.application ≡ 4) × (length c.pro
 -- ---- what a call answers: so many bits to send, or minus the refusal's number; a call that is refused leaves the card what it was, and nothing
 -- is written
 
-abbrev pub takenNumber : AnswerB → ℕ
-takenNumber (Sends n) = n
-takenNumber Silent = 0
-takenNumber (NotTaken e) = refused e
+abbrev pub taken_number : AnswerB → ℕ
+taken_number (Sends n) = n
+taken_number Silent = 0
+taken_number (NotTaken e) = refused e
 
-abbrev pub takenRefuses : AnswerB → Bool
-takenRefuses (Sends n) = false
-takenRefuses Silent = false
-takenRefuses (NotTaken e) = true
+abbrev pub taken_refuses : AnswerB → Bool
+taken_refuses (Sends n) = false
+taken_refuses Silent = false
+taken_refuses (NotTaken e) = true
 
-unfoldable pub takenLeft : List ℕ → TakenB → List ℕ
-takenLeft b t = cond (takenRefuses t.answer) b (overlay b 0 (cardBytes t.card))
+unfoldable pub taken_left : List ℕ → TakenB → List ℕ
+taken_left b t = cond (taken_refuses t.answer) b (overlay b 0 (card_bytes t.card))

@@ -1,12 +1,12 @@
 // A Type B card kept in lent bytes.
 ghost use Rattle.std.specs.Prelude.{◌≡◌};
-ghost use Rattle.kept_b.specs.KeptCardB.{stateTag, stateSlot, stateIn, cardBytes, cardIn, Fits, takenNumber, takenRefuses};
+ghost use Rattle.kept_b.specs.KeptCardB.{state_tag, state_slot, state_in, card_bytes, card_in, Fits, taken_number, taken_refuses};
 
 use card_b::{AnswerB, CardB, StateB};
 
 // Which state a card is in, as a byte.
 pub fn state_tag(s: StateB) -> u8
-    ensures { result ≡ stateTag s }
+    ensures { result ≡ state_tag s }
 {
     match s {
         StateB::Off => 0,
@@ -19,7 +19,7 @@ pub fn state_tag(s: StateB) -> u8
 }
 
 fn state_slot(s: StateB) -> u8
-    ensures { result ≡ stateSlot s }
+    ensures { result ≡ state_slot s }
 {
     match s {
         StateB::Off => 0,
@@ -32,7 +32,7 @@ fn state_slot(s: StateB) -> u8
 }
 
 fn state_in(t: u8, n: u8) -> StateB
-    ensures { result ≡ stateIn t n }
+    ensures { result ≡ state_in t n }
 {
     if t == 0 {
         return StateB::Off;
@@ -54,7 +54,7 @@ fn state_in(t: u8, n: u8) -> StateB
 
 // A card as 15 bytes.
 pub fn card_bytes(c: CardB) -> [u8; 15]
-    ensures value { result ≡ cardBytes c }
+    ensures value { result ≡ card_bytes c }
     ensures fits { Fits c }
 {
     let s = c.state;
@@ -71,7 +71,7 @@ pub fn card_bytes(c: CardB) -> [u8; 15]
 
 // The card that lent bytes say.
 pub fn card_of(b: &[u8]) -> CardB
-    ensures { result ≡ cardIn b.now }
+    ensures { result ≡ card_in b.now }
 {
     let pupi = crate::four(b, 4);
     let afi = kept::at(b, 2);
@@ -91,7 +91,7 @@ pub fn card_of(b: &[u8]) -> CardB
 
 // The number that a call gives: so many bits to send, or minus a refusal's number.
 pub fn taken_number(a: AnswerB) -> usize
-    ensures { result ≡ takenNumber a }
+    ensures { result ≡ taken_number a }
 {
     match a {
         AnswerB::Sends(n) => n,
@@ -101,7 +101,7 @@ pub fn taken_number(a: AnswerB) -> usize
 }
 
 pub fn taken_refuses(a: AnswerB) -> bool
-    ensures { result ≡ takenRefuses a }
+    ensures { result ≡ taken_refuses a }
 {
     match a {
         AnswerB::Sends(_) => false,

@@ -3,9 +3,9 @@ pub mod card;
 pub mod within;
 
 ghost use Rattle.std.specs.Prelude.{◌≡◌, length};
-ghost use Rattle.selection_b.specs.HeardB.{heldNumber};
+ghost use Rattle.selection_b.specs.HeardB.{held_number};
 ghost use Rattle.kept.specs.Kept.{bytes_at};
-ghost use Rattle.kept_b.specs.KeptReaderB.{phaseTag, phaseOf, readerBytes, readerIn, answerNumber, answerRefuses, answerEvent, answerLength, answerHeld, frontBytes, answerBytes, stays, heldIn};
+ghost use Rattle.kept_b.specs.KeptReaderB.{phase_tag, phase_of, reader_bytes, reader_in, answer_number, answer_refuses, answer_event, answer_length, answer_held, front_bytes, answer_bytes, stays, held_in};
 
 use reader_b::{AnswerB, PhaseB, ReaderB, TurnB};
 use selection_b::Held;
@@ -14,7 +14,7 @@ use selection_b::Held;
 pub const ATQB_ROOM: usize = 12;
 
 fn phase_tag(p: PhaseB) -> u8
-    ensures { result ≡ phaseTag p }
+    ensures { result ≡ phase_tag p }
 {
     match p {
         PhaseB::Ready => 0,
@@ -26,7 +26,7 @@ fn phase_tag(p: PhaseB) -> u8
 }
 
 fn phase_of(t: u8) -> PhaseB
-    ensures { result ≡ phaseOf t }
+    ensures { result ≡ phase_of t }
 {
     if t == 0 {
         return PhaseB::Ready;
@@ -44,7 +44,7 @@ fn phase_of(t: u8) -> PhaseB
 }
 
 fn reader_bytes(r: ReaderB) -> [u8; 3]
-    ensures { result ≡ readerBytes r }
+    ensures { result ≡ reader_bytes r }
 {
     let p = r.phase;
     let tag = phase_tag(p);
@@ -53,7 +53,7 @@ fn reader_bytes(r: ReaderB) -> [u8; 3]
 
 // The reader that lent bytes say.
 pub fn reader_of(b: &[u8]) -> ReaderB
-    ensures { result ≡ readerIn b.now }
+    ensures { result ≡ reader_in b.now }
 {
     let phase = phase_of(kept::at(b, 0));
     let slots = kept::at(b, 1);
@@ -62,7 +62,7 @@ pub fn reader_of(b: &[u8]) -> ReaderB
 }
 
 fn held_number(k: Held) -> u8
-    ensures { result ≡ heldNumber k }
+    ensures { result ≡ held_number k }
 {
     match k {
         Held::None => 0,
@@ -72,7 +72,7 @@ fn held_number(k: Held) -> u8
 }
 
 fn answer_held(a: AnswerB) -> u8
-    ensures { result ≡ answerHeld a }
+    ensures { result ≡ answer_held a }
 {
     match a {
         AnswerB::Sends(_) => 0,
@@ -86,7 +86,7 @@ fn answer_held(a: AnswerB) -> u8
 
 // The number that a call gives: so many bits to send, or minus a refusal's number.
 pub fn answer_number(a: AnswerB) -> usize
-    ensures { result ≡ answerNumber a }
+    ensures { result ≡ answer_number a }
 {
     match a {
         AnswerB::Sends(n) => n,
@@ -99,7 +99,7 @@ pub fn answer_number(a: AnswerB) -> usize
 }
 
 pub fn answer_refuses(a: AnswerB) -> bool
-    ensures { result ≡ answerRefuses a }
+    ensures { result ≡ answer_refuses a }
 {
     match a {
         AnswerB::Sends(_) => false,
@@ -112,7 +112,7 @@ pub fn answer_refuses(a: AnswerB) -> bool
 }
 
 fn answer_event(a: AnswerB) -> u8
-    ensures { result ≡ answerEvent a }
+    ensures { result ≡ answer_event a }
 {
     match a {
         AnswerB::Sends(_) => 0,
@@ -125,7 +125,7 @@ fn answer_event(a: AnswerB) -> u8
 }
 
 fn answer_length(a: AnswerB) -> u8
-    ensures { result ≡ answerLength a }
+    ensures { result ≡ answer_length a }
 {
     match a {
         AnswerB::Sends(_) => 0,
@@ -139,7 +139,7 @@ fn answer_length(a: AnswerB) -> u8
 
 // The reader, what a slot held and its ATQB.
 fn front_bytes(t: TurnB) -> [u8; 16]
-    ensures value { result ≡ frontBytes t }
+    ensures value { result ≡ front_bytes t }
     ensures atqb_len { length t.atqb ≡ 12 }
 {
     let r = t.reader;
@@ -156,7 +156,7 @@ fn front_bytes(t: TurnB) -> [u8; 16]
 
 // The event and what came with it.
 fn answer_bytes(a: AnswerB) -> [u8; 9]
-    ensures { result ≡ answerBytes a }
+    ensures { result ≡ answer_bytes a }
 {
     let event = answer_event(a);
     let length = answer_length(a);
@@ -179,7 +179,7 @@ pub fn stays(x: ReaderB, t: TurnB) -> bool
 
 // What the slot of the last answer held: 0, 1 or 2 for none, one, more.
 pub fn held_of(b: &[u8]) -> u8
-    ensures { result ≡ heldIn b.now }
+    ensures { result ≡ held_in b.now }
 {
     kept::at(b, 3)
 }

@@ -4,37 +4,37 @@ use Rattle.std.proofs.Common.{ap}
 use Rattle.card.specs.declared.Card.{Card}
 use Rattle.card.specs.declared.CardState.{CardState}
 use Rattle.card.specs.declared.CardState.TheVariants.{Off, Idle, Ready, Active, Halt, ReadyStar, ActiveStar, Protocol}
-use Rattle.card.specs.Calls.{refusedCard}
+use Rattle.card.specs.Calls.{refused_card}
 use Rattle.uid.specs.declared.UidSize.{UidSize}
 use Rattle.rows.specs.Rows.{fill}
 use Rattle.kept.specs.Kept.{bytes_at}
-use Rattle.kept.specs.KeptLaws.{level-back, flag-back, size_back, bytes_whole}
-use Rattle.kept_card.specs.KeptCard.{stateTag, stateLevel, stateIndex, stateIn, cardBytes, cardIn}
+use Rattle.kept.specs.KeptLaws.{level_back, flag_back, size_back, bytes_whole}
+use Rattle.kept_card.specs.KeptCard.{state_tag, state_level, state_index, state_in, card_bytes, card_in}
 
-pub state-back : (s : CardState) → stateIn (stateTag s) (stateLevel s) (stateIndex s) ≡ s
-state-back Off = refl
-state-back Idle = refl
-state-back (Ready l) = ap Ready (level-back l)
-state-back Active = refl
-state-back Halt = refl
-state-back (ReadyStar l) = ap ReadyStar (level-back l)
-state-back ActiveStar = refl
-state-back (Protocol i) = refl
+pub state_back : (s : CardState) → state_in (state_tag s) (state_level s) (state_index s) ≡ s
+state_back Off = refl
+state_back Idle = refl
+state_back (Ready l) = ap Ready (level_back l)
+state_back Active = refl
+state_back Halt = refl
+state_back (ReadyStar l) = ap ReadyStar (level_back l)
+state_back ActiveStar = refl
+state_back (Protocol i) = refl
 
 made : (c : Card) (z : UidSize) (u : List ℕ) (b : Bool) (s : CardState) → z ≡ c.uid.size → u ≡ c.uid.bytes → b ≡ c.blocks → s ≡ c.state
     → record { uid = record { size = z; bytes = u }; blocks = b; index = c.index; state = s } ≡ c
 made c z u b s d e f g = rw (d, e, f, g)
 
 -- "encoding then decoding gives the card back", whatever stands behind it
-pub card-back : (c : Card) (rest : List ℕ) → length c.uid.bytes ≡ 10 → cardIn (cardBytes c ++ rest) ≡ c
-unfolding cardBytes cardIn bytes_at
-card-back c rest u = made c _ _ _ _ (size_back c.uid.size) (bytes_whole 10 c.uid.bytes u) (flag-back c.blocks) (state-back c.state)
+pub card_back : (c : Card) (rest : List ℕ) → length c.uid.bytes ≡ 10 → card_in (card_bytes c ++ rest) ≡ c
+unfolding card_bytes card_in bytes_at
+card_back c rest u = made c _ _ _ _ (size_back c.uid.size) (bytes_whole 10 c.uid.bytes u) (flag_back c.blocks) (state_back c.state)
 
-pub card-length : (c : Card) → length (cardBytes c) ≡ 20
-unfolding cardBytes bytes_at
-card-length c = refl
+pub card_length : (c : Card) → length (card_bytes c) ≡ 20
+unfolding card_bytes bytes_at
+card_length c = refl
 
 -- zeros are a card without power, its UID four zeros: what is handed out where a new card is refused
-pub card-zeros : cardIn (replicate 20 0) ≡ refusedCard.card
-unfolding cardIn bytes_at fill
-card-zeros = refl
+pub card_zeros : card_in (replicate 20 0) ≡ refused_card.card
+unfolding card_in bytes_at fill
+card_zeros = refl

@@ -6,32 +6,32 @@ use Rattle.rows.specs.Rows.{overlay}
 use Rattle.block.specs.declared.Told.{Told}
 use Rattle.card_link.specs.declared.LinkCard.{LinkCard}
 use Rattle.card_link.specs.declared.CardTurn.{CardTurn}
-use Rattle.kept.specs.Kept.{word, eventOf, length_of, toldRefuses, toldEvent, toldLength}
-use Rattle.kept_card.specs.KeptCard.{cardBytes, cardIn}
-use Rattle.kept_card.specs.KeptLink.{linkBytes, link_in, Sized}
+use Rattle.kept.specs.Kept.{word, event_of, length_of, told_refuses, told_event, told_length}
+use Rattle.kept_card.specs.KeptCard.{card_bytes, card_in}
+use Rattle.kept_card.specs.KeptLink.{link_bytes, link_in, Sized}
 
-abbrev pub linkCardBytes : LinkCard → List ℕ
-linkCardBytes x = cardBytes x.card ++ linkBytes x.link
+abbrev pub link_card_bytes : LinkCard → List ℕ
+link_card_bytes x = card_bytes x.card ++ link_bytes x.link
 
 -- every row of bytes is one card
-abbrev pub linkCardOf : List ℕ → LinkCard
-linkCardOf b = record { card = cardIn b; link = link_in b }
+abbrev pub link_card_of : List ℕ → LinkCard
+link_card_of b = record { card = card_in b; link = link_in b }
 
 -- what every card in memory has: an array of its length, numbers of 64 bits
 abbrev pub Fits : LinkCard → Type 0
 Fits x = (length x.card.uid.bytes ≡ 10) × Sized x.link
 
-abbrev pub toldBytes : Told → List ℕ
-toldBytes t = toldEvent t ∷ word 8 (toldLength t)
+abbrev pub told_bytes : Told → List ℕ
+told_bytes t = told_event t ∷ word 8 (told_length t)
 
 -- ---- what a call leaves in the lent bytes: the card, then what its host is told. A call that is refused leaves the card what it was
 -- (RefusedLaws.antt), and nothing is written
 
-abbrev pub cardTurnBytes : CardTurn → List ℕ
-cardTurnBytes t = linkCardBytes t.card ++ toldBytes t.told
+abbrev pub card_turn_bytes : CardTurn → List ℕ
+card_turn_bytes t = link_card_bytes t.card ++ told_bytes t.told
 
-unfoldable pub cardTurnLeft : List ℕ → CardTurn → List ℕ
-cardTurnLeft b t = cond (toldRefuses t.told) b (overlay b 0 (cardTurnBytes t))
+unfoldable pub card_turn_left : List ℕ → CardTurn → List ℕ
+card_turn_left b t = cond (told_refuses t.told) b (overlay b 0 (card_turn_bytes t))
 
 -- ---- what lent bytes say: the card, and of the last call that wrote them the event and what came with it
 
@@ -40,17 +40,17 @@ pub record KeptCard : Type 0 where
   pub event : ℕ
   pub length : ℕ
 
-abbrev pub keptCardIn : List ℕ → KeptCard
-keptCardIn b = record { card = linkCardOf b; event = eventOf b; length = length_of b }
+abbrev pub kept_card_in : List ℕ → KeptCard
+kept_card_in b = record { card = link_card_of b; event = event_of b; length = length_of b }
 
 -- .. what they say where a turn was written into them
-abbrev pub keptCardOf : CardTurn → KeptCard
-keptCardOf t = record { card = t.card; event = toldEvent t.told; length = toldLength t.told }
+abbrev pub kept_card_of : CardTurn → KeptCard
+kept_card_of t = record { card = t.card; event = told_event t.told; length = told_length t.told }
 
 -- .. and what the bytes b are to say after a call that gives t
-unfoldable pub keptCardAfter : List ℕ → CardTurn → KeptCard
-keptCardAfter b t = record {
+unfoldable pub kept_card_after : List ℕ → CardTurn → KeptCard
+kept_card_after b t = record {
   card = t.card;
-  event = cond (toldRefuses t.told) (eventOf b) (toldEvent t.told);
-  length = cond (toldRefuses t.told) (length_of b) (toldLength t.told);
+  event = cond (told_refuses t.told) (event_of b) (told_event t.told);
+  length = cond (told_refuses t.told) (length_of b) (told_length t.told);
 }

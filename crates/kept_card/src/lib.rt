@@ -4,13 +4,13 @@ pub mod whole;
 pub mod within;
 
 ghost use Rattle.std.specs.Prelude.{◌≡◌, length};
-ghost use Rattle.kept_card.specs.KeptCard.{stateTag, stateLevel, stateIndex, stateIn, cardBytes, cardIn};
+ghost use Rattle.kept_card.specs.KeptCard.{state_tag, state_level, state_index, state_in, card_bytes, card_in};
 
 use card::{Card, CardState};
 
 // Which state a card is in, as a byte.
 pub fn state_tag(s: CardState) -> u8
-    ensures { result ≡ stateTag s }
+    ensures { result ≡ state_tag s }
 {
     match s {
         CardState::Off => 0,
@@ -25,7 +25,7 @@ pub fn state_tag(s: CardState) -> u8
 }
 
 fn state_level(s: CardState) -> u8
-    ensures { result ≡ stateLevel s }
+    ensures { result ≡ state_level s }
 {
     match s {
         CardState::Off => 0,
@@ -40,7 +40,7 @@ fn state_level(s: CardState) -> u8
 }
 
 fn state_index(s: CardState) -> u8
-    ensures { result ≡ stateIndex s }
+    ensures { result ≡ state_index s }
 {
     match s {
         CardState::Off => 0,
@@ -55,7 +55,7 @@ fn state_index(s: CardState) -> u8
 }
 
 fn state_in(t: u8, l: u8, i: u8) -> CardState
-    ensures { result ≡ stateIn t l i }
+    ensures { result ≡ state_in t l i }
 {
     let level = kept::level_of(l);
     if t == 0 {
@@ -84,7 +84,7 @@ fn state_in(t: u8, l: u8, i: u8) -> CardState
 
 // A card as 20 bytes.
 pub fn card_bytes(c: Card) -> [u8; 20]
-    ensures value { result ≡ cardBytes c }
+    ensures value { result ≡ card_bytes c }
     ensures bytes_len { length c.uid.bytes ≡ 10 }
 {
     let s = c.state;
@@ -104,7 +104,7 @@ pub fn card_bytes(c: Card) -> [u8; 20]
 
 // The card that lent bytes say.
 pub fn card_of(b: &[u8]) -> Card
-    ensures { result ≡ cardIn b.now }
+    ensures { result ≡ card_in b.now }
 {
     let uid = kept::uid_of(b);
     let blocks = kept::at(b, 3) == 1;

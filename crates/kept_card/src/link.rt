@@ -1,12 +1,12 @@
 // A card's end of the block protocol as bytes, those of the places 20 to 44.
 ghost use Rattle.std.specs.Prelude.{◌≡◌};
-ghost use Rattle.kept_card.specs.KeptLink.{Sized, numberTag, number_in, phaseTag, phaseWtx, phaseIn, blockTag, blockFirst, blockSecond, blockIn, linkBytes, link_in};
+ghost use Rattle.kept_card.specs.KeptLink.{Sized, number_tag, number_in, phase_tag, phase_wtx, phase_in, block_tag, block_first, block_second, block_in, link_bytes, link_in};
 
 use block::Block;
 use card_blocks::{CardLink, CardPhase};
 
 fn number_tag(n: bool) -> u8
-    ensures { result ≡ numberTag n }
+    ensures { result ≡ number_tag n }
 {
     if n { 0 } else { 1 }
 }
@@ -21,7 +21,7 @@ fn number_in(b: u8) -> bool
 }
 
 fn phase_tag(p: CardPhase) -> u8
-    ensures { result ≡ phaseTag p }
+    ensures { result ≡ phase_tag p }
 {
     match p {
         CardPhase::Receiving => 0,
@@ -32,7 +32,7 @@ fn phase_tag(p: CardPhase) -> u8
 }
 
 fn phase_wtx(p: CardPhase) -> u8
-    ensures { result ≡ phaseWtx p }
+    ensures { result ≡ phase_wtx p }
 {
     match p {
         CardPhase::Receiving => 0,
@@ -43,7 +43,7 @@ fn phase_wtx(p: CardPhase) -> u8
 }
 
 fn phase_in(t: u8, w: u8) -> CardPhase
-    ensures { result ≡ phaseIn t w }
+    ensures { result ≡ phase_in t w }
 {
     if t == 0 {
         return CardPhase::Receiving;
@@ -58,7 +58,7 @@ fn phase_in(t: u8, w: u8) -> CardPhase
 }
 
 fn block_tag(b: Block) -> u8
-    ensures { result ≡ blockTag b }
+    ensures { result ≡ block_tag b }
 {
     match b {
         Block::I(_, _) => 1,
@@ -72,7 +72,7 @@ fn block_tag(b: Block) -> u8
 }
 
 fn block_first(b: Block) -> u8
-    ensures { result ≡ blockFirst b }
+    ensures { result ≡ block_first b }
 {
     match b {
         Block::I(n, _) => kept::flag(n),
@@ -86,7 +86,7 @@ fn block_first(b: Block) -> u8
 }
 
 fn block_second(b: Block) -> u8
-    ensures { result ≡ blockSecond b }
+    ensures { result ≡ block_second b }
 {
     match b {
         Block::I(_, chained) => kept::flag(chained),
@@ -100,7 +100,7 @@ fn block_second(b: Block) -> u8
 }
 
 fn block_in(t: u8, x: u8, y: u8) -> Block
-    ensures { result ≡ blockIn t x y }
+    ensures { result ≡ block_in t x y }
 {
     let n = x == 1;
     let chained = y == 1;
@@ -126,7 +126,7 @@ fn block_in(t: u8, x: u8, y: u8) -> Block
 }
 
 pub fn link_bytes(l: CardLink) -> [u8; 25]
-    ensures value { result ≡ linkBytes l }
+    ensures value { result ≡ link_bytes l }
     ensures sized { Sized l }
 {
     let number = number_tag(l.number);

@@ -1,16 +1,16 @@
 // Functions that only crates of this repository call: each has a condition, and its callers' proofs show that they meet it.
 ghost use Rattle.std.specs.Prelude.{◌≡◌, true, ◌≤◌, length};
 ghost use Rattle.rows.specs.Rows.{overlay};
-ghost use Rattle.kept.specs.Kept.{stateSize, toldNumber, toldRefuses};
-ghost use Rattle.kept_card.specs.KeptWhole.{linkCardOf, cardTurnBytes, cardTurnLeft, keptCardIn, keptCardOf, keptCardAfter};
+ghost use Rattle.kept.specs.Kept.{state_size, told_number, told_refuses};
+ghost use Rattle.kept_card.specs.KeptWhole.{link_card_of, card_turn_bytes, card_turn_left, kept_card_in, kept_card_of, kept_card_after};
 
 use card_link::CardTurn;
 
 // Writes what comes of a call into lent bytes.
 fn keep(t: CardTurn, state: &mut [u8])
-    requires { stateSize ≤ length state.old }
-    ensures state_after { state.new ≡ overlay state.old 0 (cardTurnBytes t) }
-    ensures state_after_2 { keptCardIn state.new ≡ keptCardOf t }
+    requires { state_size ≤ length state.old }
+    ensures state_after { state.new ≡ overlay state.old 0 (card_turn_bytes t) }
+    ensures state_after_2 { kept_card_in state.new ≡ kept_card_of t }
 {
     let x = t.card;
     let c = x.card;
@@ -27,10 +27,10 @@ fn keep(t: CardTurn, state: &mut [u8])
 // Keeps what comes of a call on the card that lent bytes say, and gives the call's number. A call that is refused leaves the card what it was,
 // and writes nothing. Else the bytes say the card then, and what else its host is told.
 pub fn settle(t: CardTurn, state: &mut [u8]) -> usize
-    requires { (stateSize ≤ length state.old) × (toldRefuses t.told ≡ true → t.card ≡ linkCardOf state.old) }
-    ensures value { result ≡ toldNumber t.bits t.told }
-    ensures state_after { state.new ≡ cardTurnLeft state.old t }
-    ensures state_after_2 { keptCardIn state.new ≡ keptCardAfter state.old t }
+    requires { (state_size ≤ length state.old) × (told_refuses t.told ≡ true → t.card ≡ link_card_of state.old) }
+    ensures value { result ≡ told_number t.bits t.told }
+    ensures state_after { state.new ≡ card_turn_left state.old t }
+    ensures state_after_2 { kept_card_in state.new ≡ kept_card_after state.old t }
 {
     let told = t.told;
     if kept::told_refuses(told) {

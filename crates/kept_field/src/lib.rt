@@ -2,7 +2,7 @@
 pub mod within;
 
 ghost use Rattle.std.specs.Prelude.{◌≡◌, ◌<◌};
-ghost use Rattle.kept_field.specs.KeptField.{start_in, sweptTail};
+ghost use Rattle.kept_field.specs.KeptField.{start_in, swept_tail};
 
 use sweep::Start;
 
@@ -19,7 +19,7 @@ pub fn start_of(state: &[u8], tick: u32) -> Start
 
 // What a sweep leaves behind the reader in its state: the event 3, the bytes of log written and the frames sent.
 fn swept_tail(logged: usize, frames: usize) -> [u8; 17]
-    ensures value { result ≡ sweptTail logged frames }
+    ensures value { result ≡ swept_tail logged frames }
     ensures logged_bound { (logged < 18446744073709551616) × (frames < 18446744073709551616) }
 {
     let a = kept::word(logged);

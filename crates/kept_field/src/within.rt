@@ -1,9 +1,9 @@
 // Functions that only crates of this repository call: each has a condition, and its callers' proofs show that they meet it.
 ghost use Rattle.std.specs.Prelude.{◌≡◌, ◌*◌, ◌≤◌, length, take};
-ghost use Rattle.limits.specs.Limits.{mostCards};
-ghost use Rattle.kept.specs.Kept.{stateSize};
+ghost use Rattle.limits.specs.Limits.{most_cards};
+ghost use Rattle.kept.specs.Kept.{state_size};
 ghost use Rattle.rows.specs.Rows.{overlay};
-ghost use Rattle.kept_field.specs.KeptField.{cardsIn, fieldIn, cardsLeft, sweptBytes, sweptIn, sweptKept, sweptNumber, stateLeft, rowLeft, Says};
+ghost use Rattle.kept_field.specs.KeptField.{cards_in, field_in, cards_left, swept_bytes, swept_in, swept_kept, swept_number, state_left, row_left, Says};
 
 use card::Card;
 use limits::MOST_CARDS;
@@ -13,8 +13,8 @@ use sweep::Swept;
 
 // The first n cards of a row of states, as the array that a sweep takes: as many as it holds, then cards of zeros.
 pub fn cards_of(b: &[u8], n: usize) -> [Card; MOST_CARDS]
-    requires { stateSize * n ≤ length b.now }
-    ensures { result ≡ fieldIn n b.now }
+    requires { state_size * n ≤ length b.now }
+    ensures { result ≡ field_in n b.now }
 {
     let none = kept_card::card_of(&b[..0]);
     let mut cards = [none; MOST_CARDS];
@@ -28,10 +28,10 @@ pub fn cards_of(b: &[u8], n: usize) -> [Card; MOST_CARDS]
 
 // Writes the first n cards of an array, as many as it has, back into a row of states: of each state its first 20 bytes.
 pub fn put_cards(cards: [Card; MOST_CARDS], n: usize, b: &mut [u8])
-    requires { stateSize * n ≤ length b.old }
-    ensures b_after { b.new ≡ cardsLeft b.old (take n cards) }
-    ensures b_after_2 { cardsIn (length (take n cards)) b.new ≡ take n cards }
-    ensures cards_len { length cards ≡ mostCards }
+    requires { state_size * n ≤ length b.old }
+    ensures b_after { b.new ≡ cards_left b.old (take n cards) }
+    ensures b_after_2 { cards_in (length (take n cards)) b.new ≡ take n cards }
+    ensures cards_len { length cards ≡ most_cards }
 {
     let m = kept::few(n);
     for i in 0..m {
@@ -43,9 +43,9 @@ pub fn put_cards(cards: [Card; MOST_CARDS], n: usize, b: &mut [u8])
 
 // Writes what a sweep leaves of the reader into its state: the reader, its link k, and what is told of the sweep.
 fn keep(r: Reader, k: Link, logged: usize, frames: usize, state: &mut [u8])
-    requires { stateSize ≤ length state.old }
-    ensures state_after { state.new ≡ overlay state.old 0 (sweptBytes r k logged frames) }
-    ensures state_after_2 { sweptIn state.new ≡ sweptKept r k logged frames }
+    requires { state_size ≤ length state.old }
+    ensures state_after { state.new ≡ overlay state.old 0 (swept_bytes r k logged frames) }
+    ensures state_after_2 { swept_in state.new ≡ swept_kept r k logged frames }
 {
     let selection = kept_reader::select::selection_bytes(r);
     let link = kept_reader::link::link_bytes(k);
@@ -58,10 +58,10 @@ fn keep(r: Reader, k: Link, logged: usize, frames: usize, state: &mut [u8])
 // Keeps what a sweep by value gave, s, in the reader's state and in the row of n cards' states, and gives the number for C. A sweep that was
 // refused writes nothing.
 pub fn settle(s: Swept, n: usize, state: &mut [u8], cards: &mut [u8]) -> usize
-    requires { (stateSize ≤ length state.old) × (stateSize * n ≤ length cards.old) }
-    ensures value { result ≡ sweptNumber s }
-    ensures state_after { state.new ≡ stateLeft state.old s }
-    ensures cards_after { cards.new ≡ rowLeft n cards.old s }
+    requires { (state_size ≤ length state.old) × (state_size * n ≤ length cards.old) }
+    ensures value { result ≡ swept_number s }
+    ensures state_after { state.new ≡ state_left state.old s }
+    ensures cards_after { cards.new ≡ row_left n cards.old s }
     ensures says { Says state.old n s state.new cards.new }
 {
     let a = s.answer;

@@ -2,9 +2,9 @@
 pub mod within;
 
 ghost use Rattle.std.specs.Prelude.{◌≡◌, ◌&&◌, ◌<◌, length};
-ghost use Rattle.reader.specs.Calls.{rowAfter};
-ghost use Rattle.kept_reader.specs.KeptReader.{selectionEvent, selectionLength};
-ghost use Rattle.kept_memory.specs.KeptMemory.{startOn, toldBytes, pathBytes, stays, Fits};
+ghost use Rattle.reader.specs.Calls.{row_after};
+ghost use Rattle.kept_reader.specs.KeptReader.{selection_event, selection_length};
+ghost use Rattle.kept_memory.specs.KeptMemory.{start_on, told_bytes, path_bytes, stays, Fits};
 
 use memory::{Memory, Path};
 use reader::{Answer, Reader};
@@ -14,8 +14,8 @@ pub const MEMORY_SIZE: usize = 192;
 
 // Begins a sweep by the reader r with the path p. Where that is refused the path stays, as the reader does.
 pub fn start_sweep(r: Reader, p: Path, out: &mut [u8]) -> Memory
-    ensures value { result ≡ startOn r p (length out.old) }
-    ensures out_after { out.new ≡ rowAfter result.turn out.old }
+    ensures value { result ≡ start_on r p (length out.old) }
+    ensures out_after { out.new ≡ row_after result.turn out.old }
 {
     let m = memory::start_sweep(r, out);
     let t = m.turn;
@@ -27,7 +27,7 @@ pub fn start_sweep(r: Reader, p: Path, out: &mut [u8]) -> Memory
 }
 
 fn event(a: Answer) -> u8
-    ensures { result ≡ selectionEvent a }
+    ensures { result ≡ selection_event a }
 {
     match a {
         Answer::Sends(_) => 0,
@@ -39,7 +39,7 @@ fn event(a: Answer) -> u8
 }
 
 fn place(a: Answer) -> usize
-    ensures { result ≡ selectionLength a }
+    ensures { result ≡ selection_length a }
 {
     match a {
         Answer::Sends(_) => 0,
@@ -52,8 +52,8 @@ fn place(a: Answer) -> usize
 
 // What stands between the reader and the path: where a whole reader has its link zeros, then the answer's event and length, then zeros.
 fn told_bytes(a: Answer) -> [u8; 43]
-    ensures value { result ≡ toldBytes a }
-    ensures a_bound { selectionLength a < 18446744073709551616 }
+    ensures value { result ≡ told_bytes a }
+    ensures a_bound { selection_length a < 18446744073709551616 }
 {
     let e = event(a);
     let w = kept::word(place(a));
@@ -65,7 +65,7 @@ fn told_bytes(a: Answer) -> [u8; 43]
 
 // A path, as bytes.
 fn path_bytes(p: Path) -> [u8; 128]
-    ensures value { result ≡ pathBytes p }
+    ensures value { result ≡ path_bytes p }
     ensures fits { Fits p }
 {
     let w = kept::word(p.known);

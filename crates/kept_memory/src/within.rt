@@ -1,16 +1,16 @@
 // Functions that only crates of this repository call: each has a condition, and its callers' proofs show that they meet it.
 ghost use Rattle.std.specs.Prelude.{◌≡◌, ◌≤◌, length};
 ghost use Rattle.rows.specs.Rows.{overlay};
-ghost use Rattle.kept_reader.specs.KeptReader.{selectionOf, selectionNumber};
-ghost use Rattle.kept_memory.specs.KeptMemory.{memorySize, pathIn, memoryBytes, memoryLeft, memoryIn, memoryOf, memoryAfter};
+ghost use Rattle.kept_reader.specs.KeptReader.{selection_of, selection_number};
+ghost use Rattle.kept_memory.specs.KeptMemory.{memory_size, path_in, memory_bytes, memory_left, memory_in, memory_of, memory_after};
 
 use memory::{Memory, Path};
 use reader::Reader;
 
 // The path that lent bytes say.
 pub fn path_of(b: &[u8]) -> Path
-    requires { memorySize ≤ length b.now }
-    ensures { result ≡ pathIn b.now }
+    requires { memory_size ≤ length b.now }
+    ensures { result ≡ path_in b.now }
 {
     let known = kept::number_at(b, 64);
     let mut row = [0u8; 120];
@@ -20,9 +20,9 @@ pub fn path_of(b: &[u8]) -> Path
 
 // Writes what comes of a call into lent bytes.
 fn keep(m: Memory, state: &mut [u8])
-    requires { memorySize ≤ length state.old }
-    ensures state_after { state.new ≡ overlay state.old 0 (memoryBytes m) }
-    ensures state_after_2 { memoryIn state.new ≡ memoryOf m }
+    requires { memory_size ≤ length state.old }
+    ensures state_after { state.new ≡ overlay state.old 0 (memory_bytes m) }
+    ensures state_after_2 { memory_in state.new ≡ memory_of m }
 {
     let t = m.turn;
     let r = t.reader;
@@ -39,10 +39,10 @@ fn keep(m: Memory, state: &mut [u8])
 // Keeps what comes of a call on the reader r with the path p, which lent bytes say, and gives the call's number. A call that is refused and
 // leaves both what they were writes nothing. Else the bytes say the reader and the path then, and what else was answered.
 pub fn settle(r: Reader, p: Path, m: Memory, state: &mut [u8]) -> usize
-    requires { (memorySize ≤ length state.old) × (r ≡ selectionOf state.old) × (p ≡ pathIn state.old) }
-    ensures value { result ≡ selectionNumber m.turn.answer }
-    ensures state_after { state.new ≡ memoryLeft state.old m }
-    ensures state_after_2 { memoryIn state.new ≡ memoryAfter state.old m }
+    requires { (memory_size ≤ length state.old) × (r ≡ selection_of state.old) × (p ≡ path_in state.old) }
+    ensures value { result ≡ selection_number m.turn.answer }
+    ensures state_after { state.new ≡ memory_left state.old m }
+    ensures state_after_2 { memory_in state.new ≡ memory_after state.old m }
 {
     let t = m.turn;
     let a = t.answer;

@@ -22,105 +22,105 @@ use Rattle.reader_link.specs.declared.LinkReader.{LinkReader}
 use Rattle.reader_link.specs.declared.LinkAnswer.{LinkAnswer}
 use Rattle.reader_link.specs.declared.LinkAnswer.TheVariants.{Selection, Opens, Blocks}
 use Rattle.reader_link.specs.declared.LinkTurn.{LinkTurn}
-use Rattle.kept.specs.Kept.{bytes_at, word, number, flag, flagOf, levelTag, levelOf, sizeTag, uidIn, eventOf, length_of, refused, toldNumber, toldRefuses, toldEvent, toldLength}
+use Rattle.kept.specs.Kept.{bytes_at, word, number, flag, flag_of, level_tag, level_of, size_tag, uid_in, event_of, length_of, refused, told_number, told_refuses, told_event, told_length}
 
 -- ---- the selection
 
-abbrev pub phaseTag : Phase → ℕ
-phaseTag phase.New = 0
-phaseTag phase.ReqaSent = 1
-phaseTag (phase.AnticollisionSent l) = 2
-phaseTag (phase.SelectSent l) = 3
-phaseTag phase.HltaSent = 4
-phaseTag phase.Selected = 5
-phaseTag phase.Finished = 6
-phaseTag phase.WupaSent = 7
-phaseTag (phase.UidSelectSent l) = 8
-phaseTag phase.Stopped = 9
+abbrev pub phase_tag : Phase → ℕ
+phase_tag phase.New = 0
+phase_tag phase.ReqaSent = 1
+phase_tag (phase.AnticollisionSent l) = 2
+phase_tag (phase.SelectSent l) = 3
+phase_tag phase.HltaSent = 4
+phase_tag phase.Selected = 5
+phase_tag phase.Finished = 6
+phase_tag phase.WupaSent = 7
+phase_tag (phase.UidSelectSent l) = 8
+phase_tag phase.Stopped = 9
 
-abbrev pub phaseLevel : Phase → ℕ
-phaseLevel phase.New = 0
-phaseLevel phase.ReqaSent = 0
-phaseLevel (phase.AnticollisionSent l) = levelTag l
-phaseLevel (phase.SelectSent l) = levelTag l
-phaseLevel phase.HltaSent = 0
-phaseLevel phase.Selected = 0
-phaseLevel phase.Finished = 0
-phaseLevel phase.WupaSent = 0
-phaseLevel (phase.UidSelectSent l) = levelTag l
-phaseLevel phase.Stopped = 0
+abbrev pub phase_level : Phase → ℕ
+phase_level phase.New = 0
+phase_level phase.ReqaSent = 0
+phase_level (phase.AnticollisionSent l) = level_tag l
+phase_level (phase.SelectSent l) = level_tag l
+phase_level phase.HltaSent = 0
+phase_level phase.Selected = 0
+phase_level phase.Finished = 0
+phase_level phase.WupaSent = 0
+phase_level (phase.UidSelectSent l) = level_tag l
+phase_level phase.Stopped = 0
 
-abbrev pub phaseOf : ℕ → ℕ → Phase
-phaseOf t l =
+abbrev pub phase_of : ℕ → ℕ → Phase
+phase_of t l =
     cond (eqb t 0) phase.New
     (cond (eqb t 1) phase.ReqaSent
-    (cond (eqb t 2) (phase.AnticollisionSent (levelOf l))
-    (cond (eqb t 3) (phase.SelectSent (levelOf l))
+    (cond (eqb t 2) (phase.AnticollisionSent (level_of l))
+    (cond (eqb t 3) (phase.SelectSent (level_of l))
     (cond (eqb t 4) phase.HltaSent
     (cond (eqb t 5) phase.Selected
     (cond (eqb t 6) phase.Finished
     (cond (eqb t 7) phase.WupaSent
-    (cond (eqb t 8) (phase.UidSelectSent (levelOf l)) phase.Stopped))))))))
+    (cond (eqb t 8) (phase.UidSelectSent (level_of l)) phase.Stopped))))))))
 
-unfoldable pub selectionBytes : Reader → List ℕ
-selectionBytes r =
-    phaseTag r.phase ∷ phaseLevel r.phase ∷ flag r.sweeps
-    ∷ (bytes_at 5 r.five 0 ++ (r.known ∷ sizeTag r.uid.size ∷ (bytes_at 10 r.uid.bytes 0 ++ (r.sak ∷ []))))
+unfoldable pub selection_bytes : Reader → List ℕ
+selection_bytes r =
+    phase_tag r.phase ∷ phase_level r.phase ∷ flag r.sweeps
+    ∷ (bytes_at 5 r.five 0 ++ (r.known ∷ size_tag r.uid.size ∷ (bytes_at 10 r.uid.bytes 0 ++ (r.sak ∷ []))))
 
-unfoldable pub selectionOf : List ℕ → Reader
-selectionOf b = record {
-  phase = phaseOf (get_or b 0 0) (get_or b 1 0);
-  sweeps = flagOf (get_or b 2 0);
+unfoldable pub selection_of : List ℕ → Reader
+selection_of b = record {
+  phase = phase_of (get_or b 0 0) (get_or b 1 0);
+  sweeps = flag_of (get_or b 2 0);
   five = bytes_at 5 b 3;
   known = get_or b 8 0;
-  uid = uidIn b;
+  uid = uid_in b;
   sak = get_or b 20 0;
 }
 
 -- ---- the link
 
-abbrev pub turnTag : Turn → ℕ
-turnTag Sending = 0
-turnTag Awaiting = 1
-turnTag Joining = 2
+abbrev pub turn_tag : Turn → ℕ
+turn_tag Sending = 0
+turn_tag Awaiting = 1
+turn_tag Joining = 2
 
 abbrev pub turn_of : ℕ → Turn
 turn_of b = cond (eqb b 0) Sending (cond (eqb b 1) Awaiting Joining)
 
-abbrev pub linkPhaseTag : ReaderPhase → ℕ
-linkPhaseTag Open = 0
-linkPhaseTag (Talking t) = 1
-linkPhaseTag Leaving = 2
-linkPhaseTag Finished = 3
-linkPhaseTag Stopped = 4
+abbrev pub link_phase_tag : ReaderPhase → ℕ
+link_phase_tag Open = 0
+link_phase_tag (Talking t) = 1
+link_phase_tag Leaving = 2
+link_phase_tag Finished = 3
+link_phase_tag Stopped = 4
 
-abbrev pub linkPhaseTurn : ReaderPhase → ℕ
-linkPhaseTurn Open = 0
-linkPhaseTurn (Talking t) = turnTag t
-linkPhaseTurn Leaving = 0
-linkPhaseTurn Finished = 0
-linkPhaseTurn Stopped = 0
+abbrev pub link_phase_turn : ReaderPhase → ℕ
+link_phase_turn Open = 0
+link_phase_turn (Talking t) = turn_tag t
+link_phase_turn Leaving = 0
+link_phase_turn Finished = 0
+link_phase_turn Stopped = 0
 
-abbrev pub linkPhaseOf : ℕ → ℕ → ReaderPhase
-linkPhaseOf t u =
+abbrev pub link_phase_of : ℕ → ℕ → ReaderPhase
+link_phase_of t u =
     cond (eqb t 0) Open (cond (eqb t 1) (Talking (turn_of u)) (cond (eqb t 2) Leaving (cond (eqb t 3) Finished Stopped)))
 
-unfoldable pub linkedBytes : ReaderLink → List ℕ
-linkedBytes l =
-    2 ∷ l.own ∷ l.card ∷ flag l.number ∷ linkPhaseTag l.phase ∷ linkPhaseTurn l.phase ∷ l.again ∷ l.repeats
+unfoldable pub linked_bytes : ReaderLink → List ℕ
+linked_bytes l =
+    2 ∷ l.own ∷ l.card ∷ flag l.number ∷ link_phase_tag l.phase ∷ link_phase_turn l.phase ∷ l.again ∷ l.repeats
     ∷ (word 8 l.at ++ word 8 l.joined)
 
-abbrev pub linkBytes : Link → List ℕ
-linkBytes NoLink = replicate 24 0
-linkBytes (RatsSent i) = 1 ∷ i ∷ replicate 22 0
-linkBytes (Linked l) = linkedBytes l
+abbrev pub link_bytes : Link → List ℕ
+link_bytes NoLink = replicate 24 0
+link_bytes (RatsSent i) = 1 ∷ i ∷ replicate 22 0
+link_bytes (Linked l) = linked_bytes l
 
-unfoldable pub linkedOf : List ℕ → ReaderLink
-linkedOf b = record {
+unfoldable pub linked_of : List ℕ → ReaderLink
+linked_of b = record {
   own = get_or b 22 0;
   card = get_or b 23 0;
-  number = flagOf (get_or b 24 0);
-  phase = linkPhaseOf (get_or b 25 0) (get_or b 26 0);
+  number = flag_of (get_or b 24 0);
+  phase = link_phase_of (get_or b 25 0) (get_or b 26 0);
   at = number 8 b 29;
   joined = number 8 b 37;
   again = get_or b 27 0;
@@ -131,16 +131,16 @@ abbrev pub link_in : ℕ → ℕ → ReaderLink → Link
 link_in t own l = cond (eqb t 0) NoLink (cond (eqb t 1) (RatsSent own) (Linked l))
 
 unfoldable pub link_of : List ℕ → Link
-link_of b = link_in (get_or b 21 0) (get_or b 22 0) (linkedOf b)
+link_of b = link_in (get_or b 21 0) (get_or b 22 0) (linked_of b)
 
 -- ---- the whole reader
 
-abbrev pub readerBytes : LinkReader → List ℕ
-readerBytes x = selectionBytes x.reader ++ linkBytes x.link
+abbrev pub reader_bytes : LinkReader → List ℕ
+reader_bytes x = selection_bytes x.reader ++ link_bytes x.link
 
 -- every row of bytes is one reader
-abbrev pub readerOf : List ℕ → LinkReader
-readerOf b = record { reader = selectionOf b; link = link_of b }
+abbrev pub reader_of : List ℕ → LinkReader
+reader_of b = record { reader = selection_of b; link = link_of b }
 
 -- what every link in memory has: numbers of 64 bits
 abbrev pub Sized : Link → Type 0
@@ -154,75 +154,75 @@ Fits x = (length x.reader.five ≡ 5) × ((length x.reader.uid.bytes ≡ 10) × 
 
 -- ---- what a call answers: so many bits to send, or minus the refusal's number
 
-abbrev pub selectionNumber : Answer → ℕ
-selectionNumber (Sends n) = n
-selectionNumber (Finds n) = n
-selectionNumber Selects = 0
-selectionNumber Finishes = 0
-selectionNumber (Declines e) = refused e
+abbrev pub selection_number : Answer → ℕ
+selection_number (Sends n) = n
+selection_number (Finds n) = n
+selection_number Selects = 0
+selection_number Finishes = 0
+selection_number (Declines e) = refused e
 
-abbrev pub answerNumber : LinkAnswer → ℕ
-answerNumber (Selection a) = selectionNumber a
-answerNumber (Opens i) = 0
-answerNumber (Blocks n t) = toldNumber n t
+abbrev pub answer_number : LinkAnswer → ℕ
+answer_number (Selection a) = selection_number a
+answer_number (Opens i) = 0
+answer_number (Blocks n t) = told_number n t
 
-abbrev pub selectionRefuses : Answer → Bool
-selectionRefuses (Sends n) = false
-selectionRefuses (Finds n) = false
-selectionRefuses Selects = false
-selectionRefuses Finishes = false
-selectionRefuses (Declines e) = true
+abbrev pub selection_refuses : Answer → Bool
+selection_refuses (Sends n) = false
+selection_refuses (Finds n) = false
+selection_refuses Selects = false
+selection_refuses Finishes = false
+selection_refuses (Declines e) = true
 
-abbrev pub answerRefuses : LinkAnswer → Bool
-answerRefuses (Selection a) = selectionRefuses a
-answerRefuses (Opens i) = false
-answerRefuses (Blocks n t) = toldRefuses t
+abbrev pub answer_refuses : LinkAnswer → Bool
+answer_refuses (Selection a) = selection_refuses a
+answer_refuses (Opens i) = false
+answer_refuses (Blocks n t) = told_refuses t
 
 -- the event: 1 a UID found in a sweep, 2 a card selected, 3 the sweep over, 4 a link opened, 5 a message, 7 deselected; none: 0
-abbrev pub selectionEvent : Answer → ℕ
-selectionEvent (Sends n) = 0
-selectionEvent (Finds n) = 1
-selectionEvent Selects = 2
-selectionEvent Finishes = 3
-selectionEvent (Declines e) = 0
+abbrev pub selection_event : Answer → ℕ
+selection_event (Sends n) = 0
+selection_event (Finds n) = 1
+selection_event Selects = 2
+selection_event Finishes = 3
+selection_event (Declines e) = 0
 
-abbrev pub answerEvent : LinkAnswer → ℕ
-answerEvent (Selection a) = selectionEvent a
-answerEvent (Opens i) = 4
-answerEvent (Blocks n t) = toldEvent t
+abbrev pub answer_event : LinkAnswer → ℕ
+answer_event (Selection a) = selection_event a
+answer_event (Opens i) = 4
+answer_event (Blocks n t) = told_event t
 
 -- what comes with it: the length of a message, the size index of the card that opened, or the byte index of a refusal (T-07)
-abbrev pub selectionLength : Answer → ℕ
-selectionLength (Sends n) = 0
-selectionLength (Finds n) = 0
-selectionLength Selects = 0
-selectionLength Finishes = 0
-selectionLength (Declines e) = place_of e
+abbrev pub selection_length : Answer → ℕ
+selection_length (Sends n) = 0
+selection_length (Finds n) = 0
+selection_length Selects = 0
+selection_length Finishes = 0
+selection_length (Declines e) = place_of e
 
-abbrev pub answerLength : LinkAnswer → ℕ
-answerLength (Selection a) = selectionLength a
-answerLength (Opens i) = i
-answerLength (Blocks n t) = toldLength t
+abbrev pub answer_length : LinkAnswer → ℕ
+answer_length (Selection a) = selection_length a
+answer_length (Opens i) = i
+answer_length (Blocks n t) = told_length t
 
 -- ---- what a call leaves in the lent bytes: the reader, then what was answered. Nothing is written where a call is refused and the reader stays
 -- what it was
 
-abbrev pub answerBytes : LinkAnswer → List ℕ
-answerBytes a = answerEvent a ∷ word 8 (answerLength a)
+abbrev pub answer_bytes : LinkAnswer → List ℕ
+answer_bytes a = answer_event a ∷ word 8 (answer_length a)
 
-abbrev pub turnBytes : LinkTurn → List ℕ
-turnBytes t = readerBytes t.reader ++ answerBytes t.answer
+abbrev pub turn_bytes : LinkTurn → List ℕ
+turn_bytes t = reader_bytes t.reader ++ answer_bytes t.answer
 
 -- two readers are one: they are kept as the same bytes (law `same-reader`)
-abbrev pub sameReader : LinkReader → LinkReader → Bool
-sameReader x y = same (selectionBytes x.reader) (selectionBytes y.reader) && same (linkBytes x.link) (linkBytes y.link)
+abbrev pub same_reader : LinkReader → LinkReader → Bool
+same_reader x y = same (selection_bytes x.reader) (selection_bytes y.reader) && same (link_bytes x.link) (link_bytes y.link)
 
 -- a call on the reader x is refused, and x stays
 unfoldable pub stays : LinkReader → LinkTurn → Bool
-stays x t = answerRefuses t.answer && sameReader x t.reader
+stays x t = answer_refuses t.answer && same_reader x t.reader
 
-unfoldable pub turnLeft : List ℕ → LinkTurn → List ℕ
-turnLeft b t = cond (stays (readerOf b) t) b (overlay b 0 (turnBytes t))
+unfoldable pub turn_left : List ℕ → LinkTurn → List ℕ
+turn_left b t = cond (stays (reader_of b) t) b (overlay b 0 (turn_bytes t))
 
 -- ---- what lent bytes say: the reader, and of the last call that wrote them the event and what came with it
 
@@ -231,17 +231,17 @@ pub record Kept : Type 0 where
   pub event : ℕ
   pub length : ℕ
 
-abbrev pub keptIn : List ℕ → Kept
-keptIn b = record { reader = readerOf b; event = eventOf b; length = length_of b }
+abbrev pub kept_in : List ℕ → Kept
+kept_in b = record { reader = reader_of b; event = event_of b; length = length_of b }
 
 -- .. what they say where a turn was written into them
-abbrev pub keptOf : LinkTurn → Kept
-keptOf t = record { reader = t.reader; event = answerEvent t.answer; length = answerLength t.answer }
+abbrev pub kept_of : LinkTurn → Kept
+kept_of t = record { reader = t.reader; event = answer_event t.answer; length = answer_length t.answer }
 
 -- .. and what the bytes b are to say after a call that gives t
-unfoldable pub keptAfter : List ℕ → LinkTurn → Kept
-keptAfter b t = record {
+unfoldable pub kept_after : List ℕ → LinkTurn → Kept
+kept_after b t = record {
   reader = t.reader;
-  event = cond (stays (readerOf b) t) (eventOf b) (answerEvent t.answer);
-  length = cond (stays (readerOf b) t) (length_of b) (answerLength t.answer);
+  event = cond (stays (reader_of b) t) (event_of b) (answer_event t.answer);
+  length = cond (stays (reader_of b) t) (length_of b) (answer_length t.answer);
 }

@@ -4,14 +4,14 @@ pub mod select;
 pub mod within;
 
 ghost use Rattle.std.specs.Prelude.{◌≡◌, ◌&&◌, ◌<◌};
-ghost use Rattle.kept_reader.specs.KeptReader.{Fits, readerOf, selectionNumber, answerNumber, selectionRefuses, answerRefuses, selectionEvent, answerEvent, selectionLength, answerLength, answerBytes, stays};
+ghost use Rattle.kept_reader.specs.KeptReader.{Fits, reader_of, selection_number, answer_number, selection_refuses, answer_refuses, selection_event, answer_event, selection_length, answer_length, answer_bytes, stays};
 
 use reader::Answer;
 use reader_link::{LinkAnswer, LinkReader, LinkTurn};
 
 // The reader that lent bytes say.
 pub fn reader_of(b: &[u8]) -> LinkReader
-    ensures { result ≡ readerOf b.now }
+    ensures { result ≡ reader_of b.now }
 {
     let reader = select::selection_of(b);
     let link = link::link_of(b);
@@ -20,7 +20,7 @@ pub fn reader_of(b: &[u8]) -> LinkReader
 
 // So many bits that a selection's answer sends, or minus the refusal's number.
 pub fn selection_number(a: Answer) -> usize
-    ensures { result ≡ selectionNumber a }
+    ensures { result ≡ selection_number a }
 {
     match a {
         Answer::Sends(n) => n,
@@ -33,7 +33,7 @@ pub fn selection_number(a: Answer) -> usize
 
 // So many bits to send, or minus the refusal's number.
 pub fn answer_number(a: LinkAnswer) -> usize
-    ensures { result ≡ answerNumber a }
+    ensures { result ≡ answer_number a }
 {
     match a {
         LinkAnswer::Selection(s) => selection_number(s),
@@ -44,7 +44,7 @@ pub fn answer_number(a: LinkAnswer) -> usize
 
 // Is a selection's answer a refusal?
 pub fn selection_refuses(a: Answer) -> bool
-    ensures { result ≡ selectionRefuses a }
+    ensures { result ≡ selection_refuses a }
 {
     match a {
         Answer::Sends(_) => false,
@@ -56,7 +56,7 @@ pub fn selection_refuses(a: Answer) -> bool
 }
 
 fn answer_refuses(a: LinkAnswer) -> bool
-    ensures { result ≡ answerRefuses a }
+    ensures { result ≡ answer_refuses a }
 {
     match a {
         LinkAnswer::Selection(s) => selection_refuses(s),
@@ -66,7 +66,7 @@ fn answer_refuses(a: LinkAnswer) -> bool
 }
 
 fn selection_event(a: Answer) -> u8
-    ensures { result ≡ selectionEvent a }
+    ensures { result ≡ selection_event a }
 {
     match a {
         Answer::Sends(_) => 0,
@@ -78,7 +78,7 @@ fn selection_event(a: Answer) -> u8
 }
 
 fn answer_event(a: LinkAnswer) -> u8
-    ensures { result ≡ answerEvent a }
+    ensures { result ≡ answer_event a }
 {
     match a {
         LinkAnswer::Selection(s) => selection_event(s),
@@ -88,7 +88,7 @@ fn answer_event(a: LinkAnswer) -> u8
 }
 
 fn selection_length(a: Answer) -> usize
-    ensures { result ≡ selectionLength a }
+    ensures { result ≡ selection_length a }
 {
     match a {
         Answer::Sends(_) => 0,
@@ -100,7 +100,7 @@ fn selection_length(a: Answer) -> usize
 }
 
 fn answer_length(a: LinkAnswer) -> usize
-    ensures { result ≡ answerLength a }
+    ensures { result ≡ answer_length a }
 {
     match a {
         LinkAnswer::Selection(s) => selection_length(s),
@@ -110,8 +110,8 @@ fn answer_length(a: LinkAnswer) -> usize
 }
 
 fn answer_bytes(a: LinkAnswer) -> [u8; 9]
-    ensures value { result ≡ answerBytes a }
-    ensures a_bound { answerLength a < 18446744073709551616 }
+    ensures value { result ≡ answer_bytes a }
+    ensures a_bound { answer_length a < 18446744073709551616 }
 {
     let e = answer_event(a);
     let w = kept::word(answer_length(a));

@@ -1,13 +1,13 @@
 // The link of a reader kept in lent bytes: its end of the block protocol.
 ghost use Rattle.std.specs.Prelude.{◌≡◌};
 ghost use Rattle.reader_link.specs.declared.Link.TheVariants.{Linked};
-ghost use Rattle.kept_reader.specs.KeptReader.{Sized, turnTag, turn_of, linkPhaseTag, linkPhaseTurn, linkPhaseOf, linkedBytes, linkBytes, linkedOf, link_in, link_of};
+ghost use Rattle.kept_reader.specs.KeptReader.{Sized, turn_tag, turn_of, link_phase_tag, link_phase_turn, link_phase_of, linked_bytes, link_bytes, linked_of, link_in, link_of};
 
 use reader_blocks::{ReaderLink, ReaderPhase, Turn};
 use reader_link::Link;
 
 fn turn_tag(t: Turn) -> u8
-    ensures { result ≡ turnTag t }
+    ensures { result ≡ turn_tag t }
 {
     match t {
         Turn::Sending => 0,
@@ -29,7 +29,7 @@ fn turn_of(b: u8) -> Turn
 }
 
 fn link_phase_tag(p: ReaderPhase) -> u8
-    ensures { result ≡ linkPhaseTag p }
+    ensures { result ≡ link_phase_tag p }
 {
     match p {
         ReaderPhase::Open => 0,
@@ -41,7 +41,7 @@ fn link_phase_tag(p: ReaderPhase) -> u8
 }
 
 fn link_phase_turn(p: ReaderPhase) -> u8
-    ensures { result ≡ linkPhaseTurn p }
+    ensures { result ≡ link_phase_turn p }
 {
     match p {
         ReaderPhase::Open => 0,
@@ -53,7 +53,7 @@ fn link_phase_turn(p: ReaderPhase) -> u8
 }
 
 fn link_phase_of(t: u8, u: u8) -> ReaderPhase
-    ensures { result ≡ linkPhaseOf t u }
+    ensures { result ≡ link_phase_of t u }
 {
     let turn = turn_of(u);
     if t == 0 {
@@ -72,7 +72,7 @@ fn link_phase_of(t: u8, u: u8) -> ReaderPhase
 }
 
 fn linked_bytes(l: ReaderLink) -> [u8; 24]
-    ensures value { result ≡ linkedBytes l }
+    ensures value { result ≡ linked_bytes l }
     ensures sized { Sized (Linked l) }
 {
     let number = kept::flag(l.number);
@@ -89,7 +89,7 @@ fn linked_bytes(l: ReaderLink) -> [u8; 24]
 
 // A reader's link, as bytes.
 pub fn link_bytes(k: Link) -> [u8; 24]
-    ensures value { result ≡ linkBytes k }
+    ensures value { result ≡ link_bytes k }
     ensures sized { Sized k }
 {
     match k {
@@ -102,7 +102,7 @@ pub fn link_bytes(k: Link) -> [u8; 24]
 }
 
 fn linked_of(b: &[u8]) -> ReaderLink
-    ensures { result ≡ linkedOf b.now }
+    ensures { result ≡ linked_of b.now }
 {
     let own = kept::at(b, 22);
     let card = kept::at(b, 23);

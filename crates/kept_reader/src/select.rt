@@ -1,12 +1,12 @@
 // The selection of a reader kept in lent bytes.
 ghost use Rattle.std.specs.Prelude.{◌≡◌, length};
 ghost use Rattle.kept.specs.Kept.{bytes_at};
-ghost use Rattle.kept_reader.specs.KeptReader.{phaseTag, phaseLevel, phaseOf, selectionBytes, selectionOf};
+ghost use Rattle.kept_reader.specs.KeptReader.{phase_tag, phase_level, phase_of, selection_bytes, selection_of};
 
 use reader::{Phase, Reader};
 
 fn phase_tag(p: Phase) -> u8
-    ensures { result ≡ phaseTag p }
+    ensures { result ≡ phase_tag p }
 {
     match p {
         Phase::New => 0,
@@ -23,7 +23,7 @@ fn phase_tag(p: Phase) -> u8
 }
 
 fn phase_level(p: Phase) -> u8
-    ensures { result ≡ phaseLevel p }
+    ensures { result ≡ phase_level p }
 {
     match p {
         Phase::New => 0,
@@ -40,7 +40,7 @@ fn phase_level(p: Phase) -> u8
 }
 
 fn phase_of(t: u8, l: u8) -> Phase
-    ensures { result ≡ phaseOf t l }
+    ensures { result ≡ phase_of t l }
 {
     let level = kept::level_of(l);
     if t == 0 {
@@ -75,7 +75,7 @@ fn phase_of(t: u8, l: u8) -> Phase
 
 // A reader's selection, as bytes.
 pub fn selection_bytes(r: Reader) -> [u8; 21]
-    ensures value { result ≡ selectionBytes r }
+    ensures value { result ≡ selection_bytes r }
     ensures five_len { (length r.five ≡ 5) × (length r.uid.bytes ≡ 10) }
 {
     let p = r.phase;
@@ -107,7 +107,7 @@ fn five_of(b: &[u8]) -> [u8; 5]
 
 // The selection of the reader that lent bytes say.
 pub fn selection_of(b: &[u8]) -> Reader
-    ensures { result ≡ selectionOf b.now }
+    ensures { result ≡ selection_of b.now }
 {
     let phase = phase_of(kept::at(b, 0), kept::at(b, 1));
     let sweeps = kept::at(b, 2) == 1;

@@ -2,14 +2,14 @@
 pub mod within;
 
 ghost use Rattle.std.specs.Prelude.{◌≡◌};
-ghost use Rattle.kept_slots.specs.KeptSlots.{lastAtqb, inquiredTurn, inquiredNumber, drawnAt};
+ghost use Rattle.kept_slots.specs.KeptSlots.{last_atqb, inquired_turn, inquired_number, drawn_at};
 
 use field_b::Drawn;
 use reader_b::{AnswerB, ReaderB, TurnB};
 
 // The card that a state says, with its slot number.
 fn drawn_of(number: u8, b: &[u8]) -> Drawn
-    ensures { result ≡ drawnAt number b.now }
+    ensures { result ≡ drawn_at number b.now }
 {
     let c = kept_b::card::card_of(b);
     Drawn {
@@ -20,7 +20,7 @@ fn drawn_of(number: u8, b: &[u8]) -> Drawn
 
 // The ATQB of the last slot that a list tells of; zeros where it tells of none.
 fn last_atqb(slots: usize, list: &[u8]) -> [u8; 12]
-    ensures { result ≡ lastAtqb slots list.now }
+    ensures { result ≡ last_atqb slots list.now }
 {
     if slots == 0 {
         return [0; 12];
@@ -34,7 +34,7 @@ fn last_atqb(slots: usize, list: &[u8]) -> [u8; 12]
 
 // The turn that a request leaves of its reader: what the last slot held is what the list has of it.
 fn inquired_turn(r: ReaderB, a: AnswerB, slots: usize, list: &[u8]) -> TurnB
-    ensures { result ≡ inquiredTurn r a slots list.now }
+    ensures { result ≡ inquired_turn r a slots list.now }
 {
     if kept_b::answer_refuses(a) {
         return reader_b::within::turn(r, a);
@@ -49,7 +49,7 @@ fn inquired_turn(r: ReaderB, a: AnswerB, slots: usize, list: &[u8]) -> TurnB
 
 // The number for C: how many slots the list tells of, or minus a refusal's number.
 fn inquired_number(a: AnswerB, slots: usize) -> usize
-    ensures { result ≡ inquiredNumber a slots }
+    ensures { result ≡ inquired_number a slots }
 {
     if kept_b::answer_refuses(a) {
         return kept_b::answer_number(a);

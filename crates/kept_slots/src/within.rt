@@ -1,9 +1,9 @@
 // Functions that only crates of this repository call: each has a condition, and its callers' proofs show that they meet it.
 ghost use Rattle.std.specs.Prelude.{◌≡◌, map, ◌*◌, ◌≤◌, length, take};
-ghost use Rattle.limits.specs.Limits.{mostCards};
-ghost use Rattle.kept.specs.Kept.{stateSize};
-ghost use Rattle.kept_b.specs.KeptReaderB.{readerIn, turnLeft, keptIn, keptAfter};
-ghost use Rattle.kept_slots.specs.KeptSlots.{fieldIn, cardsIn, cardsLeft, cardOf, inquiredTurn, inquiredNumber, rowLeft, Says};
+ghost use Rattle.limits.specs.Limits.{most_cards};
+ghost use Rattle.kept.specs.Kept.{state_size};
+ghost use Rattle.kept_b.specs.KeptReaderB.{reader_in, turn_left, kept_in, kept_after};
+ghost use Rattle.kept_slots.specs.KeptSlots.{field_in, cards_in, cards_left, card_of, inquired_turn, inquired_number, row_left, Says};
 
 use field_b::Drawn;
 use limits::MOST_CARDS;
@@ -12,8 +12,8 @@ use slots::Inquired;
 
 // The cards of a row of states, one for each slot number, as the array that a request takes: as many as it holds, then cards of zeros.
 pub fn cards_of(numbers: &[u8], b: &[u8]) -> [Drawn; MOST_CARDS]
-    requires { stateSize * length numbers.now ≤ length b.now }
-    ensures { result ≡ fieldIn numbers.now b.now }
+    requires { state_size * length numbers.now ≤ length b.now }
+    ensures { result ≡ field_in numbers.now b.now }
 {
     let none = crate::drawn_of(0, &b[..0]);
     let mut cards = [none; MOST_CARDS];
@@ -27,10 +27,10 @@ pub fn cards_of(numbers: &[u8], b: &[u8]) -> [Drawn; MOST_CARDS]
 
 // Writes the first n cards of an array, as many as it has, back into a row of states: of each state its first 15 bytes.
 pub fn put_cards(cards: [Drawn; MOST_CARDS], n: usize, b: &mut [u8])
-    requires { stateSize * n ≤ length b.old }
-    ensures b_after { b.new ≡ cardsLeft b.old (take n cards) }
-    ensures b_after_2 { cardsIn (length (take n cards)) b.new ≡ map cardOf (take n cards) }
-    ensures cards_len { length cards ≡ mostCards }
+    requires { state_size * n ≤ length b.old }
+    ensures b_after { b.new ≡ cards_left b.old (take n cards) }
+    ensures b_after_2 { cards_in (length (take n cards)) b.new ≡ map card_of (take n cards) }
+    ensures cards_len { length cards ≡ most_cards }
 {
     let m = kept::few(n);
     for i in 0..m {
@@ -51,11 +51,11 @@ pub fn settle(
     state: &mut [u8],
     cards: &mut [u8],
 ) -> usize
-    requires { (stateSize ≤ length state.old) × (x ≡ readerIn state.old) × (stateSize * n ≤ length cards.old) }
-    ensures value { result ≡ inquiredNumber s.answer s.slots }
-    ensures state_after { state.new ≡ turnLeft state.old (inquiredTurn s.reader s.answer s.slots list.now) }
-    ensures state_after_2 { keptIn state.new ≡ keptAfter state.old (inquiredTurn s.reader s.answer s.slots list.now) }
-    ensures cards_after { cards.new ≡ rowLeft x n cards.old s list.now }
+    requires { (state_size ≤ length state.old) × (x ≡ reader_in state.old) × (state_size * n ≤ length cards.old) }
+    ensures value { result ≡ inquired_number s.answer s.slots }
+    ensures state_after { state.new ≡ turn_left state.old (inquired_turn s.reader s.answer s.slots list.now) }
+    ensures state_after_2 { kept_in state.new ≡ kept_after state.old (inquired_turn s.reader s.answer s.slots list.now) }
+    ensures cards_after { cards.new ≡ row_left x n cards.old s list.now }
     ensures says { Says x n s list.now cards.new }
 {
     let r = s.reader;

@@ -1,8 +1,8 @@
 // Functions that only crates of this repository call: each has a condition, and its callers' proofs show that they meet it.
 ghost use Rattle.std.specs.Prelude.{◌≡◌, ◌*◌, ◌≤◌, length};
-ghost use Rattle.kept.specs.Kept.{stateSize};
-ghost use Rattle.kept_reader.specs.KeptReader.{readerOf, turnLeft, keptIn, keptAfter};
-ghost use Rattle.kept_wake.specs.KeptWake.{wokenTurn, wokenNumber, rowLeft, Says};
+ghost use Rattle.kept.specs.Kept.{state_size};
+ghost use Rattle.kept_reader.specs.KeptReader.{reader_of, turn_left, kept_in, kept_after};
+ghost use Rattle.kept_wake.specs.KeptWake.{woken_turn, woken_number, row_left, Says};
 
 use reader_link::LinkReader;
 use wake::Woken;
@@ -10,11 +10,11 @@ use wake::Woken;
 // Keeps what waking a card by value gave, s, in the state that says the reader x and in the row of n cards' states, and gives the number for C.
 // A call that is refused writes no card.
 pub fn settle(x: LinkReader, s: Woken, n: usize, state: &mut [u8], cards: &mut [u8]) -> usize
-    requires { (stateSize ≤ length state.old) × (x ≡ readerOf state.old) × (stateSize * n ≤ length cards.old) }
-    ensures value { result ≡ wokenNumber s }
-    ensures state_after { state.new ≡ turnLeft state.old (wokenTurn x s) }
-    ensures state_after_2 { keptIn state.new ≡ keptAfter state.old (wokenTurn x s) }
-    ensures cards_after { cards.new ≡ rowLeft n cards.old s }
+    requires { (state_size ≤ length state.old) × (x ≡ reader_of state.old) × (state_size * n ≤ length cards.old) }
+    ensures value { result ≡ woken_number s }
+    ensures state_after { state.new ≡ turn_left state.old (woken_turn x s) }
+    ensures state_after_2 { kept_in state.new ≡ kept_after state.old (woken_turn x s) }
+    ensures cards_after { cards.new ≡ row_left n cards.old s }
     ensures says { Says n s cards.new }
 {
     let r = s.reader;

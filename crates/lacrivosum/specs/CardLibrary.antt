@@ -6,19 +6,19 @@ use Rattle.uid.specs.declared.Made.{Made}
 use Rattle.uid.specs.declared.Made.TheVariants.{Good, NotMade}
 use Rattle.block.specs.declared.Told.TheVariants.{Quiet}
 use Rattle.block.specs.Out.{Out}
-use Rattle.card.specs.Calls.{newCard}
+use Rattle.card.specs.Calls.{new_card}
 use Rattle.card.specs.declared.Card.{Card}
 use Rattle.card_link.specs.declared.LinkCard.{LinkCard}
 use Rattle.card_link.specs.CardCalls.{no_link, declined, turn_of}
-use Rattle.kept.specs.Kept.{stateSize, refused, toldNumber}
-use Rattle.kept_card.specs.KeptWhole.{cardTurnLeft}
+use Rattle.kept.specs.Kept.{state_size, refused, told_number}
+use Rattle.kept_card.specs.KeptWhole.{card_turn_left}
 use Rattle.lacrivosum.specs.Library.{Done, done}
 
 -- a card's call that gives t by value, on the state s and the row o. A state that is too short: 1, all unchanged
-unfoldable pub cardDone : List ℕ → List ℕ → Out LinkCard → Done
-cardDone s o t =
-    cond (ltb (length s) stateSize) (done (refused Room) s o)
-    (done (toldNumber (length t.sent) t.told) (cardTurnLeft s (turn_of t)) (overlay o 0 t.sent))
+unfoldable pub card_done : List ℕ → List ℕ → Out LinkCard → Done
+card_done s o t =
+    cond (ltb (length s) state_size) (done (refused Room) s o)
+    (done (told_number (length t.sent) t.told) (card_turn_left s (turn_of t)) (overlay o 0 t.sent))
 
 -- a call that sends nothing and tells nothing
 abbrev pub quiet : LinkCard → Out LinkCard
@@ -29,9 +29,9 @@ abbrev pub speaks : ℕ → Bool
 speaks b = cond (eqb b 0) false true
 
 -- a new card, without power and without a link, over the card x; where it is refused x stays
-abbrev pub newBy : LinkCard → Card → Made → Out LinkCard
-newBy x c Good = quiet (record { card = c; link = no_link })
-newBy x c (NotMade e) = declined x [] e
+abbrev pub new_by : LinkCard → Card → Made → Out LinkCard
+new_by x c Good = quiet (record { card = c; link = no_link })
+new_by x c (NotMade e) = declined x [] e
 
-unfoldable pub newCall : LinkCard → List ℕ → ℕ → ℕ → Out LinkCard
-newCall x uid blocks index = newBy x (newCard uid (speaks blocks) index).card (newCard uid (speaks blocks) index).made
+unfoldable pub new_call : LinkCard → List ℕ → ℕ → ℕ → Out LinkCard
+new_call x uid blocks index = new_by x (new_card uid (speaks blocks) index).card (new_card uid (speaks blocks) index).made

@@ -3,8 +3,8 @@ use Rattle.std.specs.Prelude.{ℕ, cond, eqb, ℤ, negsuc}
 use Rattle.delay.specs.Calls.{OffSaid}
 
 -- minus 2^63
-abbrev pub noDelay : ℤ
-noDelay = negsuc 9223372036854775807
+abbrev pub no_delay : ℤ
+no_delay = negsuc 9223372036854775807
 
-abbrev pub delayNumber : OffSaid → ℤ
-delayNumber s = cond (eqb s.number 0) s.off noDelay
+abbrev pub delay_number : OffSaid → ℤ
+delay_number s = cond (eqb s.number 0) s.off no_delay

@@ -5,9 +5,9 @@ use Rattle.rows.specs.Rows.{overlay}
 use Rattle.lacrivosum.specs.Library.{coded}
 
 -- an answer to C: its value, or minus the refusal's number
-abbrev pub saidNumber : Said → ℕ
-saidNumber s = coded s.number (get_or s.values 0 0)
+abbrev pub said_number : Said → ℕ
+said_number s = coded s.number (get_or s.values 0 0)
 
 -- the lent row d afterwards: the row w at its front, or unchanged where the answer is a refusal
-abbrev pub saidLeft : Said → List ℕ → List ℕ → List ℕ
-saidLeft s w d = cond (eqb s.number 0) (overlay d 0 w) d
+abbrev pub said_left : Said → List ℕ → List ℕ → List ℕ
+said_left s w d = cond (eqb s.number 0) (overlay d 0 w) d

@@ -1,12 +1,12 @@
 // The whole card for C. A call decodes the card, makes the call of crate card_link by value, and encodes what it leaves; a refused call writes
 // nothing. Every call is 1 on a state that is too short.
 ghost use Rattle.std.specs.Prelude.{◌≡◌, [], ◌≤◌, length};
-ghost use Rattle.card_link.specs.CardCalls.{owing, takeCall, replyCall, askCall, poweredOn, poweredOff, turn_of};
-ghost use Rattle.kept.specs.Kept.{stateSize, flag};
-ghost use Rattle.kept_card.specs.KeptCard.{stateTag, cardIn};
-ghost use Rattle.kept_card.specs.KeptWhole.{linkCardOf, keptCardIn, keptCardAfter};
+ghost use Rattle.card_link.specs.CardCalls.{owing, take_call, reply_call, ask_call, powered_on, powered_off, turn_of};
+ghost use Rattle.kept.specs.Kept.{state_size, flag};
+ghost use Rattle.kept_card.specs.KeptCard.{state_tag, card_in};
+ghost use Rattle.kept_card.specs.KeptWhole.{link_card_of, kept_card_in, kept_card_after};
 ghost use Rattle.lacrivosum.specs.Library.{done, left};
-ghost use Rattle.lacrivosum.specs.CardLibrary.{cardDone, speaks, newCall, quiet};
+ghost use Rattle.lacrivosum.specs.CardLibrary.{card_done, speaks, new_call, quiet};
 
 use block::Told;
 use card_link::{CardTurn, LinkCard};
@@ -24,7 +24,7 @@ pub fn speaks(blocks: u8) -> bool
 }
 
 fn new_turn(x: LinkCard, uid: &[u8], blocks: u8, index: u8) -> CardTurn
-    ensures { result ≡ turn_of (newCall x uid.now blocks index) }
+    ensures { result ≡ turn_of (new_call x uid.now blocks index) }
 {
     let new = card_link::whole::new_card(uid, speaks(blocks), index);
     let card = new.card;
@@ -53,8 +53,8 @@ fn quiet(x: LinkCard) -> CardTurn
 // valid UID, or the size index is over 8; 1.
 #[unsafe(no_mangle)]
 pub extern "C" fn lac_card_new(state: &mut [u8], uid: &[u8], blocks: u8, index: u8) -> usize
-    ensures index_value { cardDone state.old [] (newCall (linkCardOf state.old) uid.now blocks index) ≡ done result state.new [] }
-    ensures state_after { stateSize ≤ length state.old → keptCardIn state.new ≡ keptCardAfter state.old (turn_of (newCall (linkCardOf state.old) uid.now blocks index)) }
+    ensures index_value { card_done state.old [] (new_call (link_card_of state.old) uid.now blocks index) ≡ done result state.new [] }
+    ensures state_after { state_size ≤ length state.old → kept_card_in state.new ≡ kept_card_after state.old (turn_of (new_call (link_card_of state.old) uid.now blocks index)) }
 {
     if state.len() < kept::STATE_SIZE {
         return kept::refused(Refusal::Room);
@@ -67,8 +67,8 @@ pub extern "C" fn lac_card_new(state: &mut [u8], uid: &[u8], blocks: u8, index: 
 // Power comes: a card that was Off is Idle. 1.
 #[unsafe(no_mangle)]
 pub extern "C" fn lac_card_power_on(state: &mut [u8]) -> usize
-    ensures state_value { cardDone state.old [] (quiet (poweredOn (linkCardOf state.old))) ≡ done result state.new [] }
-    ensures state_after { stateSize ≤ length state.old → keptCardIn state.new ≡ keptCardAfter state.old (turn_of (quiet (poweredOn (linkCardOf state.old)))) }
+    ensures state_value { card_done state.old [] (quiet (powered_on (link_card_of state.old))) ≡ done result state.new [] }
+    ensures state_after { state_size ≤ length state.old → kept_card_in state.new ≡ kept_card_after state.old (turn_of (quiet (powered_on (link_card_of state.old)))) }
 {
     if state.len() < kept::STATE_SIZE {
         return kept::refused(Refusal::Room);
@@ -81,8 +81,8 @@ pub extern "C" fn lac_card_power_on(state: &mut [u8]) -> usize
 // Power is lost: Off from anywhere. 1.
 #[unsafe(no_mangle)]
 pub extern "C" fn lac_card_power_off(state: &mut [u8]) -> usize
-    ensures state_value { cardDone state.old [] (quiet (poweredOff (linkCardOf state.old))) ≡ done result state.new [] }
-    ensures state_after { stateSize ≤ length state.old → keptCardIn state.new ≡ keptCardAfter state.old (turn_of (quiet (poweredOff (linkCardOf state.old)))) }
+    ensures state_value { card_done state.old [] (quiet (powered_off (link_card_of state.old))) ≡ done result state.new [] }
+    ensures state_after { state_size ≤ length state.old → kept_card_in state.new ≡ kept_card_after state.old (turn_of (quiet (powered_off (link_card_of state.old)))) }
 {
     if state.len() < kept::STATE_SIZE {
         return kept::refused(Refusal::Room);
@@ -101,9 +101,9 @@ pub extern "C" fn lac_card_take(
     buffer: &mut [u8],
     out: &mut [u8],
 ) -> usize
-    ensures out_value { cardDone state.old out.old (takeCall (linkCardOf state.old) row.now answer.now buffer.old (length out.old)) ≡ done result state.new out.new }
-    ensures buffer_after { buffer.new ≡ left state.old buffer.old (takeCall (linkCardOf state.old) row.now answer.now buffer.old (length out.old)).buffer }
-    ensures state_after { stateSize ≤ length state.old → keptCardIn state.new ≡ keptCardAfter state.old (turn_of (takeCall (linkCardOf state.old) row.now answer.now buffer.old (length out.old))) }
+    ensures out_value { card_done state.old out.old (take_call (link_card_of state.old) row.now answer.now buffer.old (length out.old)) ≡ done result state.new out.new }
+    ensures buffer_after { buffer.new ≡ left state.old buffer.old (take_call (link_card_of state.old) row.now answer.now buffer.old (length out.old)).buffer }
+    ensures state_after { state_size ≤ length state.old → kept_card_in state.new ≡ kept_card_after state.old (turn_of (take_call (link_card_of state.old) row.now answer.now buffer.old (length out.old))) }
 {
     if state.len() < kept::STATE_SIZE {
         return kept::refused(Refusal::Room);
@@ -116,8 +116,8 @@ pub extern "C" fn lac_card_take(
 // The host's answer to the message that was delivered: its first block. 11: none is owed; 1; 10: over 4,096 bytes.
 #[unsafe(no_mangle)]
 pub extern "C" fn lac_card_reply(state: &mut [u8], answer: &[u8], out: &mut [u8]) -> usize
-    ensures out_value { cardDone state.old out.old (replyCall (linkCardOf state.old) answer.now (length out.old)) ≡ done result state.new out.new }
-    ensures state_after { stateSize ≤ length state.old → keptCardIn state.new ≡ keptCardAfter state.old (turn_of (replyCall (linkCardOf state.old) answer.now (length out.old))) }
+    ensures out_value { card_done state.old out.old (reply_call (link_card_of state.old) answer.now (length out.old)) ≡ done result state.new out.new }
+    ensures state_after { state_size ≤ length state.old → kept_card_in state.new ≡ kept_card_after state.old (turn_of (reply_call (link_card_of state.old) answer.now (length out.old))) }
 {
     if state.len() < kept::STATE_SIZE {
         return kept::refused(Refusal::Room);
@@ -130,8 +130,8 @@ pub extern "C" fn lac_card_reply(state: &mut [u8], answer: &[u8], out: &mut [u8]
 // The host asks for more time before its answer. 11: none is owed; 1; 6: WTXM is not 1 to 59.
 #[unsafe(no_mangle)]
 pub extern "C" fn lac_card_ask(state: &mut [u8], wtxm: u8, out: &mut [u8]) -> usize
-    ensures out_value { cardDone state.old out.old (askCall (linkCardOf state.old) wtxm (length out.old)) ≡ done result state.new out.new }
-    ensures state_after { stateSize ≤ length state.old → keptCardIn state.new ≡ keptCardAfter state.old (turn_of (askCall (linkCardOf state.old) wtxm (length out.old))) }
+    ensures out_value { card_done state.old out.old (ask_call (link_card_of state.old) wtxm (length out.old)) ≡ done result state.new out.new }
+    ensures state_after { state_size ≤ length state.old → kept_card_in state.new ≡ kept_card_after state.old (turn_of (ask_call (link_card_of state.old) wtxm (length out.old))) }
 {
     if state.len() < kept::STATE_SIZE {
         return kept::refused(Refusal::Room);
@@ -144,7 +144,7 @@ pub extern "C" fn lac_card_ask(state: &mut [u8], wtxm: u8, out: &mut [u8]) -> us
 // 1 where the card owes its host's answer, else 0.
 #[unsafe(no_mangle)]
 pub extern "C" fn lac_card_owes(state: &[u8]) -> u8
-    ensures { result ≡ flag (owing (linkCardOf state.now)) }
+    ensures { result ≡ flag (owing (link_card_of state.now)) }
 {
     let x = kept_card::whole::link_card_of(state);
     kept::flag(card_link::whole::is_owing(x))
@@ -153,7 +153,7 @@ pub extern "C" fn lac_card_owes(state: &[u8]) -> u8
 // Which state the card is in.
 #[unsafe(no_mangle)]
 pub extern "C" fn lac_card_state(state: &[u8]) -> u8
-    ensures { result ≡ stateTag (cardIn state.now).state }
+    ensures { result ≡ state_tag (card_in state.now).state }
 {
     let c = kept_card::card_of(state);
     let s = c.state;

@@ -1,14 +1,14 @@
 // The judge of delay (T-09) for C.
 ghost use Rattle.std.specs.Prelude.{◌≡◌};
-ghost use Rattle.delay.specs.Kind.{kind_of, afterOne};
-ghost use Rattle.delay.specs.Calls.{judgedSays, judgeSays};
-ghost use Rattle.lacrivosum.specs.Delays.{delayNumber};
+ghost use Rattle.delay.specs.Kind.{kind_of, after_one};
+ghost use Rattle.delay.specs.Calls.{judged_says, judge_says};
+ghost use Rattle.lacrivosum.specs.Delays.{delay_number};
 
 use delay::Judged;
 
 // The difference; or the least number of 64 bits, which no difference is.
 fn off_number(j: Judged) -> i64
-    ensures { result ≡ delayNumber (judgedSays j) }
+    ensures { result ≡ delay_number (judged_says j) }
 {
     match j {
         Judged::Off(z) => z,
@@ -20,7 +20,7 @@ fn off_number(j: Judged) -> i64
 // periods, early below zero. 14, told by the least number: the delay is 2^31 carrier periods or more.
 #[unsafe(no_mangle)]
 pub extern "C" fn lac_delay(row: &[u8], sent: u32, heard: u32) -> i64
-    ensures { result ≡ delayNumber (judgeSays (kind_of row.now) (afterOne row.now) sent heard) }
+    ensures { result ≡ delay_number (judge_says (kind_of row.now) (after_one row.now) sent heard) }
 {
     let j = delay::judge_row(row, sent, heard);
     off_number(j)

@@ -1,16 +1,16 @@
 // The front end's energies (T-01) for C: a received row made of them.
 ghost use Rattle.std.specs.Prelude.{◌≡◌, length};
 ghost use Rattle.front.specs.Front.{row_of};
-ghost use Rattle.front.specs.Calls.{heardSays};
-ghost use Rattle.lacrivosum.specs.Frames.{saidNumber, saidLeft};
-ghost use Rattle.lacrivosum.specs.Fronts.{gateOf, profileOf, frontSays};
+ghost use Rattle.front.specs.Calls.{heard_says};
+ghost use Rattle.lacrivosum.specs.Frames.{said_number, said_left};
+ghost use Rattle.lacrivosum.specs.Fronts.{gate_of, profile_of, front_says};
 
 use front::{Gate, Heard, Profile};
 use refusal::Refusal;
 
 // The gate of its number: 1 a level, 2 a share, else off.
 fn gate_of(gate: u8, value: f32) -> Gate
-    ensures { result ≡ gateOf gate value }
+    ensures { result ≡ gate_of gate value }
 {
     if gate == 1 {
         return Gate::Level(value);
@@ -23,7 +23,7 @@ fn gate_of(gate: u8, value: f32) -> Gate
 
 // The bits written, or minus the refusal's number.
 fn heard_number(h: Heard) -> usize
-    ensures { result ≡ saidNumber (heardSays h) }
+    ensures { result ≡ said_number (heard_says h) }
 {
     match h {
         Heard::Bits(n) => n,
@@ -43,8 +43,8 @@ pub extern "C" fn lac_front(
     halves: &[f32],
     out: &mut [u8],
 ) -> usize
-    ensures value { result ≡ saidNumber (frontSays gate (length out.old) (profileOf gate value floor peak) halves.now) }
-    ensures out_after { out.new ≡ saidLeft (frontSays gate (length out.old) (profileOf gate value floor peak) halves.now) (row_of (profileOf gate value floor peak) halves.now) out.old }
+    ensures value { result ≡ said_number (front_says gate (length out.old) (profile_of gate value floor peak) halves.now) }
+    ensures out_after { out.new ≡ said_left (front_says gate (length out.old) (profile_of gate value floor peak) halves.now) (row_of (profile_of gate value floor peak) halves.now) out.old }
 {
     if gate > 2 {
         return kept::refused(Refusal::Argument);

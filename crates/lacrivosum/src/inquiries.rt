@@ -2,10 +2,10 @@
 ghost use Rattle.std.specs.Prelude.{◌≡◌, false, length};
 ghost use Rattle.slots_rules.specs.Claim.{Claim};
 ghost use Rattle.slots_rules.specs.RunB.{inquiry};
-ghost use Rattle.kept_slots.specs.KeptSlots.{drawnIn};
+ghost use Rattle.kept_slots.specs.KeptSlots.{drawn_in};
 ghost use Rattle.lacrivosum.specs.CardLibrary.{speaks};
 ghost use Rattle.lacrivosum.specs.Field.{no_field};
-ghost use Rattle.lacrivosum.specs.Inquiries.{inquiryDone, asked, inquiryCall, inquiryLeft, InquiryUnchanged, InquiryKept, InquiryTerms, InquirySays};
+ghost use Rattle.lacrivosum.specs.Inquiries.{inquiry_done, asked, inquiry_call, inquiry_left, InquiryUnchanged, InquiryKept, InquiryTerms, InquirySays};
 
 use refusal::Refusal;
 
@@ -21,10 +21,10 @@ pub extern "C" fn lac_b_inquire(
     numbers: &[u8],
     list: &mut [u8],
 ) -> usize
-    ensures list_value { inquiryLeft (asked wake n afi numbers.now) (inquiryDone 0 state.old cards.old list.old) (inquiryCall (asked wake n afi numbers.now) (inquiryDone 0 state.old cards.old list.old)) ≡ inquiryDone result state.new cards.new list.new }
-    ensures inquiry_unchanged { InquiryUnchanged (asked wake n afi numbers.now) (inquiryDone 0 state.old cards.old list.old) (inquiryDone result state.new cards.new list.new) }
-    ensures inquiry_kept { no_field state.old cards.old (length numbers.now) ≡ false → InquiryKept (asked wake n afi numbers.now) (inquiryDone 0 state.old cards.old list.old) (inquiryDone result state.new cards.new list.new) (inquiryCall (asked wake n afi numbers.now) (inquiryDone 0 state.old cards.old list.old)) }
-    ensures inquiry_says { InquiryTerms (asked wake n afi numbers.now) (inquiryDone 0 state.old cards.old list.old) → InquirySays (asked wake n afi numbers.now) (inquiry (speaks wake) n afi (drawnIn numbers.now cards.old)) (inquiryDone 0 state.old cards.old list.old) (inquiryDone result state.new cards.new list.new) × Claim n (drawnIn numbers.now cards.old) (inquiry (speaks wake) n afi (drawnIn numbers.now cards.old)) }
+    ensures list_value { inquiry_left (asked wake n afi numbers.now) (inquiry_done 0 state.old cards.old list.old) (inquiry_call (asked wake n afi numbers.now) (inquiry_done 0 state.old cards.old list.old)) ≡ inquiry_done result state.new cards.new list.new }
+    ensures inquiry_unchanged { InquiryUnchanged (asked wake n afi numbers.now) (inquiry_done 0 state.old cards.old list.old) (inquiry_done result state.new cards.new list.new) }
+    ensures inquiry_kept { no_field state.old cards.old (length numbers.now) ≡ false → InquiryKept (asked wake n afi numbers.now) (inquiry_done 0 state.old cards.old list.old) (inquiry_done result state.new cards.new list.new) (inquiry_call (asked wake n afi numbers.now) (inquiry_done 0 state.old cards.old list.old)) }
+    ensures inquiry_says { InquiryTerms (asked wake n afi numbers.now) (inquiry_done 0 state.old cards.old list.old) → InquirySays (asked wake n afi numbers.now) (inquiry (speaks wake) n afi (drawn_in numbers.now cards.old)) (inquiry_done 0 state.old cards.old list.old) (inquiry_done result state.new cards.new list.new) × Claim n (drawn_in numbers.now cards.old) (inquiry (speaks wake) n afi (drawn_in numbers.now cards.old)) }
 {
     if state.len() < kept::STATE_SIZE {
         return kept::refused(Refusal::Room);

@@ -13,11 +13,11 @@ pub mod type_b;
 pub mod wakes;
 
 ghost use Rattle.std.specs.Prelude.{◌≡◌, true, false, ◌≤◌, length};
-ghost use Rattle.crc.specs.Crc.{crcA};
-ghost use Rattle.reader_link.specs.ReaderCalls.{hearCall, startCall, wakeCall, ratsCall, sendCall, deselectCall};
-ghost use Rattle.kept.specs.Kept.{stateSize, eventOf, length_of};
-ghost use Rattle.kept_reader.specs.KeptReader.{readerOf, keptIn, keptAfter};
-ghost use Rattle.lacrivosum.specs.Library.{done, left, readerDone, uidDone};
+ghost use Rattle.crc.specs.Crc.{crc_a};
+ghost use Rattle.reader_link.specs.ReaderCalls.{hear_call, start_call, wake_call, rats_call, send_call, deselect_call};
+ghost use Rattle.kept.specs.Kept.{state_size, event_of, length_of};
+ghost use Rattle.kept_reader.specs.KeptReader.{reader_of, kept_in, kept_after};
+ghost use Rattle.lacrivosum.specs.Library.{done, left, reader_done, uid_done};
 
 use refusal::Refusal;
 
@@ -30,9 +30,9 @@ pub extern "C" fn lac_reader_hear(
     buffer: &mut [u8],
     out: &mut [u8],
 ) -> usize
-    ensures out_value { readerDone state.old out.old (hearCall (readerOf state.old) row.now message.now buffer.old (length out.old)) ≡ done result state.new out.new }
-    ensures buffer_after { buffer.new ≡ left state.old buffer.old (hearCall (readerOf state.old) row.now message.now buffer.old (length out.old)).buffer }
-    ensures state_after { stateSize ≤ length state.old → keptIn state.new ≡ keptAfter state.old (hearCall (readerOf state.old) row.now message.now buffer.old (length out.old)).turn }
+    ensures out_value { reader_done state.old out.old (hear_call (reader_of state.old) row.now message.now buffer.old (length out.old)) ≡ done result state.new out.new }
+    ensures buffer_after { buffer.new ≡ left state.old buffer.old (hear_call (reader_of state.old) row.now message.now buffer.old (length out.old)).buffer }
+    ensures state_after { state_size ≤ length state.old → kept_in state.new ≡ kept_after state.old (hear_call (reader_of state.old) row.now message.now buffer.old (length out.old)).turn }
 {
     if state.len() < kept::STATE_SIZE {
         return kept::refused(Refusal::Room);
@@ -45,8 +45,8 @@ pub extern "C" fn lac_reader_hear(
 // Begins the selection of one card. 11: the reader is not new; 1.
 #[unsafe(no_mangle)]
 pub extern "C" fn lac_reader_select(state: &mut [u8], out: &mut [u8]) -> usize
-    ensures out_value { readerDone state.old out.old (startCall false (readerOf state.old) (length out.old)) ≡ done result state.new out.new }
-    ensures state_after { stateSize ≤ length state.old → keptIn state.new ≡ keptAfter state.old (startCall false (readerOf state.old) (length out.old)).turn }
+    ensures out_value { reader_done state.old out.old (start_call false (reader_of state.old) (length out.old)) ≡ done result state.new out.new }
+    ensures state_after { state_size ≤ length state.old → kept_in state.new ≡ kept_after state.old (start_call false (reader_of state.old) (length out.old)).turn }
 {
     if state.len() < kept::STATE_SIZE {
         return kept::refused(Refusal::Room);
@@ -59,8 +59,8 @@ pub extern "C" fn lac_reader_select(state: &mut [u8], out: &mut [u8]) -> usize
 // T-03: begins the selection of the one card with this UID. 11: the reader is not new; 1; 6: the bytes are no valid UID.
 #[unsafe(no_mangle)]
 pub extern "C" fn lac_reader_wake(state: &mut [u8], uid: &[u8], out: &mut [u8]) -> usize
-    ensures out_value { readerDone state.old out.old (wakeCall (readerOf state.old) uid.now (length out.old)) ≡ done result state.new out.new }
-    ensures state_after { stateSize ≤ length state.old → keptIn state.new ≡ keptAfter state.old (wakeCall (readerOf state.old) uid.now (length out.old)).turn }
+    ensures out_value { reader_done state.old out.old (wake_call (reader_of state.old) uid.now (length out.old)) ≡ done result state.new out.new }
+    ensures state_after { state_size ≤ length state.old → kept_in state.new ≡ kept_after state.old (wake_call (reader_of state.old) uid.now (length out.old)).turn }
 {
     if state.len() < kept::STATE_SIZE {
         return kept::refused(Refusal::Room);
@@ -73,8 +73,8 @@ pub extern "C" fn lac_reader_wake(state: &mut [u8], uid: &[u8], out: &mut [u8]) 
 // Begins the reader's part of a sweep. 11: the reader is not new; 1.
 #[unsafe(no_mangle)]
 pub extern "C" fn lac_reader_sweep(state: &mut [u8], out: &mut [u8]) -> usize
-    ensures out_value { readerDone state.old out.old (startCall true (readerOf state.old) (length out.old)) ≡ done result state.new out.new }
-    ensures state_after { stateSize ≤ length state.old → keptIn state.new ≡ keptAfter state.old (startCall true (readerOf state.old) (length out.old)).turn }
+    ensures out_value { reader_done state.old out.old (start_call true (reader_of state.old) (length out.old)) ≡ done result state.new out.new }
+    ensures state_after { state_size ≤ length state.old → kept_in state.new ≡ kept_after state.old (start_call true (reader_of state.old) (length out.old)).turn }
 {
     if state.len() < kept::STATE_SIZE {
         return kept::refused(Refusal::Room);
@@ -87,8 +87,8 @@ pub extern "C" fn lac_reader_sweep(state: &mut [u8], out: &mut [u8]) -> usize
 // Sends RATS with the reader's own size index. 11: no card is selected, or it has no blocks; 1; 6: the index is over 8.
 #[unsafe(no_mangle)]
 pub extern "C" fn lac_reader_rats(state: &mut [u8], index: u8, out: &mut [u8]) -> usize
-    ensures out_value { readerDone state.old out.old (ratsCall (readerOf state.old) index (length out.old)) ≡ done result state.new out.new }
-    ensures state_after { stateSize ≤ length state.old → keptIn state.new ≡ keptAfter state.old (ratsCall (readerOf state.old) index (length out.old)).turn }
+    ensures out_value { reader_done state.old out.old (rats_call (reader_of state.old) index (length out.old)) ≡ done result state.new out.new }
+    ensures state_after { state_size ≤ length state.old → kept_in state.new ≡ kept_after state.old (rats_call (reader_of state.old) index (length out.old)).turn }
 {
     if state.len() < kept::STATE_SIZE {
         return kept::refused(Refusal::Room);
@@ -101,8 +101,8 @@ pub extern "C" fn lac_reader_rats(state: &mut [u8], index: u8, out: &mut [u8]) -
 // Sends a message's first block. 11: the reader is not between messages; 1; 10: over 4,096 bytes.
 #[unsafe(no_mangle)]
 pub extern "C" fn lac_reader_send(state: &mut [u8], message: &[u8], out: &mut [u8]) -> usize
-    ensures out_value { readerDone state.old out.old (sendCall (readerOf state.old) message.now (length out.old)) ≡ done result state.new out.new }
-    ensures state_after { stateSize ≤ length state.old → keptIn state.new ≡ keptAfter state.old (sendCall (readerOf state.old) message.now (length out.old)).turn }
+    ensures out_value { reader_done state.old out.old (send_call (reader_of state.old) message.now (length out.old)) ≡ done result state.new out.new }
+    ensures state_after { state_size ≤ length state.old → kept_in state.new ≡ kept_after state.old (send_call (reader_of state.old) message.now (length out.old)).turn }
 {
     if state.len() < kept::STATE_SIZE {
         return kept::refused(Refusal::Room);
@@ -115,8 +115,8 @@ pub extern "C" fn lac_reader_send(state: &mut [u8], message: &[u8], out: &mut [u
 // Sends DESELECT. 11: the reader is not between messages; 1.
 #[unsafe(no_mangle)]
 pub extern "C" fn lac_reader_deselect(state: &mut [u8], out: &mut [u8]) -> usize
-    ensures out_value { readerDone state.old out.old (deselectCall (readerOf state.old) (length out.old)) ≡ done result state.new out.new }
-    ensures state_after { stateSize ≤ length state.old → keptIn state.new ≡ keptAfter state.old (deselectCall (readerOf state.old) (length out.old)).turn }
+    ensures out_value { reader_done state.old out.old (deselect_call (reader_of state.old) (length out.old)) ≡ done result state.new out.new }
+    ensures state_after { state_size ≤ length state.old → kept_in state.new ≡ kept_after state.old (deselect_call (reader_of state.old) (length out.old)).turn }
 {
     if state.len() < kept::STATE_SIZE {
         return kept::refused(Refusal::Room);
@@ -129,7 +129,7 @@ pub extern "C" fn lac_reader_deselect(state: &mut [u8], out: &mut [u8]) -> usize
 // The event that the last call told.
 #[unsafe(no_mangle)]
 pub extern "C" fn lac_event(state: &[u8]) -> u8
-    ensures { result ≡ eventOf state.now }
+    ensures { result ≡ event_of state.now }
 {
     kept::at(state, 45)
 }
@@ -145,7 +145,7 @@ pub extern "C" fn lac_length(state: &[u8]) -> usize
 // The last SAK of a reader's selection.
 #[unsafe(no_mangle)]
 pub extern "C" fn lac_reader_sak(state: &[u8]) -> u8
-    ensures { result ≡ (readerOf state.now).reader.sak }
+    ensures { result ≡ (reader_of state.now).reader.sak }
 {
     kept::at(state, 20)
 }
@@ -153,7 +153,7 @@ pub extern "C" fn lac_reader_sak(state: &[u8]) -> u8
 // The UID of a reader or a card, at the front of out, and how many bytes it has. 1: also where out has no room for the longest.
 #[unsafe(no_mangle)]
 pub extern "C" fn lac_uid(state: &[u8], out: &mut [u8]) -> usize
-    ensures { uidDone state.now out.old ≡ done result state.now out.new }
+    ensures { uid_done state.now out.old ≡ done result state.now out.new }
 {
     if state.len() < kept::STATE_SIZE {
         return kept::refused(Refusal::Room);
@@ -168,7 +168,7 @@ pub extern "C" fn lac_uid(state: &[u8], out: &mut [u8]) -> usize
 // CRC_A of bytes.
 #[unsafe(no_mangle)]
 pub extern "C" fn lac_crc_a(bytes: &[u8]) -> u16
-    ensures { result ≡ crcA bytes.now }
+    ensures { result ≡ crc_a bytes.now }
 {
     crc::crc_a(bytes)
 }

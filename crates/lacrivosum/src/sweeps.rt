@@ -4,10 +4,10 @@ ghost use Rattle.sweep_rules.specs.Demand.{Demand3};
 ghost use Rattle.sweep_rules.specs.Run.{sweep};
 ghost use Rattle.memory_rules.specs.Promise.{Remembers};
 ghost use Rattle.memory_rules.specs.Run.{recalled};
-ghost use Rattle.sweep.specs.Sweep.{sweepOf};
-ghost use Rattle.memory_sweep.specs.Recalled.{recallOf};
-ghost use Rattle.kept_field.specs.KeptField.{start_in, cardsIn, fieldIn, framesOf};
-ghost use Rattle.lacrivosum.specs.Field.{fieldDone, sweepDone, Unchanged, FieldTerms, FieldSays};
+ghost use Rattle.sweep.specs.Sweep.{sweep_of};
+ghost use Rattle.memory_sweep.specs.Recalled.{recall_of};
+ghost use Rattle.kept_field.specs.KeptField.{start_in, cards_in, field_in, frames_of};
+ghost use Rattle.lacrivosum.specs.Field.{field_done, sweep_done, Unchanged, FieldTerms, FieldSays};
 
 use refusal::Refusal;
 
@@ -22,9 +22,9 @@ pub extern "C" fn lac_sweep(
     log: &mut [u8],
     list: &mut [u8],
 ) -> usize
-    ensures list_value { sweepDone state.old cards.old n log.old list.old (sweepOf (start_in state.old tick) (fieldIn n cards.old) n log.old list.old) ≡ fieldDone result state.new cards.new log.new list.new }
-    ensures unchanged { Unchanged (fieldDone 0 state.old cards.old log.old list.old) (sweepOf (start_in state.old tick) (fieldIn n cards.old) n log.old list.old) (fieldDone result state.new cards.new log.new list.new) }
-    ensures field_says { FieldTerms state.old cards.old n log.old list.old → FieldSays (sweep (cardsIn n cards.old)) tick n (fieldDone 0 state.old cards.old log.old list.old) (fieldDone result state.new cards.new log.new list.new) × Demand3 (cardsIn n cards.old) (sweep (cardsIn n cards.old)) }
+    ensures list_value { sweep_done state.old cards.old n log.old list.old (sweep_of (start_in state.old tick) (field_in n cards.old) n log.old list.old) ≡ field_done result state.new cards.new log.new list.new }
+    ensures unchanged { Unchanged (field_done 0 state.old cards.old log.old list.old) (sweep_of (start_in state.old tick) (field_in n cards.old) n log.old list.old) (field_done result state.new cards.new log.new list.new) }
+    ensures field_says { FieldTerms state.old cards.old n log.old list.old → FieldSays (sweep (cards_in n cards.old)) tick n (field_done 0 state.old cards.old log.old list.old) (field_done result state.new cards.new log.new list.new) × Demand3 (cards_in n cards.old) (sweep (cards_in n cards.old)) }
 {
     if state.len() < kept::STATE_SIZE {
         return kept::refused(Refusal::Room);
@@ -48,9 +48,9 @@ pub extern "C" fn lac_sweep_remember(
     log: &mut [u8],
     list: &mut [u8],
 ) -> usize
-    ensures list_value { sweepDone state.old cards.old n log.old list.old (recallOf (start_in state.old tick) (fieldIn n cards.old) n log.old list.old) ≡ fieldDone result state.new cards.new log.new list.new }
-    ensures unchanged { Unchanged (fieldDone 0 state.old cards.old log.old list.old) (recallOf (start_in state.old tick) (fieldIn n cards.old) n log.old list.old) (fieldDone result state.new cards.new log.new list.new) }
-    ensures field_says { FieldTerms state.old cards.old n log.old list.old → FieldSays (recalled (cardsIn n cards.old)) tick n (fieldDone 0 state.old cards.old log.old list.old) (fieldDone result state.new cards.new log.new list.new) × Remembers (cardsIn n cards.old) (recalled (cardsIn n cards.old)) }
+    ensures list_value { sweep_done state.old cards.old n log.old list.old (recall_of (start_in state.old tick) (field_in n cards.old) n log.old list.old) ≡ field_done result state.new cards.new log.new list.new }
+    ensures unchanged { Unchanged (field_done 0 state.old cards.old log.old list.old) (recall_of (start_in state.old tick) (field_in n cards.old) n log.old list.old) (field_done result state.new cards.new log.new list.new) }
+    ensures field_says { FieldTerms state.old cards.old n log.old list.old → FieldSays (recalled (cards_in n cards.old)) tick n (field_done 0 state.old cards.old log.old list.old) (field_done result state.new cards.new log.new list.new) × Remembers (cards_in n cards.old) (recalled (cards_in n cards.old)) }
 {
     if state.len() < kept::STATE_SIZE {
         return kept::refused(Refusal::Room);
@@ -67,7 +67,7 @@ pub extern "C" fn lac_sweep_remember(
 // The frames that the last sweep sent.
 #[unsafe(no_mangle)]
 pub extern "C" fn lac_frames(state: &[u8]) -> usize
-    ensures { result ≡ framesOf state.now }
+    ensures { result ≡ frames_of state.now }
 {
     kept::number_at(state, 54)
 }

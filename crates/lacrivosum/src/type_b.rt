@@ -2,16 +2,16 @@
 // by value, and encodes what it leaves; nothing is written where a call is refused and the end stays what it was. Every call is 1 on a state that is
 // too short.
 ghost use Rattle.std.specs.Prelude.{◌≡◌, [], ◌≤◌, length};
-ghost use Rattle.selection_b.specs.TypeB.{request, attribFor, hltb};
-ghost use Rattle.reader_b.specs.ReaderB.{next, rowAfter};
-ghost use Rattle.card_b.specs.CardB.{powerOn, powerOff};
-ghost use Rattle.card_b.specs.CallsB.{takeCall, take_row};
-ghost use Rattle.kept.specs.Kept.{stateSize};
-ghost use Rattle.kept_b.specs.KeptReaderB.{readerIn, heldIn, keptIn, keptAfter};
-ghost use Rattle.kept_b.specs.KeptCardB.{stateTag, cardIn};
+ghost use Rattle.selection_b.specs.TypeB.{request, attrib_for, hltb};
+ghost use Rattle.reader_b.specs.ReaderB.{next, row_after};
+ghost use Rattle.card_b.specs.CardB.{power_on, power_off};
+ghost use Rattle.card_b.specs.CallsB.{take_call, take_row};
+ghost use Rattle.kept.specs.Kept.{state_size};
+ghost use Rattle.kept_b.specs.KeptReaderB.{reader_in, held_in, kept_in, kept_after};
+ghost use Rattle.kept_b.specs.KeptCardB.{state_tag, card_in};
 ghost use Rattle.lacrivosum.specs.Library.{done};
 ghost use Rattle.lacrivosum.specs.CardLibrary.{speaks};
-ghost use Rattle.lacrivosum.specs.LibraryB.{readerBDone, unfit, due, requestCall, haltCall, attachCall, hearCall, atqbDone, cardBDone, silent, unmade, newCall};
+ghost use Rattle.lacrivosum.specs.LibraryB.{reader_bdone, unfit, due, request_call, halt_call, attach_call, hear_call, atqb_done, card_bdone, silent, unmade, new_call};
 
 use card_b::{AnswerB, CardB, StateB, TakenB};
 use reader_b::{ReaderB, TurnB};
@@ -32,8 +32,8 @@ fn refuse(x: ReaderB, room: usize) -> TurnB
 }
 
 fn halt(x: ReaderB, pupi: &[u8], out: &mut [u8]) -> TurnB
-    ensures value { result ≡ haltCall x pupi.now (length out.old) }
-    ensures out_after { out.new ≡ rowAfter result.answer (hltb pupi.now) out.old }
+    ensures value { result ≡ halt_call x pupi.now (length out.old) }
+    ensures out_after { out.new ≡ row_after result.answer (hltb pupi.now) out.old }
 {
     if pupi.len() != 4 {
         return refuse(x, out.len());
@@ -43,8 +43,8 @@ fn halt(x: ReaderB, pupi: &[u8], out: &mut [u8]) -> TurnB
 }
 
 fn attach(x: ReaderB, atqb: &[u8], index: u8, out: &mut [u8]) -> TurnB
-    ensures value { result ≡ attachCall x atqb.now index (length out.old) }
-    ensures out_after { out.new ≡ rowAfter result.answer (attribFor atqb.now index) out.old }
+    ensures value { result ≡ attach_call x atqb.now index (length out.old) }
+    ensures out_after { out.new ≡ row_after result.answer (attrib_for atqb.now index) out.old }
 {
     if atqb.len() != kept_b::ATQB_ROOM {
         return refuse(x, out.len());
@@ -62,8 +62,8 @@ pub extern "C" fn lac_b_reader_request(
     afi: u8,
     out: &mut [u8],
 ) -> usize
-    ensures afi_value { readerBDone state.old out.old (requestCall (readerIn state.old) wake n afi (length out.old)) (request (speaks wake) n afi) ≡ done result state.new out.new }
-    ensures state_after { stateSize ≤ length state.old → keptIn state.new ≡ keptAfter state.old (requestCall (readerIn state.old) wake n afi (length out.old)) }
+    ensures afi_value { reader_bdone state.old out.old (request_call (reader_in state.old) wake n afi (length out.old)) (request (speaks wake) n afi) ≡ done result state.new out.new }
+    ensures state_after { state_size ≤ length state.old → kept_in state.new ≡ kept_after state.old (request_call (reader_in state.old) wake n afi (length out.old)) }
 {
     if state.len() < kept::STATE_SIZE {
         return kept::refused(Refusal::Room);
@@ -76,8 +76,8 @@ pub extern "C" fn lac_b_reader_request(
 // HLTB to the card with this PUPI. 11: the reader is not ready; 1; 6: the PUPI is not four bytes.
 #[unsafe(no_mangle)]
 pub extern "C" fn lac_b_reader_halt(state: &mut [u8], pupi: &[u8], out: &mut [u8]) -> usize
-    ensures pupi_value { readerBDone state.old out.old (haltCall (readerIn state.old) pupi.now (length out.old)) (hltb pupi.now) ≡ done result state.new out.new }
-    ensures state_after { stateSize ≤ length state.old → keptIn state.new ≡ keptAfter state.old (haltCall (readerIn state.old) pupi.now (length out.old)) }
+    ensures pupi_value { reader_bdone state.old out.old (halt_call (reader_in state.old) pupi.now (length out.old)) (hltb pupi.now) ≡ done result state.new out.new }
+    ensures state_after { state_size ≤ length state.old → kept_in state.new ≡ kept_after state.old (halt_call (reader_in state.old) pupi.now (length out.old)) }
 {
     if state.len() < kept::STATE_SIZE {
         return kept::refused(Refusal::Room);
@@ -96,8 +96,8 @@ pub extern "C" fn lac_b_reader_attach(
     index: u8,
     out: &mut [u8],
 ) -> usize
-    ensures index_value { readerBDone state.old out.old (attachCall (readerIn state.old) atqb.now index (length out.old)) (attribFor atqb.now index) ≡ done result state.new out.new }
-    ensures state_after { stateSize ≤ length state.old → keptIn state.new ≡ keptAfter state.old (attachCall (readerIn state.old) atqb.now index (length out.old)) }
+    ensures index_value { reader_bdone state.old out.old (attach_call (reader_in state.old) atqb.now index (length out.old)) (attrib_for atqb.now index) ≡ done result state.new out.new }
+    ensures state_after { state_size ≤ length state.old → kept_in state.new ≡ kept_after state.old (attach_call (reader_in state.old) atqb.now index (length out.old)) }
 {
     if state.len() < kept::STATE_SIZE {
         return kept::refused(Refusal::Room);
@@ -110,8 +110,8 @@ pub extern "C" fn lac_b_reader_attach(
 // The reader hears a row; the next slot's marker, if one goes out, goes to out. 11: no row is due; 1; and what is wrong with the row.
 #[unsafe(no_mangle)]
 pub extern "C" fn lac_b_reader_hear(state: &mut [u8], row: &[u8], out: &mut [u8]) -> usize
-    ensures out_value { readerBDone state.old out.old (hearCall (readerIn state.old) row.now (length out.old)) (next (hearCall (readerIn state.old) row.now (length out.old)).reader) ≡ done result state.new out.new }
-    ensures state_after { stateSize ≤ length state.old → keptIn state.new ≡ keptAfter state.old (hearCall (readerIn state.old) row.now (length out.old)) }
+    ensures out_value { reader_bdone state.old out.old (hear_call (reader_in state.old) row.now (length out.old)) (next (hear_call (reader_in state.old) row.now (length out.old)).reader) ≡ done result state.new out.new }
+    ensures state_after { state_size ≤ length state.old → kept_in state.new ≡ kept_after state.old (hear_call (reader_in state.old) row.now (length out.old)) }
 {
     if state.len() < kept::STATE_SIZE {
         return kept::refused(Refusal::Room);
@@ -124,7 +124,7 @@ pub extern "C" fn lac_b_reader_hear(state: &mut [u8], row: &[u8], out: &mut [u8]
 // What the slot of the last answer held: 0, 1 or 2 for none, one, more.
 #[unsafe(no_mangle)]
 pub extern "C" fn lac_b_held(state: &[u8]) -> u8
-    ensures { result ≡ heldIn state.now }
+    ensures { result ≡ held_in state.now }
 {
     kept_b::held_of(state)
 }
@@ -132,7 +132,7 @@ pub extern "C" fn lac_b_held(state: &[u8]) -> u8
 // .. and the one's ATQB without CRC_B, its twelve bytes in front of out. 1: out is too short.
 #[unsafe(no_mangle)]
 pub extern "C" fn lac_b_atqb(state: &[u8], out: &mut [u8]) -> usize
-    ensures { atqbDone state.now out.old ≡ done result state.now out.new }
+    ensures { atqb_done state.now out.old ≡ done result state.now out.new }
 {
     if state.len() < kept::STATE_SIZE {
         return kept::refused(Refusal::Room);
@@ -172,7 +172,7 @@ fn new_card(
     application: &[u8],
     protocol: &[u8],
 ) -> TakenB
-    ensures { result ≡ newCall x pupi.now afi markers application.now protocol.now }
+    ensures { result ≡ new_call x pupi.now afi markers application.now protocol.now }
 {
     if pupi.len() != 4 {
         return unmade(x);
@@ -208,8 +208,8 @@ pub extern "C" fn lac_b_card_new(
     application: &[u8],
     protocol: &[u8],
 ) -> usize
-    ensures protocol_value { cardBDone state.old [] (newCall (cardIn state.old) pupi.now afi markers application.now protocol.now) [] ≡ done result state.new [] }
-    ensures state_after { stateSize ≤ length state.old → cardIn state.new ≡ (newCall (cardIn state.old) pupi.now afi markers application.now protocol.now).card }
+    ensures protocol_value { card_bdone state.old [] (new_call (card_in state.old) pupi.now afi markers application.now protocol.now) [] ≡ done result state.new [] }
+    ensures state_after { state_size ≤ length state.old → card_in state.new ≡ (new_call (card_in state.old) pupi.now afi markers application.now protocol.now).card }
 {
     if state.len() < kept::STATE_SIZE {
         return kept::refused(Refusal::Room);
@@ -222,8 +222,8 @@ pub extern "C" fn lac_b_card_new(
 // Power comes: a card that was Off is Idle. 1.
 #[unsafe(no_mangle)]
 pub extern "C" fn lac_b_card_power_on(state: &mut [u8]) -> usize
-    ensures state_value { cardBDone state.old [] (silent (powerOn (cardIn state.old))) [] ≡ done result state.new [] }
-    ensures state_after { stateSize ≤ length state.old → cardIn state.new ≡ powerOn (cardIn state.old) }
+    ensures state_value { card_bdone state.old [] (silent (power_on (card_in state.old))) [] ≡ done result state.new [] }
+    ensures state_after { state_size ≤ length state.old → card_in state.new ≡ power_on (card_in state.old) }
 {
     if state.len() < kept::STATE_SIZE {
         return kept::refused(Refusal::Room);
@@ -236,8 +236,8 @@ pub extern "C" fn lac_b_card_power_on(state: &mut [u8]) -> usize
 // Power is lost: Off from anywhere. 1.
 #[unsafe(no_mangle)]
 pub extern "C" fn lac_b_card_power_off(state: &mut [u8]) -> usize
-    ensures state_value { cardBDone state.old [] (silent (powerOff (cardIn state.old))) [] ≡ done result state.new [] }
-    ensures state_after { stateSize ≤ length state.old → cardIn state.new ≡ powerOff (cardIn state.old) }
+    ensures state_value { card_bdone state.old [] (silent (power_off (card_in state.old))) [] ≡ done result state.new [] }
+    ensures state_after { state_size ≤ length state.old → card_in state.new ≡ power_off (card_in state.old) }
 {
     if state.len() < kept::STATE_SIZE {
         return kept::refused(Refusal::Room);
@@ -251,8 +251,8 @@ pub extern "C" fn lac_b_card_power_off(state: &mut [u8]) -> usize
 // its N.
 #[unsafe(no_mangle)]
 pub extern "C" fn lac_b_card_take(state: &mut [u8], number: u8, row: &[u8], out: &mut [u8]) -> usize
-    ensures out_value { cardBDone state.old out.old (takeCall (cardIn state.old) number row.now (length out.old)) (take_row (cardIn state.old) number row.now out.old) ≡ done result state.new out.new }
-    ensures state_after { stateSize ≤ length state.old → cardIn state.new ≡ (takeCall (cardIn state.old) number row.now (length out.old)).card }
+    ensures out_value { card_bdone state.old out.old (take_call (card_in state.old) number row.now (length out.old)) (take_row (card_in state.old) number row.now out.old) ≡ done result state.new out.new }
+    ensures state_after { state_size ≤ length state.old → card_in state.new ≡ (take_call (card_in state.old) number row.now (length out.old)).card }
 {
     if state.len() < kept::STATE_SIZE {
         return kept::refused(Refusal::Room);
@@ -265,7 +265,7 @@ pub extern "C" fn lac_b_card_take(state: &mut [u8], number: u8, row: &[u8], out:
 // Which state the card is in.
 #[unsafe(no_mangle)]
 pub extern "C" fn lac_b_card_state(state: &[u8]) -> u8
-    ensures { result ≡ stateTag (cardIn state.now).state }
+    ensures { result ≡ state_tag (card_in state.now).state }
 {
     let c = kept_b::card::card_of(state);
     let s = c.state;

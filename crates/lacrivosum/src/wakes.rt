@@ -1,10 +1,10 @@
 // T-03 for C, over a row of cards' states in lent bytes: the call of crate wake on the values that the bytes say.
 ghost use Rattle.std.specs.Prelude.{◌≡◌};
-ghost use Rattle.uid.specs.Calls.{newUid};
+ghost use Rattle.uid.specs.Calls.{new_uid};
 ghost use Rattle.wake_rules.specs.Claim.{Wakes};
 ghost use Rattle.wake_rules.specs.Wake.{wake};
-ghost use Rattle.kept_field.specs.KeptField.{cardsIn};
-ghost use Rattle.lacrivosum.specs.Waking.{wakeDone, wakeCall, wakeLeft, WakeUnchanged, WakeTerms, WakeSays};
+ghost use Rattle.kept_field.specs.KeptField.{cards_in};
+ghost use Rattle.lacrivosum.specs.Waking.{wake_done, wake_call, wake_left, WakeUnchanged, WakeTerms, WakeSays};
 
 use refusal::Refusal;
 
@@ -12,9 +12,9 @@ use refusal::Refusal;
 // valid UID, or the row is not a field that a sweep takes; 7: no card has the UID.
 #[unsafe(no_mangle)]
 pub extern "C" fn lac_wake(state: &mut [u8], uid: &[u8], cards: &mut [u8], n: usize) -> usize
-    ensures n_value { wakeLeft state.old cards.old n (wakeCall state.old uid.now cards.old n) ≡ wakeDone result state.new cards.new }
-    ensures wake_unchanged { WakeUnchanged (wakeDone 0 state.old cards.old) uid.now n (wakeDone result state.new cards.new) }
-    ensures wake_says { WakeTerms state.old uid.now cards.old n → WakeSays (wake (newUid uid.now).uid (cardsIn n cards.old)) n (wakeDone 0 state.old cards.old) (wakeDone result state.new cards.new) × Wakes (cardsIn n cards.old) (newUid uid.now).uid (wake (newUid uid.now).uid (cardsIn n cards.old)) }
+    ensures n_value { wake_left state.old cards.old n (wake_call state.old uid.now cards.old n) ≡ wake_done result state.new cards.new }
+    ensures wake_unchanged { WakeUnchanged (wake_done 0 state.old cards.old) uid.now n (wake_done result state.new cards.new) }
+    ensures wake_says { WakeTerms state.old uid.now cards.old n → WakeSays (wake (new_uid uid.now).uid (cards_in n cards.old)) n (wake_done 0 state.old cards.old) (wake_done result state.new cards.new) × Wakes (cards_in n cards.old) (new_uid uid.now).uid (wake (new_uid uid.now).uid (cards_in n cards.old)) }
 {
     if state.len() < kept::STATE_SIZE {
         return kept::refused(Refusal::Room);

@@ -1,6 +1,6 @@
 // The core's limits, each once, in code and in definitions (specs/Limits.antt). `all` holds the two together.
 ghost use Rattle.std.specs.Prelude.{◌≡◌, [], ◌∷◌};
-ghost use Rattle.limits.specs.Limits.{mostCards, logRoom, listRoom, mostFrames, mostBytes, rowRoom, frameRoom, answerRoom, messageMax};
+ghost use Rattle.limits.specs.Limits.{most_cards, log_room, list_room, most_frames, most_bytes, row_room, frame_room, answer_room, message_max};
 
 // Document 01, "When the core declines", with T-06's limit: a field of more cards is 6.
 pub const MOST_CARDS: usize = 32;
@@ -28,7 +28,7 @@ pub const MESSAGE_MAX: usize = 4096;
 
 // Each of them, in the order above.
 pub fn all() -> [usize; 9]
-    ensures { result ≡ mostCards ∷ logRoom ∷ listRoom ∷ mostFrames ∷ mostBytes ∷ rowRoom ∷ frameRoom ∷ answerRoom ∷ messageMax ∷ [] }
+    ensures { result ≡ most_cards ∷ log_room ∷ list_room ∷ most_frames ∷ most_bytes ∷ row_room ∷ frame_room ∷ answer_room ∷ message_max ∷ [] }
 {
     [
         MOST_CARDS,

@@ -1,9 +1,9 @@
 // Document 01, "The log (house format, fields most significant bit first)": its records and the found list's entries, written and read.
 ghost use Rattle.std.specs.Prelude.{◌≡◌, get_or};
-ghost use Rattle.uid.specs.Uid.{uidBytes};
-ghost use Rattle.log.specs.Log.{entryBytes};
-ghost use Rattle.log.specs.Calls.{tickSize};
-ghost use Rattle.log.specs.Reading.{bitsFrom, recordAt, tickAt};
+ghost use Rattle.uid.specs.Uid.{uid_bytes};
+ghost use Rattle.log.specs.Log.{entry_bytes};
+ghost use Rattle.log.specs.Calls.{tick_size};
+ghost use Rattle.log.specs.Reading.{bits_from, record_at, tick_at};
 
 use uid::Uid;
 
@@ -15,7 +15,7 @@ mod reading;
 
 // "The found list has 11 bytes a UID: length, bytes, zero fill".
 pub fn entry(u: Uid) -> [u8; 11]
-    ensures { result ≡ entryBytes (uidBytes u) }
+    ensures { result ≡ entry_bytes (uid_bytes u) }
 {
     let size = u.size;
     let b = u.bytes;
@@ -58,7 +58,7 @@ pub enum Record {
 
 // A bit of the row that starts at a byte of the log; 0 past the log's end.
 pub fn bit_at(log: &[u8], start: usize, i: usize) -> u8
-    ensures { result ≡ get_or (bitsFrom log.now start) i 0 }
+    ensures { result ≡ get_or (bits_from log.now start) i 0 }
 {
     if log.len() <= start {
         return 0;
@@ -73,7 +73,7 @@ pub fn bit_at(log: &[u8], start: usize, i: usize) -> u8
 
 // The record at a place of a log whose records have stamps of so many bytes: 4 for a tick, 0 in a log without ticks (T-12).
 pub fn record_in(log: &[u8], stamp: usize, at: usize) -> Record
-    ensures { result ≡ recordAt stamp log.now at }
+    ensures { result ≡ record_at stamp log.now at }
 {
     if log.len() <= at {
         return Record::End;
@@ -90,7 +90,7 @@ pub fn record_in(log: &[u8], stamp: usize, at: usize) -> Record
 
 // The record at a place of the log.
 pub fn record_at(log: &[u8], at: usize) -> Record
-    ensures { result ≡ recordAt tickSize log.now at }
+    ensures { result ≡ record_at tick_size log.now at }
 {
     record_in(log, 4, at)
 }
@@ -98,7 +98,7 @@ pub fn record_at(log: &[u8], at: usize) -> Record
 // T-09: the tick of the record at a place of the log: when the reader's last pause ended, the card's answer began, or the wait ran out. A byte
 // past the log's end counts as 0.
 pub fn tick_at(log: &[u8], at: usize) -> u32
-    ensures { result ≡ tickAt log.now at }
+    ensures { result ≡ tick_at log.now at }
 {
     if log.len() <= at {
         return 0;

@@ -1,8 +1,8 @@
 // Records read: the bits of bytes, the tests on rows, and the record behind a header. Some have a condition, and their callers' proofs
 // show that they meet it; only the crates of this repository call them.
 ghost use Rattle.std.specs.Prelude.{◌≡◌, ◌+◌, ◌-◌, ◌*◌, ◌≤◌, length, take, drop, get_or};
-ghost use Rattle.log.specs.Calls.{mostBits, rowSize};
-ghost use Rattle.log.specs.Reading.{top_bits, bitsFrom, row_at, zeros, clash, apart, goodRow, goodMarks, rowsSize, collidedOf, recordOf, afterHeader};
+ghost use Rattle.log.specs.Calls.{most_bits, row_size};
+ghost use Rattle.log.specs.Reading.{top_bits, bits_from, row_at, zeros, clash, apart, good_row, good_marks, rows_size, collided_of, record_of, after_header};
 
 use super::Record;
 
@@ -41,8 +41,8 @@ pub fn top_bits(b: u8) -> [u8; 8]
 
 // Are the bits from one place of a row to another all 0?
 pub fn is_zero(log: &[u8], start: usize, from: usize, to: usize) -> bool
-    requires { (from ≤ to) × (to ≤ length (bitsFrom log.now start)) }
-    ensures { result ≡ zeros (take (to - from) (drop from (bitsFrom log.now start))) }
+    requires { (from ≤ to) × (to ≤ length (bits_from log.now start)) }
+    ensures { result ≡ zeros (take (to - from) (drop from (bits_from log.now start))) }
 {
     for i in from..to {
         if super::bit_at(log, start, i) != 0 {
@@ -64,7 +64,7 @@ pub fn is_clash(x: u8, y: u8) -> bool
 
 // Is no bit of a row 1 where its mark is?
 pub fn is_apart(log: &[u8], start: usize, marks: usize, n: usize) -> bool
-    requires { (n ≤ length (bitsFrom log.now start)) × (n ≤ length (bitsFrom log.now marks)) }
+    requires { (n ≤ length (bits_from log.now start)) × (n ≤ length (bits_from log.now marks)) }
     ensures { result ≡ apart (row_at log.now start n) (row_at log.now marks n) }
 {
     for i in 0..n {
@@ -79,8 +79,8 @@ pub fn is_apart(log: &[u8], start: usize, marks: usize, n: usize) -> bool
 
 // Has a row bits, with zeros that fill its last byte?
 pub fn is_good_row(log: &[u8], start: usize, n: usize) -> bool
-    requires { (n ≤ mostBits) × (start + rowSize n ≤ length log.now) }
-    ensures { result ≡ goodRow log.now start n }
+    requires { (n ≤ most_bits) × (start + row_size n ≤ length log.now) }
+    ensures { result ≡ good_row log.now start n }
 {
     if n == 0 {
         return false;
@@ -90,8 +90,8 @@ pub fn is_good_row(log: &[u8], start: usize, n: usize) -> bool
 
 // Has a row a row of marks, one of them at least, at bits that are held as 0, with zeros that fill its last byte?
 pub fn is_good_marks(log: &[u8], start: usize, marks: usize, n: usize) -> bool
-    requires { (n ≤ mostBits) × (start + rowSize n ≤ length log.now) × (marks + rowSize n ≤ length log.now) }
-    ensures { result ≡ goodMarks log.now start marks n }
+    requires { (n ≤ most_bits) × (start + row_size n ≤ length log.now) × (marks + row_size n ≤ length log.now) }
+    ensures { result ≡ good_marks log.now start marks n }
 {
     if is_zero(log, marks, 0, n) {
         return false;
@@ -104,8 +104,8 @@ pub fn is_good_marks(log: &[u8], start: usize, marks: usize, n: usize) -> bool
 
 // An answer with a collision, whose row and marks start at a byte.
 pub fn collided_of(log: &[u8], start: usize, n: usize) -> Record
-    requires { (n ≤ mostBits) × (start + 2 * rowSize n ≤ length log.now) }
-    ensures { result ≡ collidedOf log.now start n }
+    requires { (n ≤ most_bits) × (start + 2 * row_size n ≤ length log.now) }
+    ensures { result ≡ collided_of log.now start n }
 {
     let size = (n + 7) / 8;
     let marks = start + size;
@@ -123,8 +123,8 @@ pub fn collided_of(log: &[u8], start: usize, n: usize) -> Record
 
 // A record of a kind, with n bits, whose rows start at a byte.
 pub fn record_of(log: &[u8], start: usize, kind: u8, n: usize) -> Record
-    requires { (n ≤ mostBits) × (start + rowsSize kind n ≤ length log.now) }
-    ensures { result ≡ recordOf log.now start kind n }
+    requires { (n ≤ most_bits) × (start + rows_size kind n ≤ length log.now) }
+    ensures { result ≡ record_of log.now start kind n }
 {
     if kind == 3 {
         if n == 0 {
@@ -155,8 +155,8 @@ pub fn record_of(log: &[u8], start: usize, kind: u8, n: usize) -> Record
 
 // The bytes that the rows of a record take.
 pub fn rows_size(kind: u8, n: usize) -> usize
-    requires { n ≤ mostBits }
-    ensures { result ≡ rowsSize kind n }
+    requires { n ≤ most_bits }
+    ensures { result ≡ rows_size kind n }
 {
     let size = (n + 7) / 8;
     if kind == 2 {
@@ -168,7 +168,7 @@ pub fn rows_size(kind: u8, n: usize) -> usize
 // What stands behind a header whose bytes are a and b.
 pub fn after_header(log: &[u8], start: usize, a: u8, b: u8) -> Record
     requires { start ≤ length log.now }
-    ensures { result ≡ afterHeader log.now start a b }
+    ensures { result ≡ after_header log.now start a b }
 {
     let kind = a / 64;
     let n = 256 * ((a % 32) as usize) + (b as usize);

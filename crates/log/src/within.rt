@@ -1,15 +1,15 @@
 // Records and entries written at a place of lent bytes. Each has a condition, and its callers' proofs show that they meet it.
 ghost use Rattle.std.specs.Prelude.{◌≡◌, true, ◌++◌, ◌+◌, ◌<◌, ◌≤◌, length, take, drop, get_or};
 ghost use Rattle.rows.specs.Rows.{overlay, clean};
-ghost use Rattle.uid.specs.Uid.{uidBytes};
-ghost use Rattle.log.specs.Log.{fromTop, pack, header, tickBytes, plain, sentRecord, heardRecord, entryBytes};
-ghost use Rattle.log.specs.Calls.{mostBits, rowSize, shownBit, shown};
+ghost use Rattle.uid.specs.Uid.{uid_bytes};
+ghost use Rattle.log.specs.Log.{from_top, pack, header, tick_bytes, plain, sent_record, heard_record, entry_bytes};
+ghost use Rattle.log.specs.Calls.{most_bits, row_size, shown_bit, shown};
 
 use uid::Uid;
 
 // What a record shows of a bit: in the row of marks a 1 if it collided; else the bit, 0 if it collided.
 pub fn shown_bit(x: u8, mark: bool) -> u8
-    ensures { result ≡ shownBit mark x }
+    ensures { result ≡ shown_bit mark x }
 {
     if mark {
         if x > 1 {
@@ -36,7 +36,7 @@ pub fn bit(row: &[u8], i: usize, mark: bool) -> u8
 // Eight bits of a row from a place on, the first in the top bit.
 pub fn packed_byte(row: &[u8], from: usize, mark: bool) -> u8
     requires { from < length row.now }
-    ensures { result ≡ fromTop 8 (take 8 (drop from (shown mark row.now))) }
+    ensures { result ≡ from_top 8 (take 8 (drop from (shown mark row.now))) }
 {
     let mut v: u8 = 0;
     for j in 0..8usize {
@@ -47,7 +47,7 @@ pub fn packed_byte(row: &[u8], from: usize, mark: bool) -> u8
 
 // A row, zero-filled to a byte, written into out from index at on.
 pub fn put_packed(out: &mut [u8], at: usize, row: &[u8], mark: bool)
-    requires { at + rowSize (length row.now) ≤ length out.old }
+    requires { at + row_size (length row.now) ≤ length out.old }
     ensures { out.new ≡ overlay out.old at (pack (shown mark row.now)) }
 {
     let n = (row.len() + 7) / 8;
@@ -58,8 +58,8 @@ pub fn put_packed(out: &mut [u8], at: usize, row: &[u8], mark: bool)
 
 // A record's first six bytes: its header and its tick, of which the low 32 bits count.
 pub fn head_of(kind: u8, n: usize, tick: usize) -> [u8; 6]
-    requires { (kind < 4) × (n ≤ mostBits) }
-    ensures { result ≡ header kind n ++ tickBytes tick }
+    requires { (kind < 4) × (n ≤ most_bits) }
+    ensures { result ≡ header kind n ++ tick_bytes tick }
 {
     [
         64 * kind + (n / 256) as u8,
@@ -73,9 +73,9 @@ pub fn head_of(kind: u8, n: usize, tick: usize) -> [u8; 6]
 
 // A header, its tick and one row. The answer is their number of bytes.
 pub fn put_row(out: &mut [u8], at: usize, tick: usize, kind: u8, row: &[u8]) -> usize
-    requires { (kind < 4) × (length row.now ≤ mostBits) × (at + (6 + rowSize (length row.now)) ≤ length out.old) }
-    ensures value { result ≡ 6 + rowSize (length row.now) }
-    ensures out_after { out.new ≡ overlay out.old at (header kind (length row.now) ++ (tickBytes tick ++ pack (plain row.now))) }
+    requires { (kind < 4) × (length row.now ≤ most_bits) × (at + (6 + row_size (length row.now)) ≤ length out.old) }
+    ensures value { result ≡ 6 + row_size (length row.now) }
+    ensures out_after { out.new ≡ overlay out.old at (header kind (length row.now) ++ (tick_bytes tick ++ pack (plain row.now))) }
 {
     let head = head_of(kind, row.len(), tick);
     rows::within::put(out, at, &head);
@@ -85,18 +85,18 @@ pub fn put_row(out: &mut [u8], at: usize, tick: usize, kind: u8, row: &[u8]) -> 
 
 // The record of a reader frame. The answer is its number of bytes.
 pub fn put_sent(out: &mut [u8], at: usize, tick: usize, frame: &[u8]) -> usize
-    requires { (clean frame.now ≡ true) × (length frame.now ≤ mostBits) × (at + length (sentRecord (tickBytes tick) frame.now) ≤ length out.old) }
-    ensures value { result ≡ length (sentRecord (tickBytes tick) frame.now) }
-    ensures out_after { out.new ≡ overlay out.old at (sentRecord (tickBytes tick) frame.now) }
+    requires { (clean frame.now ≡ true) × (length frame.now ≤ most_bits) × (at + length (sent_record (tick_bytes tick) frame.now) ≤ length out.old) }
+    ensures value { result ≡ length (sent_record (tick_bytes tick) frame.now) }
+    ensures out_after { out.new ≡ overlay out.old at (sent_record (tick_bytes tick) frame.now) }
 {
     put_row(out, at, tick, 0, frame)
 }
 
 // The record of what was heard after a reader frame. The answer is its number of bytes.
 pub fn put_heard(out: &mut [u8], at: usize, tick: usize, row: &[u8]) -> usize
-    requires { (length row.now ≤ mostBits) × (at + length (heardRecord (tickBytes tick) row.now) ≤ length out.old) }
-    ensures value { result ≡ length (heardRecord (tickBytes tick) row.now) }
-    ensures out_after { out.new ≡ overlay out.old at (heardRecord (tickBytes tick) row.now) }
+    requires { (length row.now ≤ most_bits) × (at + length (heard_record (tick_bytes tick) row.now) ≤ length out.old) }
+    ensures value { result ≡ length (heard_record (tick_bytes tick) row.now) }
+    ensures out_after { out.new ≡ overlay out.old at (heard_record (tick_bytes tick) row.now) }
 {
     if row.len() == 0 {
         return put_row(out, at, tick, 3, row);
@@ -112,7 +112,7 @@ pub fn put_heard(out: &mut [u8], at: usize, tick: usize, row: &[u8]) -> usize
 // The found list's entry of a UID.
 pub fn put_entry(list: &mut [u8], at: usize, u: Uid)
     requires { at + 11 ≤ length list.old }
-    ensures { list.new ≡ overlay list.old at (entryBytes (uidBytes u)) }
+    ensures { list.new ≡ overlay list.old at (entry_bytes (uid_bytes u)) }
 {
     let bytes = super::entry(u);
     rows::within::put(list, at, &bytes);

@@ -8,9 +8,9 @@ use Rattle.card_blocks.specs.declared.CardLink.{CardLink}
 use Rattle.reader_blocks.specs.declared.ReaderLink.{ReaderLink}
 use Rattle.reader_blocks.specs.declared.Turn.{Turn}
 use Rattle.reader_blocks.specs.declared.Turn.TheVariants.{Sending, Awaiting, Joining}
-use Rattle.block.specs.Cut.{payloadMax, follows, part, fewest}
-use Rattle.block.specs.Block.{blockBytes}
-use Rattle.reader_blocks.specs.ReaderRules.{lastIsOut, asksAgain}
+use Rattle.block.specs.Cut.{payload_max, follows, part, fewest}
+use Rattle.block.specs.Block.{block_bytes}
+use Rattle.reader_blocks.specs.ReaderRules.{last_is_out, asks_again}
 use Rattle.exchange.specs.Exchange.{Ends, Fine}
 use Rattle.exchange.specs.StepLaws.{card, reader}
 
@@ -75,37 +75,37 @@ module _ (z : Case) where
   turn_of at (Joined k) = Joining
 
   -- how much the reader has joined
-  abbrev pub joinedOf : Stage → ℕ
-  joinedOf (Fresh last k) = 0
-  joinedOf Acked = 0
-  joinedOf Owed = 0
-  joinedOf (Asked v) = 0
-  joinedOf (Shown t k) = k
-  joinedOf (Joined k) = k + payloadMax i
+  abbrev pub joined_of : Stage → ℕ
+  joined_of (Fresh last k) = 0
+  joined_of Acked = 0
+  joined_of Owed = 0
+  joined_of (Asked v) = 0
+  joined_of (Shown t k) = k
+  joined_of (Joined k) = k + payload_max i
 
-  abbrev pub upOf : Stage → List ℕ
-  upOf (Fresh last k) = u
-  upOf Acked = u
-  upOf Owed = u
-  upOf (Asked v) = u
-  upOf (Shown t k) = overlay u 0 (take k a)
-  upOf (Joined k) = overlay u 0 (take (k + payloadMax i) a)
+  abbrev pub up_of : Stage → List ℕ
+  up_of (Fresh last k) = u
+  up_of Acked = u
+  up_of Owed = u
+  up_of (Asked v) = u
+  up_of (Shown t k) = overlay u 0 (take k a)
+  up_of (Joined k) = overlay u 0 (take (k + payload_max i) a)
 
-  abbrev pub cardOf : Bool → ℕ → Stage → CardLink
-  cardOf n at (Fresh last k) = card j i (not n) Receiving last at k
-  cardOf n at Acked = card j i n Receiving (Ack n) (at + payloadMax j) 0
-  cardOf n at Owed = card j i n Owing Nothing 0 0
-  cardOf n at (Asked v) = card j i n (Waiting v) (Wtx v) 0 0
-  cardOf n at (Shown t k) = card j i n (cond (follows i k (length a)) Answering Receiving) (I n (follows i k (length a))) 0 k
-  cardOf n at (Joined k) = card j i (not n) Answering (I (not n) true) 0 k
+  abbrev pub card_of : Bool → ℕ → Stage → CardLink
+  card_of n at (Fresh last k) = card j i (not n) Receiving last at k
+  card_of n at Acked = card j i n Receiving (Ack n) (at + payload_max j) 0
+  card_of n at Owed = card j i n Owing Nothing 0 0
+  card_of n at (Asked v) = card j i n (Waiting v) (Wtx v) 0 0
+  card_of n at (Shown t k) = card j i n (cond (follows i k (length a)) Answering Receiving) (I n (follows i k (length a))) 0 k
+  card_of n at (Joined k) = card j i (not n) Answering (I (not n) true) 0 k
 
-  abbrev pub downOf : ℕ → Stage → List ℕ
-  downOf at (Fresh last k) = overlay d 0 (take at m)
-  downOf at Acked = overlay d 0 (take (at + payloadMax j) m)
-  downOf at Owed = overlay d 0 m
-  downOf at (Asked v) = overlay d 0 m
-  downOf at (Shown t k) = overlay d 0 m
-  downOf at (Joined k) = overlay d 0 m
+  abbrev pub down_of : ℕ → Stage → List ℕ
+  down_of at (Fresh last k) = overlay d 0 (take at m)
+  down_of at Acked = overlay d 0 (take (at + payload_max j) m)
+  down_of at Owed = overlay d 0 m
+  down_of at (Asked v) = overlay d 0 m
+  down_of at (Shown t k) = overlay d 0 m
+  down_of at (Joined k) = overlay d 0 m
 
   abbrev pub lent_of : Stage → List ℕ
   lent_of (Fresh last k) = lent
@@ -124,41 +124,41 @@ module _ (z : Case) where
   done_of (Shown t k) = 1
   done_of (Joined k) = 1
 
-  abbrev pub readerOf : Bool → ℕ → ℕ → ℕ → Stage → ReaderLink
-  readerOf n at again rep g = reader i j n (turn_of at g) at (joinedOf g) again rep
+  abbrev pub reader_of : Bool → ℕ → ℕ → ℕ → Stage → ReaderLink
+  reader_of n at again rep g = reader i j n (turn_of at g) at (joined_of g) again rep
 
-  abbrev pub endsOf : Place → Ends
-  endsOf (place n at again rep g own) =
-      record { reader = readerOf n at again rep g; card = cardOf n at g; down = downOf at g; up = upOf g; lent = lent_of g }
+  abbrev pub ends_of : Place → Ends
+  ends_of (place n at again rep g own) =
+      record { reader = reader_of n at again rep g; card = card_of n at g; down = down_of at g; up = up_of g; lent = lent_of g }
 
   -- the reader's frame that is out
   abbrev pub frame_of : Place → List ℕ
-  frame_of (place n at again rep (Fresh last k) true) = blockBytes (I n (follows j at (length m))) (part j at m)
-  frame_of (place n at again rep (Fresh last k) false) = blockBytes (Nak n) []
-  frame_of (place n at again rep Acked own) = blockBytes (Nak n) []
-  frame_of (place n at again rep Owed own) = blockBytes (Nak n) []
-  frame_of (place n at again rep (Asked v) true) = blockBytes (Wtx v) []
-  frame_of (place n at again rep (Asked v) false) = blockBytes (Nak n) []
-  frame_of (place n at again rep (Shown t k) own) = blockBytes (asksAgain t n) []
-  frame_of (place n at again rep (Joined k) own) = blockBytes (Ack n) []
+  frame_of (place n at again rep (Fresh last k) true) = block_bytes (I n (follows j at (length m))) (part j at m)
+  frame_of (place n at again rep (Fresh last k) false) = block_bytes (Nak n) []
+  frame_of (place n at again rep Acked own) = block_bytes (Nak n) []
+  frame_of (place n at again rep Owed own) = block_bytes (Nak n) []
+  frame_of (place n at again rep (Asked v) true) = block_bytes (Wtx v) []
+  frame_of (place n at again rep (Asked v) false) = block_bytes (Nak n) []
+  frame_of (place n at again rep (Shown t k) own) = block_bytes (asks_again t n) []
+  frame_of (place n at again rep (Joined k) own) = block_bytes (Ack n) []
 
   -- the card's block, where it sends one
-  abbrev pub replyOf : Bool → Stage → List ℕ
-  replyOf n (Fresh last k) = blockBytes (Ack (not n)) []
-  replyOf n Acked = blockBytes (Ack n) []
-  replyOf n Owed = []
-  replyOf n (Asked v) = blockBytes (Wtx v) []
-  replyOf n (Shown t k) = blockBytes (I n (follows i k (length a))) (part i k a)
-  replyOf n (Joined k) = []
+  abbrev pub reply_of : Bool → Stage → List ℕ
+  reply_of n (Fresh last k) = block_bytes (Ack (not n)) []
+  reply_of n Acked = block_bytes (Ack n) []
+  reply_of n Owed = []
+  reply_of n (Asked v) = block_bytes (Wtx v) []
+  reply_of n (Shown t k) = block_bytes (I n (follows i k (length a))) (part i k a)
+  reply_of n (Joined k) = []
 
   -- THE INVARIANT
   abbrev pub Ok : ℕ → Stage → Type 0
   Ok at (Fresh last k) = (at ≤ length m) × (at ≤ length d) × Fine last
-  Ok at Acked = (at + payloadMax j < length m) × (at + payloadMax j ≤ length d)
+  Ok at Acked = (at + payload_max j < length m) × (at + payload_max j ≤ length d)
   Ok at Owed = at ≤ length m
   Ok at (Asked v) = (at ≤ length m) × (1 ≤ v) × (v ≤ 59)
-  Ok at (Shown t k) = (at ≤ length m) × (k ≤ length a) × (k ≤ length u) × (lastIsOut t ≡ true)
-  Ok at (Joined k) = (at ≤ length m) × (k + payloadMax i < length a) × (k + payloadMax i ≤ length u)
+  Ok at (Shown t k) = (at ≤ length m) × (k ≤ length a) × (k ≤ length u) × (last_is_out t ≡ true)
+  Ok at (Joined k) = (at ≤ length m) × (k + payload_max i < length a) × (k + payload_max i ≤ length u)
 
   abbrev pub OkAt : Place → Type 0
   OkAt (place n at again rep g own) = Ok at g
@@ -167,7 +167,7 @@ module _ (z : Case) where
   done (place n at again rep g own) = done_of g
 
   abbrev pub number_at : Place → Bool
-  number_at s = (endsOf s).reader.number
+  number_at s = (ends_of s).reader.number
 
   -- ---- second claim: b frames may be lost before the reader's next toggle
 
@@ -188,7 +188,7 @@ module _ (z : Case) where
   toggles at Owed = 0
   toggles at (Asked v) = 0
   toggles at (Shown t k) = 1 + fewest i (length a - k)
-  toggles at (Joined k) = 1 + fewest i (length a - (k + payloadMax i))
+  toggles at (Joined k) = 1 + fewest i (length a - (k + payload_max i))
 
   -- so many rounds up to the end, and one more, if nothing is lost from now on: one for each toggle, and one where R(NAK) is out for an I that
   -- the card has not taken

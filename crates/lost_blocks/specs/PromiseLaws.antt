@@ -5,37 +5,37 @@ use Rattle.std.proofs.Math.Path.{ap, subst}
 use Rattle.std.proofs.Math.Nat.{zero-add}
 use Rattle.std.proofs.Math.ListN.{length, length-replicate}
 use Rattle.rows.specs.Rows.{Bytes}
-use Rattle.limits.specs.Limits.{rowRoom}
+use Rattle.limits.specs.Limits.{row_room}
 use Rattle.card_link.specs.declared.LinkCard.{LinkCard}
 use Rattle.reader_link.specs.declared.LinkReader.{LinkReader}
 use Rattle.exchange.specs.declared.Outcome.{Outcome}
 use Rattle.exchange.specs.RowExchange.{RowEnds, RowRun}
-use Rattle.exchange.specs.Lossy.{RowRound, lossyTalk}
-use Rattle.exchange.specs.Steps.{endsOf, last_of, sum_of, outcomeOf, lossyOf}
+use Rattle.exchange.specs.Lossy.{RowRound, lossy_talk}
+use Rattle.exchange.specs.Steps.{ends_of, last_of, sum_of, outcome_of, lossy_of}
 use Rattle.lost_blocks.specs.Lost.{Ending}
-use Rattle.lost_blocks.specs.LostLaws.{ending-map}
+use Rattle.lost_blocks.specs.LostLaws.{ending_map}
 use Rattle.lost_blocks.specs.RowLost.{RowStart, RowBrought, RowSafe, LostBlocks}
-use Rattle.lost_blocks.specs.RowLostLaws.{lost-blocks}
+use Rattle.lost_blocks.specs.RowLostLaws.{lost_blocks}
 use Rattle.lost_blocks.specs.Promise.{Brings, Survives}
 
-last-once : (n : ℕ) (m : List ℕ) → n ≡ 1 → last_of 0 (replicate n m) ≡ length m
+last_once : (n : ℕ) (m : List ℕ) → n ≡ 1 → last_of 0 (replicate n m) ≡ length m
 unfolding last_of
-last-once n m e = rw e refl
+last_once n m e = rw e refl
 
 module _ (x : LinkReader) (y : LinkCard) (m before a : List ℕ) (xs : List RowRound) (down up down' up' : List ℕ) (o : Outcome)
-    (eq : outcomeOf o before a down' up' ≡ lossyOf x y m before a xs down up) where
+    (eq : outcome_of o before a down' up' ≡ lossy_of x y m before a xs down up) where
   abbrev ends : RowEnds
-  ends = endsOf x y down up false before a
+  ends = ends_of x y down up false before a
 
   abbrev run : RowRun
-  run = lossyTalk m a rowRoom xs ends
+  run = lossy_talk m a row_room xs ends
 
   counted : o.messages ≡ length run.got
-  unfolding outcomeOf lossyOf sum_of
+  unfolding outcome_of lossy_of sum_of
   counted = ap (λ s. s.messages) eq ∙ zero-add _
 
   brings : (i j : ℕ) → RowBrought i j m a ends run → Brings i j m before a down up o down' up'
-  unfolding outcomeOf lossyOf sum_of last_of
+  unfolding outcome_of lossy_of sum_of last_of
   brings i j z =
       let b = z.ready in
       record {
@@ -55,15 +55,15 @@ module _ (x : LinkReader) (y : LinkCard) (m before a : List ℕ) (xs : List RowR
       }
 
   pub survives : Bytes m → Bytes before → Bytes a → (i j : ℕ) → RowStart i j m a xs ends → Survives i j x y m before a xs down up o down' up'
-  unfolding outcomeOf lossyOf sum_of
+  unfolding outcome_of lossy_of sum_of
   survives hm hb ha i j t =
-      let k : LostBlocks i j m a rowRoom xs ends run = lost-blocks i j rowRoom m a xs ends (omega arith) hm ha hb t in
+      let k : LostBlocks i j m a row_room xs ends run = lost_blocks i j row_room m a xs ends (omega arith) hm ha hb t in
       let s : RowSafe i j m a ends run = k.safe in
       let n : o.messages ≡ s.times = counted ∙ ap length s.got ∙ length-replicate s.times m in
       record {
         run = k;
         once = omega (arith, s.once);
-        whole = λ e. ap (λ s. s.last) eq ∙ ap (last_of 0) s.got ∙ last-once s.times m (sym n ∙ e);
-        end = subst (Ending (Brings i j m before a down up o down' up')) (sym (ap (λ s. s.told) eq)) (ending-map (brings i j) run.told s.end);
+        whole = λ e. ap (λ s. s.last) eq ∙ ap (last_of 0) s.got ∙ last_once s.times m (sym n ∙ e);
+        end = subst (Ending (Brings i j m before a down up o down' up')) (sym (ap (λ s. s.told) eq)) (ending_map (brings i j) run.told s.end);
         brought = λ f. brings i j (k.brought f);
       }

@@ -4,10 +4,10 @@
 -- The path is the on-air row of the card under way, or of the one found last, as far as it is known. A 2 in it is a branch not yet taken: a 1
 -- was sent there against a 0.
 use Rattle.std.specs.Prelude.{ℕ, ◌+◌, ◌*◌, Bool, true, false, cond, List, [], ◌∷◌, ◌++◌, map, length, take, drop, ltb}
-use Rattle.rows.specs.Rows.{clean, isNil}
-use Rattle.frame.specs.Frame.{airBits, bytesOf}
+use Rattle.rows.specs.Rows.{clean, is_nil}
+use Rattle.frame.specs.Frame.{air_bits, bytes_of}
 use Rattle.uid.specs.Uid.{place}
-use Rattle.selection.specs.Heard.{readRest}
+use Rattle.selection.specs.Heard.{read_rest}
 use Rattle.reader.specs.Reader as Plain
 use Rattle.reader.specs.Reader.{reader, sends, turn}
 use Rattle.selection.specs.declared.Rest.{Rest}
@@ -49,7 +49,7 @@ known l w = take 40 (drop (40 * place l) (bits w))
 -- bits of which the last is a 1 sent against a 0
 unfoldable pub keeping : List ℕ → List ℕ
 keeping [] = []
-keeping (x ∷ d) = cond (isNil d) (2 ∷ []) (x ∷ keeping d)
+keeping (x ∷ d) = cond (is_nil d) (2 ∷ []) (x ∷ keeping d)
 
 abbrev pub marked : RestSays → List ℕ → List ℕ
 marked Whole d = d
@@ -58,7 +58,7 @@ marked (NotRest e) d = d
 
 -- the level's bits that an ANTICOLLISION answer x adds to those that r knew
 unfoldable pub learnt : Reader → Rest → List ℕ
-learnt r x = marked x.says (drop r.known (take x.known (airBits x.five)))
+learnt r x = marked x.says (drop r.known (take x.known (air_bits x.five)))
 
 -- ---- a row h is heard
 
@@ -66,15 +66,15 @@ learnt r x = marked x.says (drop r.known (take x.known (airBits x.five)))
 unfoldable pub enters : Level → Reader → List ℕ → Turn
 enters l r w =
     let d : List ℕ = known l w in
-    sends (reader (cond (ltb (length d) 40) (AnticollisionSent l) (SelectSent l)) r.sweeps (bytesOf 5 d) (length d) r.uid 0)
+    sends (reader (cond (ltb (length d) 40) (AnticollisionSent l) (SelectSent l)) r.sweeps (bytes_of 5 d) (length d) r.uid 0)
 
 -- .. where the plain reader opens it
-abbrev pub entersBy : Answer → Level → Turn → List ℕ → Turn
-entersBy (Sends n) l t w = enters l t.reader w
-entersBy (Finds n) l t w = t
-entersBy Selects l t w = t
-entersBy Finishes l t w = t
-entersBy (Declines e) l t w = t
+abbrev pub enters_by : Answer → Level → Turn → List ℕ → Turn
+enters_by (Sends n) l t w = enters l t.reader w
+enters_by (Finds n) l t w = t
+enters_by Selects l t w = t
+enters_by Finishes l t w = t
+enters_by (Declines e) l t w = t
 
 -- nothing is remembered where the sweep ends
 abbrev pub keeps : Answer → List ℕ → List ℕ
@@ -91,29 +91,29 @@ higher Three = Three
 
 -- the plain reader's turn t, at level l, and the path w
 unfoldable pub comes : Level → Turn → List ℕ → Recall
-comes l t w = recall (entersBy t.answer l t w) (keeps t.answer w)
+comes l t w = recall (enters_by t.answer l t w) (keeps t.answer w)
 
 unfoldable pub stays : Turn → List ℕ → Recall
 stays t w = recall t (keeps t.answer w)
 
 -- what the reader r with the path w does with a row, by the frame that it sent last; outside a sweep the path stays
-abbrev pub hearIn : Phase → Reader → List ℕ → List ℕ → Recall
-hearIn New r w h = recall (Plain.hear r h) w
-hearIn ReqaSent r w h = comes One (Plain.hear r h) (branch w)
-hearIn (AnticollisionSent l) r w h = stays (Plain.hear r h) (take (40 * place l + r.known) w ++ learnt r (readRest r.known r.five h))
-hearIn (SelectSent l) r w h = comes (higher l) (Plain.hear r h) w
-hearIn HltaSent r w h = stays (Plain.hear r h) w
-hearIn Selected r w h = recall (Plain.hear r h) w
-hearIn Finished r w h = recall (Plain.hear r h) w
-hearIn Stopped r w h = recall (Plain.hear r h) w
-hearIn WupaSent r w h = recall (Plain.hear r h) w
-hearIn (UidSelectSent l) r w h = recall (Plain.hear r h) w
+abbrev pub hear_in : Phase → Reader → List ℕ → List ℕ → Recall
+hear_in New r w h = recall (Plain.hear r h) w
+hear_in ReqaSent r w h = comes One (Plain.hear r h) (branch w)
+hear_in (AnticollisionSent l) r w h = stays (Plain.hear r h) (take (40 * place l + r.known) w ++ learnt r (read_rest r.known r.five h))
+hear_in (SelectSent l) r w h = comes (higher l) (Plain.hear r h) w
+hear_in HltaSent r w h = stays (Plain.hear r h) w
+hear_in Selected r w h = recall (Plain.hear r h) w
+hear_in Finished r w h = recall (Plain.hear r h) w
+hear_in Stopped r w h = recall (Plain.hear r h) w
+hear_in WupaSent r w h = recall (Plain.hear r h) w
+hear_in (UidSelectSent l) r w h = recall (Plain.hear r h) w
 
 unfoldable pub hear : Reader → List ℕ → List ℕ → Recall
-hear r w h = hearIn r.phase r w h
+hear r w h = hear_in r.phase r w h
 
 -- ---- the reader of any sweep: one that remembers, or the plain one, which has no path
 
-abbrev pub hearIf : Bool → Reader → List ℕ → List ℕ → Recall
-hearIf true r w h = hear r w h
-hearIf false r w h = recall (Plain.hear r h) []
+abbrev pub hear_if : Bool → Reader → List ℕ → List ℕ → Recall
+hear_if true r w h = hear r w h
+hear_if false r w h = recall (Plain.hear r h) []

@@ -1,9 +1,9 @@
 // A level comes next: the bits of it that the path has.
 ghost use Rattle.std.specs.Prelude.{◌≡◌, true, cond, ◌-◌, ◌≤◌, min, length, take, drop, ltb};
 ghost use Rattle.rows.specs.Rows.{clean, fill};
-ghost use Rattle.frame.specs.Frame.{bytesOf};
+ghost use Rattle.frame.specs.Frame.{bytes_of};
 ghost use Rattle.memory.specs.Memory.{bits, enters};
-ghost use Rattle.memory.specs.Stored.{pathOf};
+ghost use Rattle.memory.specs.Stored.{path_of};
 ghost use Rattle.reader.specs.declared.Phase.TheVariants.{AnticollisionSent, SelectSent};
 
 use crate::Path;
@@ -36,7 +36,7 @@ fn level_known(n: usize, at: usize) -> usize
 // Those bits, zeros behind.
 fn level_bits(p: Path, at: usize) -> [u8; 40]
     requires { p.known ≤ 120 }
-    ensures value { result ≡ fill 40 (take 40 (drop at (bits (pathOf p)))) }
+    ensures value { result ≡ fill 40 (take 40 (drop at (bits (path_of p)))) }
     ensures row_len { length p.row ≡ 120 }
 {
     let row = p.row;
@@ -51,7 +51,7 @@ fn level_bits(p: Path, at: usize) -> [u8; 40]
 // The five bytes of 40 bits, none of them collided.
 fn five_bytes(e: [u8; 40]) -> [u8; 5]
     requires { clean e ≡ true }
-    ensures { result ≡ bytesOf 5 e }
+    ensures { result ≡ bytes_of 5 e }
 {
     let a = parity::within::byte_at(&e, 0);
     let b = parity::within::byte_at(&e, 8);
@@ -74,7 +74,7 @@ fn first_phase(l: Level, m: usize) -> Phase
 // Level l comes next: its known bits are sent at once.
 pub fn enters(l: Level, r: Reader, p: Path) -> Turn
     requires { p.known ≤ 120 }
-    ensures { result ≡ enters l r (pathOf p) }
+    ensures { result ≡ enters l r (path_of p) }
 {
     let at = 40 * selection::numbers::place(l);
     let m = level_known(p.known, at);

@@ -5,8 +5,8 @@ mod paths;
 pub mod within;
 
 ghost use Rattle.std.specs.Prelude.{◌≡◌, true, length};
-ghost use Rattle.reader.specs.Calls.{Completed, beginSays, rowAfter, turnSays};
-ghost use Rattle.memory.specs.Calls.{refused, startCall, hearCall, hearSays};
+ghost use Rattle.reader.specs.Calls.{Completed, begin_says, row_after, turn_says};
+ghost use Rattle.memory.specs.Calls.{refused, start_call, hear_call, hear_says};
 
 use reader::{Reader, Turn};
 use refusal::Refusal;
@@ -37,9 +37,9 @@ fn declines(r: Reader, p: Path, e: Refusal) -> Memory
 
 // The host wants every idle card, one after the other, in few frames: REQA goes out. The lent row has room for 81 bits.
 pub fn start_sweep(r: Reader, out: &mut [u8]) -> Memory
-    ensures value { result ≡ startCall r (length out.old) }
-    ensures out_after { out.new ≡ rowAfter result.turn out.old }
-    ensures turn_value { turnSays result.turn ≡ beginSays true r (length out.old) }
+    ensures value { result ≡ start_call r (length out.old) }
+    ensures out_after { out.new ≡ row_after result.turn out.old }
+    ensures turn_value { turn_says result.turn ≡ begin_says true r (length out.old) }
 {
     let t = reader::start_sweep(r, out);
     let p = paths::empty();
@@ -49,9 +49,9 @@ pub fn start_sweep(r: Reader, out: &mut [u8]) -> Memory
 // The reader hears a row, an empty one for silence. Its next frame, if there is one, stands at the front of the lent row. A UID that it
 // completes is valid, whatever was heard.
 pub fn hear(r: Reader, p: Path, row: &[u8], out: &mut [u8]) -> Memory
-    ensures value { result ≡ hearCall r p row.now (length out.old) }
-    ensures out_after { out.new ≡ rowAfter result.turn out.old }
-    ensures turn_value { turnSays result.turn ≡ hearSays r p row.now (length out.old) }
+    ensures value { result ≡ hear_call r p row.now (length out.old) }
+    ensures out_after { out.new ≡ row_after result.turn out.old }
+    ensures turn_value { turn_says result.turn ≡ hear_says r p row.now (length out.old) }
     ensures completed { Completed result.turn.answer result.turn.reader }
 {
     let phase = r.phase;

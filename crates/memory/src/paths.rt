@@ -2,7 +2,7 @@
 ghost use Rattle.std.specs.Prelude.{◌≡◌, [], ◌++◌, ◌+◌, ◌*◌, ◌≤◌, min, length, take};
 ghost use Rattle.uid.specs.Uid.{place};
 ghost use Rattle.memory.specs.Memory.{branch, learnt};
-ghost use Rattle.memory.specs.Stored.{pathOf, stored, Branched, isCollided, Marked};
+ghost use Rattle.memory.specs.Stored.{path_of, stored, Branched, is_collided, Marked};
 
 use crate::Path;
 use reader::Reader;
@@ -30,7 +30,7 @@ fn at_most(n: usize, m: usize) -> usize
 
 // A path as it is kept: at most 120 bits, zeros behind them.
 pub fn tidy(p: Path) -> Path
-    ensures value { result ≡ stored (pathOf p) }
+    ensures value { result ≡ stored (path_of p) }
     ensures known_bound { result.known ≤ 120 }
 {
     let row = p.row;
@@ -58,7 +58,7 @@ fn branch_bits(row: [u8; 120], n: usize) -> usize
 // The newest branch of a path.
 pub fn take_branch(p: Path) -> Path
     requires { p.known ≤ 120 }
-    ensures value { result ≡ stored (branch (pathOf p)) }
+    ensures value { result ≡ stored (branch (path_of p)) }
     ensures known_bound { result.known ≤ 120 }
 {
     let row = p.row;
@@ -73,7 +73,7 @@ pub fn take_branch(p: Path) -> Path
 // The first n bits of a path, and a row behind them.
 fn joined(p: Path, n: usize, s: &[u8]) -> Path
     requires { (p.known ≤ 120) × (min n p.known + length s.now ≤ 120) }
-    ensures value { result ≡ stored (take n (pathOf p) ++ s.now) }
+    ensures value { result ≡ stored (take n (path_of p) ++ s.now) }
     ensures known_bound { result.known ≤ 120 }
 {
     let row = p.row;
@@ -88,7 +88,7 @@ fn joined(p: Path, n: usize, s: &[u8]) -> Path
 }
 
 fn is_collided(s: RestSays) -> bool
-    ensures { result ≡ isCollided s }
+    ensures { result ≡ is_collided s }
 {
     match s {
         RestSays::Whole => false,
@@ -117,7 +117,7 @@ fn marked_bits(x: Rest, top: usize) -> [u8; 40]
 // The path after an answer to ANTICOLLISION of level l.
 pub fn learns(l: Level, r: Reader, x: Rest, p: Path) -> Path
     requires { p.known ≤ 120 }
-    ensures value { result ≡ stored (take (40 * place l + r.known) (pathOf p) ++ learnt r x) }
+    ensures value { result ≡ stored (take (40 * place l + r.known) (path_of p) ++ learnt r x) }
     ensures known_bound { result.known ≤ 120 }
 {
     let k = r.known as usize;

@@ -1,11 +1,11 @@
 // The rules of the reader that remembers, on values. Called by our own crates only: firmware calls `start_sweep` and `hear`.
 ghost use Rattle.std.specs.Prelude.{◌≡◌, true, [], ◌++◌, ◌+◌, ◌*◌, take};
 ghost use Rattle.uid.specs.Uid.{place};
-ghost use Rattle.selection.specs.Heard.{readRest};
+ghost use Rattle.selection.specs.Heard.{read_rest};
 ghost use Rattle.reader.specs.Reader.{blank, sends};
 ghost use Rattle.reader.specs.declared.Phase.TheVariants.{ReqaSent};
-ghost use Rattle.memory.specs.Memory.{recall, learnt, entersBy, keeps, higher, comes, stays, hear, hearIf};
-ghost use Rattle.memory.specs.Stored.{pathOf, stored, Kept, isSends, isOn, memoryOf};
+ghost use Rattle.memory.specs.Memory.{recall, learnt, enters_by, keeps, higher, comes, stays, hear, hear_if};
+ghost use Rattle.memory.specs.Stored.{path_of, stored, Kept, is_sends, is_on, memory_of};
 
 use crate::level::enters;
 use crate::paths::{empty, learns, take_branch, tidy};
@@ -15,7 +15,7 @@ use uid::Level;
 
 // A sweep begins: REQA is out, and nothing is remembered.
 pub fn fresh() -> Memory
-    ensures { result ≡ memoryOf (recall (sends (blank ReqaSent true)) []) }
+    ensures { result ≡ memory_of (recall (sends (blank ReqaSent true)) []) }
 {
     let t = reader::within::sends(reader::within::blank(Phase::ReqaSent, true));
     let p = empty();
@@ -24,7 +24,7 @@ pub fn fresh() -> Memory
 
 // Does the reader send a frame, its UID not yet complete?
 fn is_sending(a: Answer) -> bool
-    ensures { result ≡ isSends a }
+    ensures { result ≡ is_sends a }
 {
     match a {
         Answer::Sends(_) => true,
@@ -37,7 +37,7 @@ fn is_sending(a: Answer) -> bool
 
 // Does the sweep go on?
 fn is_on(a: Answer) -> bool
-    ensures { result ≡ isOn a }
+    ensures { result ≡ is_on a }
 {
     match a {
         Answer::Sends(_) => true,
@@ -51,7 +51,7 @@ fn is_on(a: Answer) -> bool
 // The path after an answer: nothing is remembered where the sweep ends.
 fn keeps(a: Answer, p: Path) -> Path
     requires { Kept p }
-    ensures { result ≡ stored (keeps a (pathOf p)) }
+    ensures { result ≡ stored (keeps a (path_of p)) }
 {
     if is_on(a) {
         return p;
@@ -62,7 +62,7 @@ fn keeps(a: Answer, p: Path) -> Path
 // Level l comes next where the plain reader opens it.
 fn enters_by(a: Answer, l: Level, t: Turn, p: Path) -> Turn
     requires { Kept p }
-    ensures { result ≡ entersBy a l t (pathOf p) }
+    ensures { result ≡ enters_by a l t (path_of p) }
 {
     if is_sending(a) {
         let r = t.reader;
@@ -84,7 +84,7 @@ fn higher(l: Level) -> Level
 // The plain reader's turn, and the path.
 fn stays(t: Turn, p: Path) -> Memory
     requires { Kept p }
-    ensures { result ≡ memoryOf (stays t (pathOf p)) }
+    ensures { result ≡ memory_of (stays t (path_of p)) }
 {
     let a = t.answer;
     let q = keeps(a, p);
@@ -94,7 +94,7 @@ fn stays(t: Turn, p: Path) -> Memory
 // Level l comes next, if the sweep goes on.
 fn comes(l: Level, t: Turn, p: Path) -> Memory
     requires { Kept p }
-    ensures { result ≡ memoryOf (comes l t (pathOf p)) }
+    ensures { result ≡ memory_of (comes l t (path_of p)) }
 {
     let a = t.answer;
     let next = enters_by(a, l, t, p);
@@ -108,7 +108,7 @@ fn comes(l: Level, t: Turn, p: Path) -> Memory
 // No row is awaited of this reader in a sweep: the path stays.
 fn unchanged(t: Turn, p: Path) -> Memory
     requires { Kept p }
-    ensures { result ≡ memoryOf (recall t (pathOf p)) }
+    ensures { result ≡ memory_of (recall t (path_of p)) }
 {
     Memory { turn: t, path: p }
 }
@@ -116,7 +116,7 @@ fn unchanged(t: Turn, p: Path) -> Memory
 // The answer to ANTICOLLISION of level l, t being the plain reader's turn.
 fn hear_rest(l: Level, r: Reader, p: Path, t: Turn, row: &[u8]) -> Memory
     requires { Kept p }
-    ensures { result ≡ memoryOf (stays t (take (40 * place l + r.known) (pathOf p) ++ learnt r (readRest r.known r.five row.now))) }
+    ensures { result ≡ memory_of (stays t (take (40 * place l + r.known) (path_of p) ++ learnt r (read_rest r.known r.five row.now))) }
 {
     let k = r.known;
     let five = r.five;
@@ -128,7 +128,7 @@ fn hear_rest(l: Level, r: Reader, p: Path, t: Turn, row: &[u8]) -> Memory
 // What the reader does with a row, by the frame that it sent last; the path is tidy.
 fn hear_kept(r: Reader, p: Path, row: &[u8]) -> Memory
     requires { Kept p }
-    ensures { result ≡ memoryOf (hear r (pathOf p) row.now) }
+    ensures { result ≡ memory_of (hear r (path_of p) row.now) }
 {
     let t = reader::within::hear_rules(r, row);
     let phase = r.phase;
@@ -148,7 +148,7 @@ fn hear_kept(r: Reader, p: Path, row: &[u8]) -> Memory
 
 // .. and with any path.
 pub fn hear_rules(r: Reader, p: Path, row: &[u8]) -> Memory
-    ensures { result ≡ memoryOf (hear r (pathOf p) row.now) }
+    ensures { result ≡ memory_of (hear r (path_of p) row.now) }
 {
     let q = tidy(p);
     hear_kept(r, q, row)
@@ -156,7 +156,7 @@ pub fn hear_rules(r: Reader, p: Path, row: &[u8]) -> Memory
 
 // What the reader of any sweep does with a row: of one that remembers, or of the plain one, which has no path.
 pub fn hear_if(remembers: bool, r: Reader, p: Path, row: &[u8]) -> Memory
-    ensures { result ≡ memoryOf (hearIf remembers r (pathOf p) row.now) }
+    ensures { result ≡ memory_of (hear_if remembers r (path_of p) row.now) }
 {
     if remembers {
         return hear_rules(r, p, row);

@@ -5,8 +5,8 @@ use mathlib.Core.Bool.{true}
 use mathlib.Core.List.{List}
 use lib.ListN.{take}
 use Rattle.memory_rules.specs.Run.{recalled}
-use Rattle.sweep_steps.specs.Loop.{sweptIf}
-use Rattle.sweep.specs.CallLaws.{same-run}
+use Rattle.sweep_steps.specs.Loop.{swept_if}
+use Rattle.sweep.specs.CallLaws.{same_run}
 use Rattle.memory_sweep.proofs.Kept as kept
 use Rattle.sweep_row.specs.Under.{Called}
 use Rattle.card.specs.declared.Card.{Card}
@@ -17,4 +17,4 @@ use Rattle.memory_row.specs.Row.{Promises}
 pub promised : (start : Start) (cards : List Card) (n : ℕ) (log list : List ℕ) (s : Swept) (log₁ list₁ : List ℕ) → Called true start cards n log list s log₁ list₁
     → Promises start cards n log list s log₁ list₁
 promised start cards n log list s log₁ list₁ k =
-    kept.promised start cards n log list s log₁ list₁ (k.0 ∙ same-run (sweptIf true) recalled start cards n log list (kept.swept-recalled (take n cards))) k.1
+    kept.promised start cards n log list s log₁ list₁ (k.0 ∙ same_run (swept_if true) recalled start cards n log list (kept.swept_recalled (take n cards))) k.1

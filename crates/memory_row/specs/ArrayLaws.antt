@@ -2,9 +2,9 @@
 use Rattle.std.specs.Prelude.{◌≡◌, ℕ, List, ◌++◌, length, take, drop}
 use Rattle.memory_rules.specs.Promise.{Remembers}
 use Rattle.memory_rules.specs.Run.{recalled}
-use Rattle.memory_sweep.specs.CallLaws.{promised-by}
-use Rattle.sweep_row.specs.ArrayLaws.{array-call, array-claim}
-use Rattle.sweep_row.specs.Row.{sweptRow}
+use Rattle.memory_sweep.specs.CallLaws.{promised_by}
+use Rattle.sweep_row.specs.ArrayLaws.{array_call, array_claim}
+use Rattle.sweep_row.specs.Row.{swept_row}
 use Rattle.card.specs.declared.Card.{Card}
 use Rattle.sweep.specs.declared.Start.{Start}
 use Rattle.sweep_row.specs.declared.RowSwept.{RowSwept}
@@ -14,8 +14,8 @@ module _ (start : Start) (cards : List Card) (n : ℕ) (log list : List ℕ) (lo
   abbrev front : List Card
   front = take n cards
 
-  pub array-promised : (s : RowSwept) (after : List Card) (log₁ list₁ : List ℕ) → Promises start front (length front) log list (sweptRow s after) log₁ list₁
-      → Promises start cards n log list (sweptRow s (after ++ drop n cards)) log₁ list₁
-  array-promised s after log₁ list₁ p =
-      promised-by start cards n log list (sweptRow s (after ++ drop n cards)) log₁ list₁ (array-call start cards n log list long recalled s after log₁ list₁ p.0)
-      (array-claim start cards n log list long (λ k. Remembers k (recalled k)) p.1.remembers)
+  pub array_promised : (s : RowSwept) (after : List Card) (log₁ list₁ : List ℕ) → Promises start front (length front) log list (swept_row s after) log₁ list₁
+      → Promises start cards n log list (swept_row s (after ++ drop n cards)) log₁ list₁
+  array_promised s after log₁ list₁ p =
+      promised_by start cards n log list (swept_row s (after ++ drop n cards)) log₁ list₁ (array_call start cards n log list long recalled s after log₁ list₁ p.0)
+      (array_claim start cards n log list long (λ k. Remembers k (recalled k)) p.1.remembers)

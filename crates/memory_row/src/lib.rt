@@ -2,8 +2,8 @@
 // sweep_row), with a reader that has a path.
 ghost use Rattle.std.specs.Prelude.{◌≡◌, length};
 ghost use Rattle.sweep.specs.Sweep.{call};
-ghost use Rattle.sweep_row.specs.Row.{sweptRow};
-ghost use Rattle.memory_sweep.specs.Recalled.{recallOf};
+ghost use Rattle.sweep_row.specs.Row.{swept_row};
+ghost use Rattle.memory_sweep.specs.Recalled.{recall_of};
 ghost use Rattle.memory_sweep.specs.Promise.{Recalls};
 
 use card::Card;
@@ -16,7 +16,7 @@ pub mod within;
 // and list is what `memory_sweep::sweep` says of them as values: the plain sweep's list and cards, in fewer frames. Declined, with all unchanged: 11, the
 // reader is not new; 1, log or list is too short; 6, the row has more cards than the limit or is not a field that a sweep takes.
 pub fn sweep_row(start: Start, cards: &mut [Card], log: &mut [u8], list: &mut [u8]) -> RowSwept
-    ensures { (call (sweptRow result cards.new) log.new list.new ≡ recallOf start cards.old (length cards.old) log.old list.old) × Recalls start cards.old (length cards.old) log.old list.old (sweptRow result cards.new) log.new list.new }
+    ensures { (call (swept_row result cards.new) log.new list.new ≡ recall_of start cards.old (length cards.old) log.old list.old) × Recalls start cards.old (length cards.old) log.old list.old (swept_row result cards.new) log.new list.new }
 {
     let mut p = sweep_row::within::opening(true, start, cards.len(), log, list);
     while p.going {

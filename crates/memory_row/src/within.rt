@@ -1,9 +1,9 @@
 // The sweep that remembers (T-14) over a lent row, for our own crates that have their cards in an array.
 ghost use Rattle.std.specs.Prelude.{◌≡◌, ◌≤◌};
-ghost use Rattle.limits.specs.Limits.{mostCards};
+ghost use Rattle.limits.specs.Limits.{most_cards};
 ghost use Rattle.sweep.specs.Sweep.{call};
-ghost use Rattle.sweep_row.specs.Row.{sweptRow};
-ghost use Rattle.memory_sweep.specs.Recalled.{recallOf};
+ghost use Rattle.sweep_row.specs.Row.{swept_row};
+ghost use Rattle.memory_sweep.specs.Recalled.{recall_of};
 ghost use Rattle.memory_sweep.specs.Promise.{Recalls};
 ghost use Rattle.memory_row.specs.Row.{Promises};
 
@@ -20,8 +20,8 @@ pub fn sweep_array(
     log: &mut [u8],
     list: &mut [u8],
 ) -> ArraySwept
-    requires { n ≤ mostCards }
-    ensures { Promises start cards n log.old list.old (sweptRow result.swept result.cards) log.new list.new }
+    requires { n ≤ most_cards }
+    ensures { Promises start cards n log.old list.old (swept_row result.swept result.cards) log.new list.new }
 {
     let s = crate::sweep_row(start, &mut cards[..n], log, list);
     ArraySwept {
@@ -38,7 +38,7 @@ pub fn sweep_by_row(
     log: &mut [u8],
     list: &mut [u8],
 ) -> Swept
-    ensures list_after { call result log.new list.new ≡ recallOf start cards n log.old list.old }
+    ensures list_after { call result log.new list.new ≡ recall_of start cards n log.old list.old }
     ensures recalls { Recalls start cards n log.old list.old result log.new list.new }
 {
     if n > MOST_CARDS {

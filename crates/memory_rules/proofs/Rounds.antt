@@ -12,20 +12,20 @@ use Rattle.uid.specs.UidLaws.{name}
 use Rattle.reader.specs.ReaderLaws.{asking}
 use Rattle.memory.specs.Memory.{bits, branch}
 use Rattle.sweep_rules.proofs.Abstract.{strips, Top, levels, Apart}
-use Rattle.sweep_rules.proofs.First.{strips-nil, strips-append}
+use Rattle.sweep_rules.proofs.First.{strips_nil, strips_append}
 use Rattle.sweep_rules.proofs.Idle.{idles, Fits}
-use Rattle.sweep_rules.proofs.IdleRows.{whole-idles}
-use Rattle.sweep_rules.proofs.Level.{all-strips, top-append}
+use Rattle.sweep_rules.proofs.IdleRows.{whole_idles}
+use Rattle.sweep_rules.proofs.Level.{all_strips, top_append}
 use Rattle.sweep_rules.proofs.Model.{Vw}
-use Rattle.sweep_rules.proofs.Select.{apart-strips, levels-append}
+use Rattle.sweep_rules.proofs.Select.{apart_strips, levels_append}
 use Rattle.sweep_rules.proofs.Sitting.{at}
-use Rattle.memory_rules.proofs.Frames.{goes, more, req, hlt-law}
-use Rattle.memory_rules.proofs.From.{from, From, from-holds, full, left}
-use Rattle.memory_rules.proofs.Marks.{marks, marks-append}
+use Rattle.memory_rules.proofs.Frames.{goes, more, req, hlt_law}
+use Rattle.memory_rules.proofs.From.{from, From, from_holds, full, left}
+use Rattle.memory_rules.proofs.Marks.{marks, marks_append}
 use Rattle.card.specs.declared.Card.{Card}
 use Rattle.card.specs.declared.CardState.TheVariants.{Halt}
 use Rattle.memory_rules.proofs.Stages.{ending}
-use Rattle.memory_rules.proofs.Straight.{firsts, others, firsts-others, length-firsts, full-firsts, length-others, some-before, Ahead, next-ahead, straight-run}
+use Rattle.memory_rules.proofs.Straight.{firsts, others, firsts_others, length_firsts, full_firsts, length_others, some_before, Ahead, next_ahead, straight_run}
 
 -- the path b that a round starts with, over the rows S
 pub record Start (b : List ℕ) (S : List (List ℕ)) : Type 0 where
@@ -45,15 +45,15 @@ pub record Beyond (B : List ℕ) (S : List (List ℕ)) (s : List ℕ × ℕ) : T
   pub top : Top (B ++ s.0) S
   pub only : strips (B ++ s.0) S ≡ [] ∷ []
 
-levels-all : (Ms : List (List ℕ)) (Z : List ℕ) → All (λ X. length X ≡ wide) Ms → levels (air Ms ++ Z) ≡ length Ms + levels Z
+levels_all : (Ms : List (List ℕ)) (Z : List ℕ) → All (λ X. length X ≡ wide) Ms → levels (air Ms ++ Z) ≡ length Ms + levels Z
 unfolding air
-levels-all [] Z h = omega arith
-levels-all (X ∷ Ms) Z h = rw (append_assoc, levels-append X (air Ms ++ Z) h.0, levels-all Ms Z h.1) (omega arith)
+levels_all [] Z h = omega arith
+levels_all (X ∷ Ms) Z h = rw (append_assoc, levels_append X (air Ms ++ Z) h.0, levels_all Ms Z h.1) (omega arith)
 
 rows_behind : (Ms : List (List ℕ)) (K : List ℕ) (L : ℕ) (T : List (List ℕ)) → Ahead Ms K L T → All (InLevels (suc L)) (strips (air Ms) T)
 unfolding air
-rows_behind [] K L T g = let e : 0 + suc L ≡ suc L = omega arith in rw strips-nil (rw e at g.whole)
-rows_behind (X ∷ Ms) K L T g = rw strips-append (rows_behind Ms K L (strips X T) (next-ahead X Ms K L T g))
+rows_behind [] K L T g = let e : 0 + suc L ≡ suc L = omega arith in rw strips_nil (rw e at g.whole)
+rows_behind (X ∷ Ms) K L T g = rw strips_append (rows_behind Ms K L (strips X T) (next_ahead X Ms K L T g))
 
 module _ (b : List ℕ) (S : List (List ℕ)) (st : Start b S) (wh : All (InLevels 3) S) (a : Apart S) where
   B : List ℕ
@@ -75,26 +75,26 @@ module _ (b : List ℕ) (S : List (List ℕ)) (st : Start b S) (wh : All (InLeve
   unfolding j wide
   long = omega arith
 
-  length-Ms : length Ms ≡ j
+  length_ms : length Ms ≡ j
   unfolding Ms
-  length-Ms = length-firsts j B
+  length_ms = length_firsts j B
 
-  eB : air Ms ++ K ≡ B
+  e_b : air Ms ++ K ≡ B
   unfolding Ms K
-  eB = firsts-others j B
+  e_b = firsts_others j B
 
   short : length (others (length (bits b) / wide) (bits b)) ≡ length (bits b) % wide
   unfolding B j wide
-  short = omega (arith, length-others j B (unfold wide in long))
+  short = omega (arith, length_others j B (unfold wide in long))
 
   ahead : Ahead (firsts (length (bits b) / wide) (bits b)) (others (length (bits b) / wide) (bits b)) (2 - length (bits b) / wide) S
   unfolding Ms K L B j
   ahead =
-      let e : length Ms + suc L ≡ 3 = omega (arith, length-Ms, st.fits) in
+      let e : length Ms + suc L ≡ 3 = omega (arith, length_ms, st.fits) in
       record {
-        full = full-firsts j B long;
-        inside = λ h. omega (arith, short, st.inside (omega (arith, length-Ms)));
-        left = rw eB st.left;
+        full = full_firsts j B long;
+        inside = λ h. omega (arith, short, st.inside (omega (arith, length_ms)));
+        left = rw e_b st.left;
         whole = rw e wh;
         apart = a;
       }
@@ -102,49 +102,49 @@ module _ (b : List ℕ) (S : List (List ℕ)) (st : Start b S) (wh : All (InLeve
   T : List (List ℕ)
   T = strips (air Ms) S
 
-  eT : strips (others (length (bits b) / wide) (bits b)) (strips (air (firsts (length (bits b) / wide) (bits b))) S) ≡ strips (bits b) S
+  e_t : strips (others (length (bits b) / wide) (bits b)) (strips (air (firsts (length (bits b) / wide) (bits b))) S) ≡ strips (bits b) S
   unfolding T K Ms B j
-  eT = sym (strips-append (air Ms) K S) ∙ ap (λ l. strips l S) eB
+  e_t = sym (strips_append (air Ms) K S) ∙ ap (λ l. strips l S) e_b
 
   some_in : 1 ≤ length (strips K T)
   unfolding B K T Ms j
-  some_in = rw eT st.left
+  some_in = rw e_t st.left
 
-  pub beyond-holds : Beyond (bits b) S (beyond (bits b) S)
+  pub beyond_holds : Beyond (bits b) S (beyond (bits b) S)
   unfolding beyond B j Ms K L T
-  beyond-holds =
-      let h : From K T (from L K T) = from-holds L K T some_in (unfold wide in omega (arith, short, st.early)) (rows_behind Ms K L S ahead) (apart-strips (air Ms) S a) in
+  beyond_holds =
+      let h : From K T (from L K T) = from_holds L K T some_in (unfold wide in omega (arith, short, st.early)) (rows_behind Ms K L S ahead) (apart_strips (air Ms) S a) in
       let Y : List ℕ = (from L K T).0 in
-      let row : B ++ Y ≡ air Ms ++ (K ++ Y) = ap (λ l. l ++ Y) (sym eB) ∙ append_assoc (air Ms) K Y in
-      let n : levels (B ++ Y) ≡ j + levels (K ++ Y) = ap levels row ∙ levels-all Ms (K ++ Y) ahead.full ∙ ap (λ k. k + levels (K ++ Y)) length-Ms in
+      let row : B ++ Y ≡ air Ms ++ (K ++ Y) = ap (λ l. l ++ Y) (sym e_b) ∙ append_assoc (air Ms) K Y in
+      let n : levels (B ++ Y) ≡ j + levels (K ++ Y) = ap levels row ∙ levels_all Ms (K ++ Y) ahead.full ∙ ap (λ k. k + levels (K ++ Y)) length_ms in
       record {
-        cost = omega (arith, h.cost, n, ap (parts Y) eT);
-        top = top-append B Y S st.top (rw (← eT) h.top);
-        only = rw (row, strips-append) h.only;
+        cost = omega (arith, h.cost, n, ap (parts Y) e_t);
+        top = top_append B Y S st.top (rw (← e_t) h.top);
+        only = rw (row, strips_append) h.only;
       }
 
 -- what holds of all rows holds of the one that is found
-pub of-found : (G : List ℕ → Type 0) (P : List ℕ) (S : List (List ℕ)) → strips P S ≡ [] ∷ [] → All G S → G P
-of-found G P S e h = rw append-nil at (rw e at (all-strips G (λ t. G (P ++ t)) P S (λ t g. g) h)).0
+pub of_found : (G : List ℕ → Type 0) (P : List ℕ) (S : List (List ℕ)) → strips P S ≡ [] ∷ [] → All G S → G P
+of_found G P S e h = rw append-nil at (rw e at (all_strips G (λ t. G (P ++ t)) P S (λ t g. g) h)).0
 
-pub round-run : (F : List Card) (hF : All Fits F) (w b : List ℕ) → branch w ≡ b → Start b (idles F) → Apart (idles F) → (f : ℕ) (v : Vw)
+pub round_run : (F : List Card) (hF : All Fits F) (w b : List ℕ) → branch w ≡ b → Start b (idles F) → Apart (idles F) → (f : ℕ) (v : Vw)
     → goes f asking (marks (bits b ++ (beyond (bits b) (idles F)).0) (idles F)) (at (bits b ++ (beyond (bits b) (idles F)).0) Halt F) ≡ v
     → goes (2 + (length (bits b) / wide + (beyond (bits b) (idles F)).1) + f) asking w F
     ≡ (name (bits b ++ (beyond (bits b) (idles F)).0) ∷ v.0, 2 + (length (bits b) / wide + (beyond (bits b) (idles F)).1) + v.1, v.2)
 unfolding beyond ending
-round-run F hF w b eb st a f v k =
+round_run F hF w b eb st a f v k =
     let n₁ : 2 + (d + c) + f ≡ suc (d + (c + suc f)) = omega arith in
     let n₂ : 2 + (d + c) + v.1 ≡ suc (d + c + suc v.1) = omega arith in
     rw (n₁, n₂)
-    (req (d + (c + suc f)) F hF (more (d + c) u) w (some-before B S st.left) (rw eb
-    (rw (length-firsts d B) at (straight-run F hF (firsts d B) (2 - d) [] (others d B) b 0 (suc f) S
-    (omega arith) (omega (arith, length-firsts d B, st.fits)) (sym (strips-nil S)) (unfold wide in omega (arith, short b S st wh a, st.early)) (ahead b S st wh a) (sym (firsts-others d B)) u found))))
+    (req (d + (c + suc f)) F hF (more (d + c) u) w (some_before B S st.left) (rw eb
+    (rw (length_firsts d B) at (straight_run F hF (firsts d B) (2 - d) [] (others d B) b 0 (suc f) S
+    (omega arith) (omega (arith, length_firsts d B, st.fits)) (sym (strips_nil S)) (unfold wide in omega (arith, short b S st wh a, st.early)) (ahead b S st wh a) (sym (firsts_others d B)) u found))))
   where
     S : List (List ℕ)
     S = idles F
 
     wh : All (InLevels 3) S
-    wh = whole-idles F hF
+    wh = whole_idles F hF
 
     B : List ℕ
     B = bits b
@@ -162,10 +162,10 @@ round-run F hF w b eb st a f v k =
     u = (name (B ++ Y) ∷ v.0, suc v.1, v.2)
 
     row : air (firsts d B) ++ (others d B ++ Y) ≡ B ++ Y
-    row = sym (append_assoc (air (firsts d B)) (others d B) Y) ∙ ap (λ l. l ++ Y) (firsts-others d B)
+    row = sym (append_assoc (air (firsts d B)) (others d B) Y) ∙ ap (λ l. l ++ Y) (firsts_others d B)
 
     path : b ++ marks Y (strips (others d B) (strips (air (firsts d B)) S)) ≡ marks (B ++ Y) S
-    path = ap (λ T. b ++ marks Y T) (eT b S st wh a) ∙ ap (λ l. l ++ marks Y (strips B S)) st.marked ∙ sym (marks-append B Y S)
+    path = ap (λ T. b ++ marks Y T) (e_t b S st wh a) ∙ ap (λ l. l ++ marks Y (strips B S)) st.marked ∙ sym (marks_append B Y S)
 
     found : ending F hF (suc f) ([] ++ (air (firsts d B) ++ (others d B ++ Y))) (b ++ marks Y (strips (others d B) (strips (air (firsts d B)) S))) ≡ u
-    found = rw (row, path) (hlt-law f F hF v (B ++ Y) (marks (B ++ Y) S) (of-found (InLevels 3) (B ++ Y) S (beyond-holds b S st wh a).only wh) k)
+    found = rw (row, path) (hlt_law f F hF v (B ++ Y) (marks (B ++ Y) S) (of_found (InLevels 3) (B ++ Y) S (beyond_holds b S st wh a).only wh) k)

@@ -1,11 +1,11 @@
 -- The sum of T-14 at a few fields, one table of theorems on the definition.
 use Rattle.std.specs.Prelude.{◌≡◌, refl, ℕ, List, [], ◌∷◌}
 use Rattle.rows.specs.Rows.{any, same}
-use Rattle.parity.specs.Bits.{bitsOf}
-use Rattle.frame.specs.Frame.{airBits}
-use Rattle.uid.specs.Order.{diff, later, above, isUp, insertOn, sortOn, one, count, parts_at, parts}
-use Rattle.uid.specs.Uid.{check, level, levels, air, row_of, falling, frameSum}
-use Rattle.memory_rules.specs.Count.{shared, isPast, partsPast, sharedLevels, newCollisions, term, addUp, recallSum, levelFrames, allShared, collisions}
+use Rattle.parity.specs.Bits.{bits_of}
+use Rattle.frame.specs.Frame.{air_bits}
+use Rattle.uid.specs.Order.{diff, later, above, is_up, insert_on, sort_on, one, count, parts_at, parts}
+use Rattle.uid.specs.Uid.{check, level, levels, air, row_of, falling, frame_sum}
+use Rattle.memory_rules.specs.Count.{shared, is_past, parts_past, shared_levels, new_collisions, term, add_up, recall_sum, level_frames, all_shared, collisions}
 use Rattle.uid.specs.declared.Uid.{Uid}
 use Rattle.uid.specs.declared.UidSize.{UidSize}
 use Rattle.uid.specs.declared.UidSize.TheVariants.{Single, Double, Triple}
@@ -35,24 +35,24 @@ abbrev four : Uid
 four = uid Triple (0x04 ∷ 0x11 ∷ 0x22 ∷ 0x88 ∷ 0x44 ∷ 0x55 ∷ 0x01 ∷ 0x02 ∷ 0x03 ∷ 0x04 ∷ [])
 
 pub record CountTable : Type 0 where
-  pub none : recallSum [] ≡ 1
-  pub two : recallSum (low ∷ high ∷ []) ≡ 10
+  pub none : recall_sum [] ≡ 1
+  pub two : recall_sum (low ∷ high ∷ []) ≡ 10
   -- four cards: the third shares a level with the second, and is met where these two part; the plain sweep meets a collision twice
   pub order : falling (low ∷ high ∷ six ∷ seven ∷ []) ≡ low ∷ seven ∷ six ∷ high ∷ []
-  pub sum : recallSum (low ∷ seven ∷ six ∷ high ∷ []) ≡ 23
-  pub plain : frameSum (low ∷ seven ∷ six ∷ high ∷ []) ≡ 25
+  pub sum : recall_sum (low ∷ seven ∷ six ∷ high ∷ []) ≡ 23
+  pub plain : frame_sum (low ∷ seven ∷ six ∷ high ∷ []) ≡ 25
   -- its three parts
-  pub frames : levelFrames (low ∷ seven ∷ six ∷ high ∷ []) ≡ 20
-  pub levels : allShared (low ∷ seven ∷ six ∷ high ∷ []) ≡ 1
+  pub frames : level_frames (low ∷ seven ∷ six ∷ high ∷ []) ≡ 20
+  pub levels : all_shared (low ∷ seven ∷ six ∷ high ∷ []) ≡ 1
   pub met : collisions (low ∷ seven ∷ six ∷ high ∷ []) ≡ 3
   -- one level shared, and then two
-  pub more-order : falling (four ∷ five ∷ six ∷ []) ≡ six ∷ five ∷ four ∷ []
-  pub more-levels : allShared (six ∷ five ∷ four ∷ []) ≡ 3
-  pub more-sum : recallSum (six ∷ five ∷ four ∷ []) ≡ 22
-  pub more-plain : frameSum (six ∷ five ∷ four ∷ []) ≡ 25
+  pub more_order : falling (four ∷ five ∷ six ∷ []) ≡ six ∷ five ∷ four ∷ []
+  pub more_levels : all_shared (six ∷ five ∷ four ∷ []) ≡ 3
+  pub more_sum : recall_sum (six ∷ five ∷ four ∷ []) ≡ 22
+  pub more_plain : frame_sum (six ∷ five ∷ four ∷ []) ≡ 25
 
 pub table : CountTable
-unfolding any same bitsOf airBits diff later above isUp insertOn sortOn one count parts_at parts check level levels air row_of falling frameSum shared isPast partsPast sharedLevels newCollisions term addUp recallSum levelFrames allShared collisions
+unfolding any same bits_of air_bits diff later above is_up insert_on sort_on one count parts_at parts check level levels air row_of falling frame_sum shared is_past parts_past shared_levels new_collisions term add_up recall_sum level_frames all_shared collisions
 table = record {
   none = refl;
   two = refl;
@@ -62,8 +62,8 @@ table = record {
   frames = refl;
   levels = refl;
   met = refl;
-  more-order = refl;
-  more-levels = refl;
-  more-sum = refl;
-  more-plain = refl;
+  more_order = refl;
+  more_levels = refl;
+  more_sum = refl;
+  more_plain = refl;
 }

@@ -2,7 +2,7 @@
 -- reader that has a path.
 use Rattle.std.specs.Prelude.{ℕ, true, List, []}
 use Rattle.reader.specs.Reader.{blank, sends}
-use Rattle.limits.specs.Limits.{mostFrames}
+use Rattle.limits.specs.Limits.{most_frames}
 use Rattle.sweep_rules.specs.Run.{Out, Runner, run_of}
 use Rattle.memory.specs.Memory.{Recall, recall, hear}
 use Rattle.card.specs.declared.Card.{Card}
@@ -17,4 +17,4 @@ run fuel m cs = run_of remembering fuel m cs
 
 -- a sweep that remembers: nothing is known at first
 unfoldable pub recalled : List Card → Out
-recalled cs = run mostFrames (recall (sends (blank ReqaSent true)) []) cs
+recalled cs = run most_frames (recall (sends (blank ReqaSent true)) []) cs

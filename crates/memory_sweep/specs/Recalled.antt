@@ -6,5 +6,5 @@ use Rattle.sweep.specs.Sweep.{Call, call_of}
 use Rattle.card.specs.declared.Card.{Card}
 use Rattle.sweep.specs.declared.Start.{Start}
 
-abbrev pub recallOf : Start → List Card → ℕ → List ℕ → List ℕ → Call
-recallOf s cards n log list = call_of recalled s cards n log list
+abbrev pub recall_of : Start → List Card → ℕ → List ℕ → List ℕ → Call
+recall_of s cards n log list = call_of recalled s cards n log list

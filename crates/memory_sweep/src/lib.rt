@@ -2,7 +2,7 @@
 // loop are the plain one's, with a reader that has a path.
 ghost use Rattle.std.specs.Prelude.{◌≡◌};
 ghost use Rattle.sweep.specs.Sweep.{call};
-ghost use Rattle.memory_sweep.specs.Recalled.{recallOf};
+ghost use Rattle.memory_sweep.specs.Recalled.{recall_of};
 ghost use Rattle.memory_sweep.specs.Promise.{Recalls};
 
 use card::Card;
@@ -19,7 +19,7 @@ pub fn sweep(
     log: &mut [u8],
     list: &mut [u8],
 ) -> Swept
-    ensures list_after { call result log.new list.new ≡ recallOf start cards n log.old list.old }
+    ensures list_after { call result log.new list.new ≡ recall_of start cards n log.old list.old }
     ensures recalls { Recalls start cards n log.old list.old result log.new list.new }
 {
     sweep::within::call(true, start, cards, n, log, list)

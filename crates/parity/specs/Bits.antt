@@ -2,9 +2,9 @@
 use Rattle.std.specs.Prelude.{ℕ, zero, suc, ◌+◌, ◌*◌, ◌/◌, ◌%◌, List, [], ◌∷◌}
 
 -- the n low bits of a number, the lowest first
-unfoldable pub bitsOf : ℕ → ℕ → List ℕ
-bitsOf zero b = []
-bitsOf (suc n) b = b % 2 ∷ bitsOf n (b / 2)
+unfoldable pub bits_of : ℕ → ℕ → List ℕ
+bits_of zero b = []
+bits_of (suc n) b = b % 2 ∷ bits_of n (b / 2)
 
 -- the number of such a row
 unfoldable pub unbits : List ℕ → ℕ

@@ -2,22 +2,22 @@
 use Rattle.std.specs.Prelude.{◌≡◌, refl, ℕ, suc, ◌+◌, ◌≤◌, ◌<◌, Bool, true, false, cond, not, ◌&&◌, ◌||◌, List, [], ◌∷◌, length, get_or, eqb, ltb}
 use Rattle.std.proofs.Common.{sym, ap, ◌∙◌, add-one, arith}
 use borrow.Author.Tests.{lt-ltb, le-ltb, ne_eqb}
-use Rattle.refusal.specs.Refusal.{Said, giving, declineIf, refusalSays}
+use Rattle.refusal.specs.Refusal.{Said, giving, decline_if, refusal_says}
 use Rattle.refusal.specs.declared.Refusal.{Refusal}
 use Rattle.refusal.specs.declared.Refusal.TheVariants.{Room, Argument, Forbidden, NotDue}
-use Rattle.uid.specs.Calls.{sized, refusedUid, checked, newUid, validBytes, madeSays}
-use Rattle.uid.specs.SaysLaws.{new-says}
-use Rattle.uid.specs.Uid.{valid, levels, levelsOf, levelCount, place}
+use Rattle.uid.specs.Calls.{sized, refused_uid, checked, new_uid, valid_bytes, made_says}
+use Rattle.uid.specs.SaysLaws.{new_says_law}
+use Rattle.uid.specs.Uid.{valid, levels, levels_of, level_count, place}
 use Rattle.uid.specs.UidLaws.{Sound}
-use Rattle.parity.specs.Bits.{bitsOf}
+use Rattle.parity.specs.Bits.{bits_of}
 use Rattle.frame.specs.Frame.{short}
 use Rattle.selection.specs.Selection.{wupa}
-use Rattle.selection.specs.Heard.{readAtqa, readSak}
-use Rattle.limits.specs.Limits.{frameRoom}
-use Rattle.reader.specs.Calls.{call, wakeMade, wakeTurn, wakeCall, turnSays, wakeSays}
-use Rattle.reader.specs.Reader.{b3, contradicts, frame, turn, sends, stop, completes, wakes, pickNext, afterWupa, hearWupa, misfits, uidSakHeard, hearUidSak, isNew}
+use Rattle.selection.specs.Heard.{read_atqa, read_sak}
+use Rattle.limits.specs.Limits.{frame_room}
+use Rattle.reader.specs.Calls.{call, wake_made, wake_turn, wake_call, turn_says, wake_says}
+use Rattle.reader.specs.Reader.{b3, contradicts, frame, turn, sends, stop, completes, wakes, pick_next, after_wupa, hear_wupa, misfits, uid_sak_heard, hear_uid_sak, is_new}
 use Rattle.reader.specs.ReaderLaws.{lvl}
-use Rattle.reader.specs.SakLevelLaws.{valid-fits}
+use Rattle.reader.specs.SakLevelLaws.{valid_fits}
 use Rattle.selection.specs.declared.AtqaRead.{AtqaRead}
 use Rattle.selection.specs.declared.SakRead.{SakRead}
 use Rattle.selection.specs.declared.SakRead.TheVariants.{Sak}
@@ -34,44 +34,44 @@ use Rattle.reader.specs.declared.Turn.{Turn}
 
 -- ---- at what was read
 
-pub wupa-at : (r : Reader) (h : List ℕ) (a : AtqaRead) → readAtqa h ≡ a → hearWupa r h ≡ afterWupa r.uid a
-unfolding hearWupa
-wupa-at r h a e = ap (afterWupa r.uid) e
+pub wupa_at : (r : Reader) (h : List ℕ) (a : AtqaRead) → read_atqa h ≡ a → hear_wupa r h ≡ after_wupa r.uid a
+unfolding hear_wupa
+wupa_at r h a e = ap (after_wupa r.uid) e
 
-pub uid-sak-at : (l : Level) (r : Reader) (h : List ℕ) (a : SakRead) → readSak h ≡ a → hearUidSak l r h ≡ uidSakHeard l r.uid a
-unfolding hearUidSak
-uid-sak-at l r h a e = ap (uidSakHeard l r.uid) e
+pub uid_sak_at : (l : Level) (r : Reader) (h : List ℕ) (a : SakRead) → read_sak h ≡ a → hear_uid_sak l r h ≡ uid_sak_heard l r.uid a
+unfolding hear_uid_sak
+uid_sak_at l r h a e = ap (uid_sak_heard l r.uid) e
 
 module _ (l : Level) (u : Uid) (b : ℕ) where
-  pub sak-misfits : misfits l u (b3 b) ≡ true → uidSakHeard l u (Sak b) ≡ stop Forbidden
-  sak-misfits e = rw e
+  pub sak_misfits : misfits l u (b3 b) ≡ true → uid_sak_heard l u (Sak b) ≡ stop Forbidden
+  sak_misfits e = rw e
 
-  pub sak-onward : misfits l u (b3 b) ≡ false → b3 b ≡ true → uidSakHeard l u (Sak b) ≡ pickNext l u
-  sak-onward e f = rw (e, f)
+  pub sak_onward : misfits l u (b3 b) ≡ false → b3 b ≡ true → uid_sak_heard l u (Sak b) ≡ pick_next l u
+  sak_onward e f = rw (e, f)
 
-  pub sak-ends : misfits l u (b3 b) ≡ false → b3 b ≡ false → uidSakHeard l u (Sak b) ≡ completes false u b
-  sak-ends e f = rw (e, f)
+  pub sak_ends : misfits l u (b3 b) ≡ false → b3 b ≡ false → uid_sak_heard l u (Sak b) ≡ completes false u b
+  sak_ends e f = rw (e, f)
 
 -- ---- "b3 fits the UID"
 
-count_of : (z : UidSize) (b : List ℕ) → length (levelsOf z b) ≡ levelCount z
+count_of : (z : UidSize) (b : List ℕ) → length (levels_of z b) ≡ level_count z
 count_of Single b = refl
 count_of Double b = refl
 count_of Triple b = refl
 
-pub count-levels : (u : Uid) → length (levels u) ≡ levelCount u.size
+pub count_levels : (u : Uid) → length (levels u) ≡ level_count u.size
 unfolding levels
-count-levels u = count_of u.size u.bytes
+count_levels u = count_of u.size u.bytes
 
-pub misfits-told : (l : Level) (u : Uid) (more v s : Bool) (p n : ℕ) → valid u ≡ v → p ≡ place l → n ≡ levelCount u.size → ltb (p + 1) n ≡ s
+pub misfits_told : (l : Level) (u : Uid) (more v s : Bool) (p n : ℕ) → valid u ≡ v → p ≡ place l → n ≡ level_count u.size → ltb (p + 1) n ≡ s
     → (not v || cond s (not more) more) ≡ misfits l u more
 unfolding misfits
-misfits-told l u more v s p n e q k t = rw (e, count-levels u, ← k, ← q, ← add-one p, t)
+misfits_told l u more v s p n e q k t = rw (e, count_levels u, ← k, ← q, ← add-one p, t)
 
 -- at a level of a valid UID
-pub fits-is : (l : Level) (u : Uid) (more : Bool) → valid u ≡ true → ltb (suc (place l)) (length (levels u)) ≡ more → misfits l u more ≡ false
+pub fits_is : (l : Level) (u : Uid) (more : Bool) → valid u ≡ true → ltb (suc (place l)) (length (levels u)) ≡ more → misfits l u more ≡ false
 unfolding misfits
-fits-is l u more v e = rw (v, e) (go more)
+fits_is l u more v e = rw (v, e) (go more)
   where
     go : (b : Bool) → cond b (not b) b ≡ false
     go true = refl
@@ -88,9 +88,9 @@ one_of_two l b first h e = rw (lt-ltb (place l) 2 h) (go b (eqb first 0x88) (rw 
     go true false e = sym e
     go false true e = sym e
 
-low-level : (l : Level) (rem more : Bool) (first : ℕ) → place l < 2 → contradicts l rem first ≡ false
+low_level : (l : Level) (rem more : Bool) (first : ℕ) → place l < 2 → contradicts l rem first ≡ false
     → cond rem (not more) more ≡ (contradicts l more first || more && eqb (place l) 2)
-low-level l rem more first h e = rw (ne_eqb (place l) 2 (omega arith)) (go rem more e (one_of_two l rem first h e))
+low_level l rem more first h e = rw (ne_eqb (place l) 2 (omega arith)) (go rem more e (one_of_two l rem first h e))
   where
     go : (rem more : Bool) → contradicts l rem first ≡ false → contradicts l (not rem) first ≡ true → cond rem (not more) more ≡ (contradicts l more first || more && false)
     go true true e f = rw e
@@ -98,37 +98,37 @@ low-level l rem more first h e = rw (ne_eqb (place l) 2 (omega arith)) (go rem m
     go false true e f = rw f
     go false false e f = rw e
 
-third-level : (more x : Bool) → more ≡ (cond more x false || more && true)
-third-level true true = refl
-third-level true false = refl
-third-level false x = refl
+third_level : (more x : Bool) → more ≡ (cond more x false || more && true)
+third_level true true = refl
+third_level true false = refl
+third_level false x = refl
 
-pub count_most : (z : UidSize) → levelCount z ≤ 3
+pub count_most : (z : UidSize) → level_count z ≤ 3
 count_most Single = omega arith
 count_most Double = omega arith
 count_most Triple = omega arith
 
-pub misfits-contradicts : (u : Uid) → Sound u → (l : Level) (more : Bool) → place l < length (levels u)
+pub misfits_contradicts : (u : Uid) → Sound u → (l : Level) (more : Bool) → place l < length (levels u)
     → misfits l u more ≡ (contradicts l more (get_or (get_or (levels u) (place l) []) 0 0) || more && eqb (place l) 2)
 unfolding misfits lvl
-misfits-contradicts u s One more h = rw s.is-valid (low-level One _ more _ (omega arith) (valid-fits u s 0 h))
-misfits-contradicts u s Two more h = rw s.is-valid (low-level Two _ more _ (omega arith) (valid-fits u s 1 h))
-misfits-contradicts u s Three more h = unfold contradicts in
-    rw (s.is-valid, le-ltb 3 (length (levels u)) (rw count-levels (count_most u.size))) (third-level more _)
+misfits_contradicts u s One more h = rw s.is_valid (low_level One _ more _ (omega arith) (valid_fits u s 0 h))
+misfits_contradicts u s Two more h = rw s.is_valid (low_level Two _ more _ (omega arith) (valid_fits u s 1 h))
+misfits_contradicts u s Three more h = unfold contradicts in
+    rw (s.is_valid, le-ltb 3 (length (levels u)) (rw count_levels (count_most u.size))) (third_level more _)
 
 -- ---- the call
 
 -- a UID is made, or 6
-made-argument : (l : List ℕ) (e : Refusal) → (newUid l).made ≡ NotMade e → e ≡ Argument
-unfolding newUid checked
-made-argument l e = go (eqb (length l) 4) (eqb (length l) 7) (eqb (length l) 10) (valid (sized Single l)) (valid (sized Double l)) (valid (sized Triple l))
+made_argument : (l : List ℕ) (e : Refusal) → (new_uid l).made ≡ NotMade e → e ≡ Argument
+unfolding new_uid checked
+made_argument l e = go (eqb (length l) 4) (eqb (length l) 7) (eqb (length l) 10) (valid (sized Single l)) (valid (sized Double l)) (valid (sized Triple l))
   where
-    go₁ : (u : Uid) (v : Bool) → (cond v (record { uid = u; made = Good }) refusedUid).made ≡ NotMade e → e ≡ Argument
+    go₁ : (u : Uid) (v : Bool) → (cond v (record { uid = u; made = Good }) refused_uid).made ≡ NotMade e → e ≡ Argument
     go₁ u true h = cc
     go₁ u false h = cc
 
     go : (a b c x y z : Bool)
-        → (cond a (cond x (record { uid = sized Single l; made = Good }) refusedUid) (cond b (cond y (record { uid = sized Double l; made = Good }) refusedUid) (cond c (cond z (record { uid = sized Triple l; made = Good }) refusedUid) refusedUid))).made ≡ NotMade e
+        → (cond a (cond x (record { uid = sized Single l; made = Good }) refused_uid) (cond b (cond y (record { uid = sized Double l; made = Good }) refused_uid) (cond c (cond z (record { uid = sized Triple l; made = Good }) refused_uid) refused_uid))).made ≡ NotMade e
         → e ≡ Argument
     go true b c x y z h = go₁ (sized Single l) x h
     go false true c x y z h = go₁ (sized Double l) y h
@@ -136,35 +136,35 @@ made-argument l e = go (eqb (length l) 4) (eqb (length l) 7) (eqb (length l) 10)
     go false false false x y z h = cc
 
 -- .. exactly where its bytes are those of a valid one
-made-is : (m : Made) (v : Bool) → ((e : Refusal) → m ≡ NotMade e → e ≡ Argument) → madeSays m ≡ declineIf (not v) 6 (giving []) → cond v Good (NotMade Argument) ≡ m
-made-is Good true a h = refl
-made-is Good false a h = absurd (omega (arith, ap (λ (s : Said). s.number) h))
-made-is (NotMade e) true a h = absurd (omega (arith, ap (λ (s : Said). s.number) (ap refusalSays (sym (a e refl)) ∙ h)))
-made-is (NotMade e) false a h = ap NotMade (sym (a e refl))
+made_is : (m : Made) (v : Bool) → ((e : Refusal) → m ≡ NotMade e → e ≡ Argument) → made_says m ≡ decline_if (not v) 6 (giving []) → cond v Good (NotMade Argument) ≡ m
+made_is Good true a h = refl
+made_is Good false a h = absurd (omega (arith, ap (λ (s : Said). s.number) h))
+made_is (NotMade e) true a h = absurd (omega (arith, ap (λ (s : Said). s.number) (ap refusal_says (sym (a e refl)) ∙ h)))
+made_is (NotMade e) false a h = ap NotMade (sym (a e refl))
 
-pub made-valid : (l : List ℕ) → (newUid l).made ≡ cond (validBytes l) Good (NotMade Argument)
-made-valid l = sym (made-is (newUid l).made (validBytes l) (made-argument l) (new-says l))
+pub made_valid : (l : List ℕ) → (new_uid l).made ≡ cond (valid_bytes l) Good (NotMade Argument)
+made_valid l = sym (made_is (new_uid l).made (valid_bytes l) (made_argument l) (new_says_law l))
 
-pub wake-turn-says : (r : Reader) (l : List ℕ) → turnSays (wakeTurn r l) ≡ declineIf (not (validBytes l)) 6 (turnSays (wakes (newUid l).uid))
-unfolding wakeTurn
-wake-turn-says r l = ap (λ m. turnSays (wakeMade r (newUid l) m)) (made-valid l) ∙ go (validBytes l)
+pub wake_turn_says : (r : Reader) (l : List ℕ) → turn_says (wake_turn r l) ≡ decline_if (not (valid_bytes l)) 6 (turn_says (wakes (new_uid l).uid))
+unfolding wake_turn
+wake_turn_says r l = ap (λ m. turn_says (wake_made r (new_uid l) m)) (made_valid l) ∙ go (valid_bytes l)
   where
-    go : (v : Bool) → turnSays (wakeMade r (newUid l) (cond v Good (NotMade Argument))) ≡ declineIf (not v) 6 (turnSays (wakes (newUid l).uid))
+    go : (v : Bool) → turn_says (wake_made r (new_uid l) (cond v Good (NotMade Argument))) ≡ decline_if (not v) 6 (turn_says (wakes (new_uid l).uid))
     go true = refl
     go false = refl
 
 -- WUPA has seven bits
-pub wakes-seven : (u : Uid) → turnSays (wakes u) ≡ giving (7 ∷ [])
-unfolding sends frame wupa short bitsOf
-wakes-seven u = refl
+pub wakes_seven : (u : Uid) → turn_says (wakes u) ≡ giving (7 ∷ [])
+unfolding sends frame wupa short bits_of
+wakes_seven u = refl
 
-pub wake-says : (r : Reader) (l : List ℕ) (room : ℕ) (t : Turn) → t ≡ wakeCall r l room → turnSays t ≡ wakeSays r l room
-unfolding wakeCall call
-wake-says r l room t e =
-    ap turnSays e ∙ go (isNew r.phase) (ltb room frameRoom) _ _ (wake-turn-says r l)
+pub wake_says_law : (r : Reader) (l : List ℕ) (room : ℕ) (t : Turn) → t ≡ wake_call r l room → turn_says t ≡ wake_says r l room
+unfolding wake_call call
+wake_says_law r l room t e =
+    ap turn_says e ∙ go (is_new r.phase) (ltb room frame_room) _ _ (wake_turn_says r l)
   where
-    go : (b k : Bool) (u : Turn) (s : Said) → turnSays u ≡ s
-        → turnSays (cond (not b) (turn r (Declines NotDue)) (cond k (turn r (Declines Room)) u)) ≡ declineIf (not b) 11 (declineIf k 1 s)
+    go : (b k : Bool) (u : Turn) (s : Said) → turn_says u ≡ s
+        → turn_says (cond (not b) (turn r (Declines NotDue)) (cond k (turn r (Declines Room)) u)) ≡ decline_if (not b) 11 (decline_if k 1 s)
     go true true u s h = refl
     go true false u s h = h
     go false k u s h = refl

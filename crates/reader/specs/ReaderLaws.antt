@@ -4,17 +4,17 @@ use Rattle.std.specs.Prelude.{◌≡◌, refl, Bool, cond, List, [], ◌++◌, l
 use Prim.Native.Nat.{ℕ, zero, suc, ◌+◌, ◌-◌, ◌*◌, ◌/◌, ◌≤◌, ◌<◌}
 use Rattle.std.proofs.Math.Bool.{true, false}
 use Rattle.std.proofs.Common.{length-append, length-take, length-drop, take_at, arith}
-use Rattle.rows.specs.Rows.{isNil, fill}
+use Rattle.rows.specs.Rows.{is_nil, fill}
 use Rattle.parity.specs.Bits.{unbits}
-use Rattle.frame.specs.ByteLaws.{length-bytes}
-use Rattle.frame.specs.Frame.{bytesOf}
-use Rattle.uid.specs.LevelLaws.{InLevels, wide, lev-next, lev-head}
-use Rattle.uid.specs.Uid.{byte_count, place, uidBytes}
+use Rattle.frame.specs.ByteLaws.{length_bytes}
+use Rattle.frame.specs.Frame.{bytes_of}
+use Rattle.uid.specs.LevelLaws.{InLevels, wide, lev_next, lev_head}
+use Rattle.uid.specs.Uid.{byte_count, place, uid_bytes}
 use Rattle.uid.specs.UidLaws.{so_far, name}
-use Rattle.selection.specs.Heard.{readRest, rest_of, readAtqa}
-use Rattle.selection.specs.SakLaws.{reads_more, reads-last}
-use Rattle.selection.specs.Selection.{sakFrame}
-use Rattle.reader.specs.Reader.{reader, blank, hear, longer, afterSak, contradicts, hearSilence, hearAtqa, uid, opens, completes, sends, finds, hearRest, hearSak}
+use Rattle.selection.specs.Heard.{read_rest, rest_of, read_atqa}
+use Rattle.selection.specs.SakLaws.{reads_more, reads_last}
+use Rattle.selection.specs.Selection.{sak_frame}
+use Rattle.reader.specs.Reader.{reader, blank, hear, longer, after_sak, contradicts, hear_silence, hear_atqa, uid, opens, completes, sends, finds, hear_rest, hear_sak}
 use Rattle.uid.specs.declared.Level.{Level}
 use Rattle.uid.specs.declared.Level.TheVariants.{One, Two, Three}
 use Rattle.uid.specs.declared.UidSize.{UidSize}
@@ -33,84 +33,84 @@ lvl zero = One
 lvl (suc zero) = Two
 lvl (suc (suc j)) = Three
 
-pub place-lvl : (j : ℕ) → j < 3 → place (lvl j) ≡ j
+pub place_lvl : (j : ℕ) → j < 3 → place (lvl j) ≡ j
 unfolding lvl
-place-lvl zero h = refl
-place-lvl (suc zero) h = refl
-place-lvl (suc (suc zero)) h = refl
-place-lvl (suc (suc (suc j))) h = absurd (omega arith)
+place_lvl zero h = refl
+place_lvl (suc zero) h = refl
+place_lvl (suc (suc zero)) h = refl
+place_lvl (suc (suc (suc j))) h = absurd (omega arith)
 
 unfoldable pub size_at : ℕ → UidSize
 size_at zero = Single
 size_at (suc zero) = Double
 size_at (suc (suc j)) = Triple
 
-bytes-at : (j : ℕ) → j < 3 → byte_count (size_at j) ≡ 4 + 3 * j
+bytes_at_law : (j : ℕ) → j < 3 → byte_count (size_at j) ≡ 4 + 3 * j
 unfolding size_at
-bytes-at zero h = refl
-bytes-at (suc zero) h = refl
-bytes-at (suc (suc zero)) h = refl
-bytes-at (suc (suc (suc j))) h = absurd (omega arith)
+bytes_at_law zero h = refl
+bytes_at_law (suc zero) h = refl
+bytes_at_law (suc (suc zero)) h = refl
+bytes_at_law (suc (suc (suc j))) h = absurd (omega arith)
 
 -- ---- the UID that the reader holds
 
-length-soFar : (j : ℕ) (r : List ℕ) → length (so_far j r) ≡ 3 * j
+length_so_far : (j : ℕ) (r : List ℕ) → length (so_far j r) ≡ 3 * j
 unfolding so_far
-length-soFar zero r = refl
-length-soFar (suc j) r = rw (length-append, length-soFar j r, length-drop, length-take, length-bytes) (omega arith)
+length_so_far zero r = refl
+length_so_far (suc j) r = rw (length-append, length_so_far j r, length-drop, length-take, length_bytes) (omega arith)
 
-soFar-head : (j : ℕ) (P X : List ℕ) → 40 * j ≤ length P → so_far j (P ++ X) ≡ so_far j P
+so_far_head : (j : ℕ) (P X : List ℕ) → 40 * j ≤ length P → so_far j (P ++ X) ≡ so_far j P
 unfolding so_far
-soFar-head zero P X h = refl
-soFar-head (suc j) P X h = rw (soFar-head j P X (omega arith), lev-head j P X h)
+so_far_head zero P X h = refl
+so_far_head (suc j) P X h = rw (so_far_head j P X (omega arith), lev_head j P X h)
 
-module _ (j : ℕ) (P X : List ℕ) (hP : length P ≡ 40 * j) (hX : length X ≡ 40) where
-  soFar-next : so_far (suc j) (P ++ X) ≡ so_far j P ++ drop 1 (take 4 (bytesOf 5 X))
+module _ (j : ℕ) (P X : List ℕ) (h_p : length P ≡ 40 * j) (h_x : length X ≡ 40) where
+  so_far_next : so_far (suc j) (P ++ X) ≡ so_far j P ++ drop 1 (take 4 (bytes_of 5 X))
   unfolding so_far
-  soFar-next = rw (soFar-head j P X (omega arith), lev-next j P X hP hX)
+  so_far_next = rw (so_far_head j P X (omega arith), lev_next j P X h_p h_x)
 
-  last-level : length (P ++ X) / 40 - 1 ≡ j
-  last-level = rw length-append (omega arith)
+  last_level : length (P ++ X) / 40 - 1 ≡ j
+  last_level = rw length-append (omega arith)
 
-  name-next : name (P ++ X) ≡ so_far j P ++ take 4 (bytesOf 5 X)
+  name_next : name (P ++ X) ≡ so_far j P ++ take 4 (bytes_of 5 X)
   unfolding name
-  name-next = rw (last-level, soFar-head j P X (omega arith), lev-next j P X hP hX)
+  name_next = rw (last_level, so_far_head j P X (omega arith), lev_next j P X h_p h_x)
 
 -- a reader in a sweep that knows the bits d of a level and the UID's bytes u of the levels before
 unfoldable pub knows : Phase → List ℕ → List ℕ → Reader
-knows p u d = reader p true (bytesOf 5 d) (length d) (uid Single u) 0
+knows p u d = reader p true (bytes_of 5 d) (length d) (uid Single u) 0
 
 -- the reader adds a level's bytes
-longer-is : (j : ℕ) (P X : List ℕ) (n : ℕ) → j < 3 → longer (lvl j) (knows (SelectSent (lvl j)) (so_far j P) X) n ≡ so_far j P ++ drop n (take 4 (bytesOf 5 X))
+longer_is : (j : ℕ) (P X : List ℕ) (n : ℕ) → j < 3 → longer (lvl j) (knows (SelectSent (lvl j)) (so_far j P) X) n ≡ so_far j P ++ drop n (take 4 (bytes_of 5 X))
 unfolding longer knows fill
-longer-is j P X n h = rw (place-lvl j h, take_at (so_far j P) (replicate (10 - length (so_far j P)) 0) (3 * j) (length-soFar j P))
+longer_is j P X n h = rw (place_lvl j h, take_at (so_far j P) (replicate (10 - length (so_far j P)) 0) (3 * j) (length_so_far j P))
 
 -- the reader whose HLTA goes out: P is the row that was found, b its last SAK
 unfoldable pub closing : List ℕ → ℕ → Reader
 closing P b = reader HltaSent true (replicate 5 0) 0 (uid (size_at (length P / 40 - 1)) (name P)) b
 
-module _ (P X : List ℕ) (b : ℕ) (hX : length X ≡ 40) where
+module _ (P X : List ℕ) (b : ℕ) (h_x : length X ≡ 40) where
   after_more : (j : ℕ) → suc j < 3 → length P ≡ 40 * j
-      → afterSak (lvl j) (knows (SelectSent (lvl j)) (so_far j P) X) b true ≡ sends (knows (AnticollisionSent (lvl (suc j))) (so_far (suc j) (P ++ X)) [])
-  unfolding lvl opens knows bytesOf unbits
-  after_more zero h hP = rw (longer-is 0 P X 1 (omega arith), soFar-next 0 P X hP hX)
-  after_more (suc zero) h hP = rw (longer-is 1 P X 1 (omega arith), soFar-next 1 P X hP hX)
-  after_more (suc (suc j)) h hP = absurd (omega arith)
+      → after_sak (lvl j) (knows (SelectSent (lvl j)) (so_far j P) X) b true ≡ sends (knows (AnticollisionSent (lvl (suc j))) (so_far (suc j) (P ++ X)) [])
+  unfolding lvl opens knows bytes_of unbits
+  after_more zero h h_p = rw (longer_is 0 P X 1 (omega arith), so_far_next 0 P X h_p h_x)
+  after_more (suc zero) h h_p = rw (longer_is 1 P X 1 (omega arith), so_far_next 1 P X h_p h_x)
+  after_more (suc (suc j)) h h_p = absurd (omega arith)
 
-  after_last : (j : ℕ) → j < 3 → length P ≡ 40 * j → afterSak (lvl j) (knows (SelectSent (lvl j)) (so_far j P) X) b false ≡ finds (closing (P ++ X) b)
+  after_last : (j : ℕ) → j < 3 → length P ≡ 40 * j → after_sak (lvl j) (knows (SelectSent (lvl j)) (so_far j P) X) b false ≡ finds (closing (P ++ X) b)
   unfolding lvl completes knows closing size_at
-  after_last zero h hP = rw (longer-is 0 P X 0 h, last-level 0 P X hP hX, name-next 0 P X hP hX)
-  after_last (suc zero) h hP = rw (longer-is 1 P X 0 h, last-level 1 P X hP hX, name-next 1 P X hP hX)
-  after_last (suc (suc zero)) h hP = rw (longer-is 2 P X 0 h, last-level 2 P X hP hX, name-next 2 P X hP hX)
-  after_last (suc (suc (suc j))) h hP = absurd (omega arith)
+  after_last zero h h_p = rw (longer_is 0 P X 0 h, last_level 0 P X h_p h_x, name_next 0 P X h_p h_x)
+  after_last (suc zero) h h_p = rw (longer_is 1 P X 0 h, last_level 1 P X h_p h_x, name_next 1 P X h_p h_x)
+  after_last (suc (suc zero)) h h_p = rw (longer_is 2 P X 0 h, last_level 2 P X h_p h_x, name_next 2 P X h_p h_x)
+  after_last (suc (suc (suc j))) h h_p = absurd (omega arith)
 
 -- the UID that the reader has when HLTA goes out
-pub found-closing : (P : List ℕ) (b : ℕ) → InLevels 3 P → uidBytes (closing P b).uid ≡ name P
-unfolding closing fill wide name uidBytes
-found-closing P b w =
+pub found_closing : (P : List ℕ) (b : ℕ) → InLevels 3 P → uid_bytes (closing P b).uid ≡ name P
+unfolding closing fill wide name uid_bytes
+found_closing P b w =
     let j : ℕ = length P / 40 - 1 in
-    let h : j < 3 = omega (arith, w.one-level, w.levels-only, w.at_most) in
-    let n : length (name P) ≡ byte_count (size_at j) = rw (bytes-at j h, length-append, length-soFar, length-take, length-bytes) (omega arith) in
+    let h : j < 3 = omega (arith, w.one_level, w.levels_only, w.at_most) in
+    let n : length (name P) ≡ byte_count (size_at j) = rw (bytes_at_law j h, length-append, length_so_far, length-take, length_bytes) (omega arith) in
     take_at (name P) (replicate (10 - length (name P)) 0) (byte_count (size_at j)) n
 
 -- ---- the turns of a reader in a sweep
@@ -133,30 +133,30 @@ closed P b = finds (closing P b)
 
 -- ---- what it hears
 
-pub hears-atqa : (h : List ℕ) → isNil h ≡ false → readAtqa h ≡ Atqa → hear (blank ReqaSent true) h ≡ opened 0 [] []
-unfolding hear hearAtqa opens opened knows lvl so_far bytesOf unbits
-hears-atqa h n e = rw (n, e)
+pub hears_atqa : (h : List ℕ) → is_nil h ≡ false → read_atqa h ≡ Atqa → hear (blank ReqaSent true) h ≡ opened 0 [] []
+unfolding hear hear_atqa opens opened knows lvl so_far bytes_of unbits
+hears_atqa h n e = rw (n, e)
 
-pub hears-whole : (j : ℕ) (P K d h : List ℕ) → readRest (length K) (bytesOf 5 K) h ≡ rest_of Whole d → hear (knows (AnticollisionSent (lvl j)) (so_far j P) K) h ≡ selecting j P d
-unfolding hear hearRest knows selecting rest_of
-hears-whole j P K d h e = rw e
+pub hears_whole : (j : ℕ) (P K d h : List ℕ) → read_rest (length K) (bytes_of 5 K) h ≡ rest_of Whole d → hear (knows (AnticollisionSent (lvl j)) (so_far j P) K) h ≡ selecting j P d
+unfolding hear hear_rest knows selecting rest_of
+hears_whole j P K d h e = rw e
 
-pub hears-collided : (j : ℕ) (P K d h : List ℕ) → readRest (length K) (bytesOf 5 K) h ≡ rest_of Collided d → hear (knows (AnticollisionSent (lvl j)) (so_far j P) K) h ≡ opened j P d
-unfolding hear hearRest knows opened rest_of
-hears-collided j P K d h e = rw e
+pub hears_collided : (j : ℕ) (P K d h : List ℕ) → read_rest (length K) (bytes_of 5 K) h ≡ rest_of Collided d → hear (knows (AnticollisionSent (lvl j)) (so_far j P) K) h ≡ opened j P d
+unfolding hear hear_rest knows opened rest_of
+hears_collided j P K d h e = rw e
 
-module _ (j : ℕ) (P X : List ℕ) (hP : length P ≡ 40 * j) (hX : length X ≡ 40) where
-  pub hears-more : suc j < 3 → contradicts (lvl j) true (get_or (bytesOf 5 X) 0 0) ≡ false
-      → hear (knows (SelectSent (lvl j)) (so_far j P) X) (sakFrame 0x04) ≡ opened (suc j) (P ++ X) []
-  unfolding hear hearSak knows opened
-  hears-more h fits = rw (reads_more, fits) (unfold knows in after_more P X 0x04 hX j h hP)
+module _ (j : ℕ) (P X : List ℕ) (h_p : length P ≡ 40 * j) (h_x : length X ≡ 40) where
+  pub hears_more : suc j < 3 → contradicts (lvl j) true (get_or (bytes_of 5 X) 0 0) ≡ false
+      → hear (knows (SelectSent (lvl j)) (so_far j P) X) (sak_frame 0x04) ≡ opened (suc j) (P ++ X) []
+  unfolding hear hear_sak knows opened
+  hears_more h fits = rw (reads_more, fits) (unfold knows in after_more P X 0x04 h_x j h h_p)
 
-  pub hears-last : (b : Bool) → j < 3 → contradicts (lvl j) false (get_or (bytesOf 5 X) 0 0) ≡ false
-      → hear (knows (SelectSent (lvl j)) (so_far j P) X) (sakFrame (cond b 0x20 0x00)) ≡ closed (P ++ X) (cond b 0x20 0x00)
-  unfolding hear hearSak knows closed
-  hears-last true h fits = rw (reads-last true, fits) (after_last P X 0x20 hX j h hP)
-  hears-last false h fits = rw (reads-last false, fits) (after_last P X 0x00 hX j h hP)
+  pub hears_last : (b : Bool) → j < 3 → contradicts (lvl j) false (get_or (bytes_of 5 X) 0 0) ≡ false
+      → hear (knows (SelectSent (lvl j)) (so_far j P) X) (sak_frame (cond b 0x20 0x00)) ≡ closed (P ++ X) (cond b 0x20 0x00)
+  unfolding hear hear_sak knows closed
+  hears_last true h fits = rw (reads_last true, fits) (after_last P X 0x20 h_x j h h_p)
+  hears_last false h fits = rw (reads_last false, fits) (after_last P X 0x00 h_x j h h_p)
 
-pub hears-silence : (P : List ℕ) (b : ℕ) → hear (closing P b) [] ≡ asking
-unfolding hear hearSilence isNil closing asking
-hears-silence P b = refl
+pub hears_silence : (P : List ℕ) (b : ℕ) → hear (closing P b) [] ≡ asking
+unfolding hear hear_silence is_nil closing asking
+hears_silence P b = refl

@@ -1,14 +1,14 @@
 -- The reader's rules, step by step: what each definition gives at a phase, at what was read, and in a call. Assumes nothing.
 use Rattle.std.specs.Prelude.{◌≡◌, refl, Bool, true, false, cond, not, ◌&&◌, List, [], ◌∷◌, ◌++◌, ℕ, zero, suc, ◌+◌, ◌-◌, ◌*◌, ◌/◌, ◌%◌, ◌≤◌, ◌<◌, length, take, drop, replicate, get_or, eqb, ltb}
 use Rattle.std.proofs.Common.{sym, ap, ◌∙◌, not-suc-le-zero, arith, length-append, length-take, length-drop, lt-ltb, le-ltb}
-use Rattle.rows.specs.Rows.{overlay, isNil, fill}
-use Rattle.rows.specs.RowLaws.{overlay-nil, overlay-next}
-use Rattle.uid.specs.FillLaws.{fill-zeros}
+use Rattle.rows.specs.Rows.{overlay, is_nil, fill}
+use Rattle.rows.specs.RowLaws.{overlay_nil, overlay_next}
+use Rattle.uid.specs.FillLaws.{fill_zeros}
 use Rattle.uid.specs.Uid.{place}
-use Rattle.selection.specs.Heard.{readAtqa, readRest, readSak}
-use Rattle.reader.specs.Reader.{frame, frameIn, turn, hear, hearIn, hearAtqa, afterAtqa, hearRest, afterRest, hearSak, sakHeard, contradicts, afterSak, b3, hearSilence, sends, blank, stop, longer, uid}
-use Rattle.limits.specs.Limits.{frameRoom}
-use Rattle.reader.specs.Calls.{call, rowAfter, sentBy, turnSays, callSays}
+use Rattle.selection.specs.Heard.{read_atqa, read_rest, read_sak}
+use Rattle.reader.specs.Reader.{frame, frame_in, turn, hear, hear_in, hear_atqa, after_atqa, hear_rest, after_rest, hear_sak, sak_heard, contradicts, after_sak, b3, hear_silence, sends, blank, stop, longer, uid}
+use Rattle.limits.specs.Limits.{frame_room}
+use Rattle.reader.specs.Calls.{call, row_after, sent_by, turn_says, call_says}
 use Rattle.uid.specs.declared.Level.{Level}
 use Rattle.uid.specs.declared.Level.TheVariants.{One, Two, Three}
 use Rattle.uid.specs.declared.Uid.{Uid}
@@ -30,108 +30,108 @@ use Rattle.reader.specs.declared.Turn.{Turn}
 
 -- ---- at a phase
 
-pub frame_at : (r : Reader) (p : Phase) → r.phase ≡ p → frame r ≡ frameIn p r
+pub frame_at : (r : Reader) (p : Phase) → r.phase ≡ p → frame r ≡ frame_in p r
 unfolding frame
-frame_at r p e = ap (λ q. frameIn q r) e
+frame_at r p e = ap (λ q. frame_in q r) e
 
-pub hear-at : (r : Reader) (h : List ℕ) (p : Phase) → r.phase ≡ p → hear r h ≡ hearIn p r h
+pub hear_at : (r : Reader) (h : List ℕ) (p : Phase) → r.phase ≡ p → hear r h ≡ hear_in p r h
 unfolding hear
-hear-at r h p e = ap (λ q. hearIn q r h) e
+hear_at r h p e = ap (λ q. hear_in q r h) e
 
 -- ---- at what was read
 
-pub atqa-at : (r : Reader) (h : List ℕ) (a : AtqaRead) → (isNil h && r.sweeps) ≡ false → readAtqa h ≡ a → hearAtqa r h ≡ afterAtqa r.sweeps a
-unfolding hearAtqa
-atqa-at r h a n e = rw (n, e)
+pub atqa_at : (r : Reader) (h : List ℕ) (a : AtqaRead) → (is_nil h && r.sweeps) ≡ false → read_atqa h ≡ a → hear_atqa r h ≡ after_atqa r.sweeps a
+unfolding hear_atqa
+atqa_at r h a n e = rw (n, e)
 
-pub rest_at : (l : Level) (r : Reader) (h : List ℕ) (x : Rest) (s : RestSays) → x ≡ readRest r.known r.five h → x.says ≡ s
-    → hearRest l r h ≡ afterRest l r x s
-unfolding hearRest
-rest_at l r h x s e f = rw (← e) (ap (afterRest l r x) f)
+pub rest_at : (l : Level) (r : Reader) (h : List ℕ) (x : Rest) (s : RestSays) → x ≡ read_rest r.known r.five h → x.says ≡ s
+    → hear_rest l r h ≡ after_rest l r x s
+unfolding hear_rest
+rest_at l r h x s e f = rw (← e) (ap (after_rest l r x) f)
 
-pub sak-at : (l : Level) (r : Reader) (h : List ℕ) (a : SakRead) → readSak h ≡ a → hearSak l r h ≡ sakHeard l r a
-unfolding hearSak
-sak-at l r h a e = ap (sakHeard l r) e
+pub sak_at : (l : Level) (r : Reader) (h : List ℕ) (a : SakRead) → read_sak h ≡ a → hear_sak l r h ≡ sak_heard l r a
+unfolding hear_sak
+sak_at l r h a e = ap (sak_heard l r) e
 
 -- a good SAK that contradicts its level, and one that fits it
-pub sak-contradicts : (l : Level) (r : Reader) (b : ℕ) → contradicts l (b3 b) (get_or r.five 0 0) ≡ true → sakHeard l r (Sak b) ≡ stop Forbidden
-sak-contradicts l r b e = rw e
+pub sak_contradicts : (l : Level) (r : Reader) (b : ℕ) → contradicts l (b3 b) (get_or r.five 0 0) ≡ true → sak_heard l r (Sak b) ≡ stop Forbidden
+sak_contradicts l r b e = rw e
 
-pub sak-fits : (l : Level) (r : Reader) (b : ℕ) → contradicts l (b3 b) (get_or r.five 0 0) ≡ false → sakHeard l r (Sak b) ≡ afterSak l r b (b3 b)
-sak-fits l r b e = rw e
+pub sak_fits : (l : Level) (r : Reader) (b : ℕ) → contradicts l (b3 b) (get_or r.five 0 0) ≡ false → sak_heard l r (Sak b) ≡ after_sak l r b (b3 b)
+sak_fits l r b e = rw e
 
 -- where levels remain, the SAK's other bits do not count
-pub more-any : (l : Level) (r : Reader) (a b : ℕ) → afterSak l r a true ≡ afterSak l r b true
-more-any One r a b = refl
-more-any Two r a b = refl
-more-any Three r a b = refl
+pub more_any : (l : Level) (r : Reader) (a b : ℕ) → after_sak l r a true ≡ after_sak l r b true
+more_any One r a b = refl
+more_any Two r a b = refl
+more_any Three r a b = refl
 
-pub silence-yes : (h : List ℕ) → isNil h ≡ true → hearSilence h ≡ sends (blank ReqaSent true)
-unfolding hearSilence
-silence-yes h e = rw e
+pub silence_yes : (h : List ℕ) → is_nil h ≡ true → hear_silence h ≡ sends (blank ReqaSent true)
+unfolding hear_silence
+silence_yes h e = rw e
 
-pub silence-no : (h : List ℕ) → isNil h ≡ false → hearSilence h ≡ stop Forbidden
-unfolding hearSilence
-silence-no h e = rw e
+pub silence_no : (h : List ℕ) → is_nil h ≡ false → hear_silence h ≡ stop Forbidden
+unfolding hear_silence
+silence_no h e = rw e
 
 -- ---- a call
 
-pub call-not-due : (b : Bool) (r : Reader) (t : Turn) (n : ℕ) → b ≡ false → call b r t n ≡ turn r (Declines NotDue)
+pub call_not_due : (b : Bool) (r : Reader) (t : Turn) (n : ℕ) → b ≡ false → call b r t n ≡ turn r (Declines NotDue)
 unfolding call
-call-not-due b r t n e = rw e
+call_not_due b r t n e = rw e
 
-pub call-room : (b : Bool) (r : Reader) (t : Turn) (n : ℕ) → b ≡ true → n < 81 → call b r t n ≡ turn r (Declines Room)
+pub call_room : (b : Bool) (r : Reader) (t : Turn) (n : ℕ) → b ≡ true → n < 81 → call b r t n ≡ turn r (Declines Room)
 unfolding call
-call-room b r t n e h = rw (e, lt-ltb n 81 h)
+call_room b r t n e h = rw (e, lt-ltb n 81 h)
 
-pub call-due : (b : Bool) (r : Reader) (t : Turn) (n : ℕ) → b ≡ true → 81 ≤ n → call b r t n ≡ t
+pub call_due : (b : Bool) (r : Reader) (t : Turn) (n : ℕ) → b ≡ true → 81 ≤ n → call b r t n ≡ t
 unfolding call
-call-due b r t n e h = rw (e, le-ltb n 81 h)
+call_due b r t n e h = rw (e, le-ltb n 81 h)
 
 -- what it says
-pub call-says : (b : Bool) (r : Reader) (t : Turn) (n : ℕ) (u : Turn) → u ≡ call b r t n → turnSays u ≡ callSays b t n
+pub call_says_law : (b : Bool) (r : Reader) (t : Turn) (n : ℕ) (u : Turn) → u ≡ call b r t n → turn_says u ≡ call_says b t n
 unfolding call
-call-says b r t n u e = ap turnSays e ∙ go b (ltb n frameRoom)
+call_says_law b r t n u e = ap turn_says e ∙ go b (ltb n frame_room)
   where
-    go : (b k : Bool) → turnSays (cond (not b) (turn r (Declines NotDue)) (cond k (turn r (Declines Room)) t)) ≡ cond (not b) (declining 11) (cond k (declining 1) (turnSays t))
+    go : (b k : Bool) → turn_says (cond (not b) (turn r (Declines NotDue)) (cond k (turn r (Declines Room)) t)) ≡ cond (not b) (declining 11) (cond k (declining 1) (turn_says t))
     go true true = refl
     go true false = refl
     go false k = refl
 
 -- a refusal writes nothing
-pub row-declined : (t : Turn) (r : Reader) (e : Refusal) (out : List ℕ) → t ≡ turn r (Declines e) → out ≡ rowAfter t out
-unfolding rowAfter
-row-declined t r e out q = rw q (sym (overlay-nil out 0))
+pub row_declined : (t : Turn) (r : Reader) (e : Refusal) (out : List ℕ) → t ≡ turn r (Declines e) → out ≡ row_after t out
+unfolding row_after
+row_declined t r e out q = rw q (sym (overlay_nil out 0))
 
 -- ---- the UID so far
 
-pub place-most : (l : Level) → place l ≤ 2
-place-most One = omega arith
-place-most Two = omega arith
-place-most Three = omega arith
+pub place_most : (l : Level) → place l ≤ 2
+place_most One = omega arith
+place_most Two = omega arith
+place_most Three = omega arith
 
-pub drop-take : (n m : ℕ) (l : List ℕ) → drop n (take m l) ≡ take (m - n) (drop n l)
-drop-take zero m l = let e : m - 0 ≡ m = omega arith in rw e
-drop-take (suc n) zero l = let e : 0 - suc n ≡ 0 = omega arith in rw e
-drop-take (suc n) (suc m) [] = let e : suc m - suc n ≡ m - n = omega arith in rw e (nils (m - n))
+pub drop_take : (n m : ℕ) (l : List ℕ) → drop n (take m l) ≡ take (m - n) (drop n l)
+drop_take zero m l = let e : m - 0 ≡ m = omega arith in rw e
+drop_take (suc n) zero l = let e : 0 - suc n ≡ 0 = omega arith in rw e
+drop_take (suc n) (suc m) [] = let e : suc m - suc n ≡ m - n = omega arith in rw e (nils (m - n))
   where
     nils : (k : ℕ) → ◌≡◌ {A = List ℕ} [] (take k [])
     nils zero = refl
     nils (suc k) = refl
-drop-take (suc n) (suc m) (x ∷ l) = let e : suc m - suc n ≡ m - n = omega arith in rw e (drop-take n m l)
+drop_take (suc n) (suc m) (x ∷ l) = let e : suc m - suc n ≡ m - n = omega arith in rw e (drop_take n m l)
 
 -- the old bytes at the front, and the level's bytes behind them
-pub longer-made : (z : UidSize) (l : Level) (r : Reader) (n at : ℕ) (b₁ b₂ : List ℕ) → n ≤ 1 → length r.uid.bytes ≡ 10 → length r.five ≡ 5 → at ≡ 3 * place l
+pub longer_made : (z : UidSize) (l : Level) (r : Reader) (n at : ℕ) (b₁ b₂ : List ℕ) → n ≤ 1 → length r.uid.bytes ≡ 10 → length r.five ≡ 5 → at ≡ 3 * place l
     → b₁ ≡ overlay (replicate 10 0) 0 (take at r.uid.bytes) → b₂ ≡ overlay b₁ at (take (4 - n) (drop n r.five))
     → ◌≡◌ {A = Uid} (record { size = z; bytes = b₂ }) (uid z (longer l r n))
 unfolding longer
-longer-made z l r n at b₁ b₂ hn hu hf ha e₁ e₂ =
-    let t : length (take at r.uid.bytes) ≡ at = rw length-take (omega (arith, place-most l)) in
+longer_made z l r n at b₁ b₂ hn hu hf ha e₁ e₂ =
+    let t : length (take at r.uid.bytes) ≡ at = rw length-take (omega (arith, place_most l)) in
     let s : length (take (4 - n) (drop n r.five)) ≤ 4 = rw length-take (omega arith) in
     let p : at ≡ 0 + length (take at r.uid.bytes) = omega (arith, t) in
     let q : b₂ ≡ overlay (replicate 10 0) 0 (take at r.uid.bytes ++ take (4 - n) (drop n r.five)) =
     e₂ ∙ ap (λ (k : ℕ). overlay b₁ k (take (4 - n) (drop n r.five))) p
-    ∙ rw e₁ (overlay-next (replicate 10 0) 0 (take at r.uid.bytes) (take (4 - n) (drop n r.five)) (omega (arith, t, s, place-most l))) in
+    ∙ rw e₁ (overlay_next (replicate 10 0) 0 (take at r.uid.bytes) (take (4 - n) (drop n r.five)) (omega (arith, t, s, place_most l))) in
     ap (λ b. record { size = z; bytes = b })
-    (q ∙ fill-zeros 10 (take at r.uid.bytes ++ take (4 - n) (drop n r.five))
-    ∙ rw (ha, drop-take n 4 r.five))
+    (q ∙ fill_zeros 10 (take at r.uid.bytes ++ take (4 - n) (drop n r.five))
+    ∙ rw (ha, drop_take n 4 r.five))

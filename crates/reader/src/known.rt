@@ -1,8 +1,8 @@
 // T-03: one known card, by its UID: WUPA, then SELECT level by level, without ANTICOLLISION. Called by our own crates only.
 ghost use Rattle.std.specs.Prelude.{◌≡◌};
 ghost use Rattle.selection.specs.declared.SakRead.TheVariants.{Sak};
-ghost use Rattle.reader.specs.Reader.{wakes, picks, pickNext, afterWupa, hearWupa, misfits, uidSakHeard, hearUidSak};
-ghost use Rattle.reader.specs.Calls.{wakeTurn};
+ghost use Rattle.reader.specs.Reader.{wakes, picks, pick_next, after_wupa, hear_wupa, misfits, uid_sak_heard, hear_uid_sak};
+ghost use Rattle.reader.specs.Calls.{wake_turn};
 
 use crate::{Answer, Phase, Reader, Turn, within};
 use refusal::Refusal;
@@ -26,7 +26,7 @@ pub fn wakes(u: Uid) -> Turn
 
 // The call on a reader that is new: 6 where the bytes are no valid UID, and nothing changes.
 pub fn wake_turn(r: Reader, bytes: &[u8]) -> Turn
-    ensures { result ≡ wakeTurn r bytes.now }
+    ensures { result ≡ wake_turn r bytes.now }
 {
     let n = uid::new_uid(bytes);
     let made = n.made;
@@ -59,7 +59,7 @@ fn picks(l: Level, u: Uid) -> Turn
 }
 
 pub fn hear_wupa(r: Reader, row: &[u8]) -> Turn
-    ensures { result ≡ hearWupa r row.now }
+    ensures { result ≡ hear_wupa r row.now }
 {
     let u = r.uid;
     let a = selection::heard::read_atqa(row);
@@ -85,7 +85,7 @@ fn misfits(l: Level, u: Uid, more: bool) -> bool
 
 // SELECT of the level after l.
 fn pick_next(l: Level, u: Uid) -> Turn
-    ensures { result ≡ pickNext l u }
+    ensures { result ≡ pick_next l u }
 {
     match l {
         Level::One => picks(Level::Two, u),
@@ -96,7 +96,7 @@ fn pick_next(l: Level, u: Uid) -> Turn
 
 // A good SAK b.
 fn uid_sak_heard(l: Level, u: Uid, b: u8) -> Turn
-    ensures { result ≡ uidSakHeard l u (Sak b) }
+    ensures { result ≡ uid_sak_heard l u (Sak b) }
 {
     let more = b / 4 % 2 == 1;
     if misfits(l, u, more) {
@@ -109,7 +109,7 @@ fn uid_sak_heard(l: Level, u: Uid, b: u8) -> Turn
 }
 
 pub fn hear_uid_sak(l: Level, r: Reader, row: &[u8]) -> Turn
-    ensures { result ≡ hearUidSak l r row.now }
+    ensures { result ≡ hear_uid_sak l r row.now }
 {
     let u = r.uid;
     let a = selection::heard::read_sak(row);

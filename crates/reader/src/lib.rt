@@ -6,7 +6,7 @@ ghost use Rattle.std.specs.Prelude.{◌≡◌, true, false, length};
 ghost use Rattle.reader.specs.declared.Phase.TheVariants.{New};
 ghost use Rattle.reader.specs.declared.Answer.TheVariants.{Declines};
 ghost use Rattle.reader.specs.Reader.{blank, turn};
-ghost use Rattle.reader.specs.Calls.{Completed, awaits, hearCall, beginCall, wakeCall, rowAfter, turnSays, hearSays, beginSays, wakeSays};
+ghost use Rattle.reader.specs.Calls.{Completed, awaits, hear_call, begin_call, wake_call, row_after, turn_says, hear_says, begin_says, wake_says};
 
 use refusal::Refusal;
 use uid::{Level, Uid};
@@ -91,9 +91,9 @@ fn declines(r: Reader, e: Refusal) -> Turn
 
 // The host calls for a selection, or for the reader's part of a sweep: REQA goes out.
 fn begin(sweeps: bool, r: Reader, out: &mut [u8]) -> Turn
-    ensures value { result ≡ beginCall sweeps r (length out.old) }
-    ensures out_after { out.new ≡ rowAfter result out.old }
-    ensures result_value { turnSays result ≡ beginSays sweeps r (length out.old) }
+    ensures value { result ≡ begin_call sweeps r (length out.old) }
+    ensures out_after { out.new ≡ row_after result out.old }
+    ensures result_value { turn_says result ≡ begin_says sweeps r (length out.old) }
 {
     let p = r.phase;
     if !within::is_new(p) {
@@ -109,27 +109,27 @@ fn begin(sweeps: bool, r: Reader, out: &mut [u8]) -> Turn
 
 // The host wants one card: its UID and last SAK. The lent row has room for 81 bits.
 pub fn select(r: Reader, out: &mut [u8]) -> Turn
-    ensures value { result ≡ beginCall false r (length out.old) }
-    ensures out_after { out.new ≡ rowAfter result out.old }
-    ensures result_value { turnSays result ≡ beginSays false r (length out.old) }
+    ensures value { result ≡ begin_call false r (length out.old) }
+    ensures out_after { out.new ≡ row_after result out.old }
+    ensures result_value { turn_says result ≡ begin_says false r (length out.old) }
 {
     begin(false, r, out)
 }
 
 // The host wants every idle card, one after the other.
 pub fn start_sweep(r: Reader, out: &mut [u8]) -> Turn
-    ensures value { result ≡ beginCall true r (length out.old) }
-    ensures out_after { out.new ≡ rowAfter result out.old }
-    ensures result_value { turnSays result ≡ beginSays true r (length out.old) }
+    ensures value { result ≡ begin_call true r (length out.old) }
+    ensures out_after { out.new ≡ row_after result out.old }
+    ensures result_value { turn_says result ≡ begin_says true r (length out.old) }
 {
     begin(true, r, out)
 }
 
 // T-03: the host wants the one card with this UID, and disturbs no other: WUPA goes out. 6, after 11 and 1: the bytes are no valid UID.
 pub fn wake(r: Reader, bytes: &[u8], out: &mut [u8]) -> Turn
-    ensures value { result ≡ wakeCall r bytes.now (length out.old) }
-    ensures out_after { out.new ≡ rowAfter result out.old }
-    ensures result_value { turnSays result ≡ wakeSays r bytes.now (length out.old) }
+    ensures value { result ≡ wake_call r bytes.now (length out.old) }
+    ensures out_after { out.new ≡ row_after result out.old }
+    ensures result_value { turn_says result ≡ wake_says r bytes.now (length out.old) }
 {
     let p = r.phase;
     if !within::is_new(p) {
@@ -146,9 +146,9 @@ pub fn wake(r: Reader, bytes: &[u8], out: &mut [u8]) -> Turn
 // The reader hears a row, an empty one for silence. Its next frame, if there is one, stands at the front of the lent row. A UID that it
 // completes is valid, whatever was heard.
 pub fn hear(r: Reader, row: &[u8], out: &mut [u8]) -> Turn
-    ensures value { result ≡ hearCall r row.now (length out.old) }
-    ensures out_after { out.new ≡ rowAfter result out.old }
-    ensures result_value { turnSays result ≡ hearSays r row.now (length out.old) }
+    ensures value { result ≡ hear_call r row.now (length out.old) }
+    ensures out_after { out.new ≡ row_after result out.old }
+    ensures result_value { turn_says result ≡ hear_says r row.now (length out.old) }
     ensures completed { Completed result.answer result.reader }
 {
     let p = r.phase;

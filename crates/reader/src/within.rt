@@ -1,11 +1,11 @@
 // The reader's rules on values, and its frames. Called by our own crates only: firmware calls `select`, `start_sweep`, `wake` and `hear`.
 ghost use Rattle.std.specs.Prelude.{◌≡◌, true, false, ◌&&◌, [], ◌≤◌, length};
-ghost use Rattle.rows.specs.Rows.{overlay, isNil};
+ghost use Rattle.rows.specs.Rows.{overlay, is_nil};
 ghost use Rattle.uid.specs.Uid.{place};
 ghost use Rattle.uid.specs.declared.UidSize.TheVariants.{Single};
-ghost use Rattle.reader.specs.Reader.{uid, reader, blank, isNew, frame, turn, sends, finds, stop, opens, longer, completes, afterAtqa, hearAtqa, afterRest, hearRest, afterSak, contradicts, sakHeard, hearSak, hearSilence, hear};
+ghost use Rattle.reader.specs.Reader.{uid, reader, blank, is_new, frame, turn, sends, finds, stop, opens, longer, completes, after_atqa, hear_atqa, after_rest, hear_rest, after_sak, contradicts, sak_heard, hear_sak, hear_silence, hear};
 ghost use Rattle.selection.specs.declared.SakRead.TheVariants.{Sak};
-ghost use Rattle.reader.specs.Calls.{sentBy};
+ghost use Rattle.reader.specs.Calls.{sent_by};
 ghost use Rattle.reader.specs.declared.Answer.TheVariants.{Declines};
 ghost use Rattle.refusal.specs.declared.Refusal.TheVariants.{NotDue};
 
@@ -38,7 +38,7 @@ pub fn blank(p: Phase, s: bool) -> Reader
 }
 
 pub fn is_new(p: Phase) -> bool
-    ensures { result ≡ isNew p }
+    ensures { result ≡ is_new p }
 {
     match p {
         Phase::New => true,
@@ -116,7 +116,7 @@ pub fn put_frame(r: Reader, out: &mut [u8])
 // Writes what a turn sends.
 pub fn put_sent(t: Turn, out: &mut [u8])
     requires { 81 ≤ length out.old }
-    ensures { out.new ≡ overlay out.old 0 (sentBy t.answer t.reader) }
+    ensures { out.new ≡ overlay out.old 0 (sent_by t.answer t.reader) }
 {
     let a = t.answer;
     let r = t.reader;
@@ -176,7 +176,7 @@ fn opens(l: Level, s: bool, u: Uid) -> Turn
 
 // Silence after REQA ends a sweep.
 fn is_over(sweeps: bool, row: &[u8]) -> bool
-    ensures { result ≡ (isNil row.now && sweeps) }
+    ensures { result ≡ (is_nil row.now && sweeps) }
 {
     if row.len() == 0 {
         return sweeps;
@@ -185,7 +185,7 @@ fn is_over(sweeps: bool, row: &[u8]) -> bool
 }
 
 fn hear_atqa(r: Reader, row: &[u8]) -> Turn
-    ensures { result ≡ hearAtqa r row.now }
+    ensures { result ≡ hear_atqa r row.now }
 {
     let s = r.sweeps;
     if is_over(s, row) {
@@ -219,7 +219,7 @@ fn knows(p: Phase, r: Reader, x: Rest) -> Reader
 }
 
 fn hear_rest(l: Level, r: Reader, row: &[u8]) -> Turn
-    ensures { result ≡ hearRest l r row.now }
+    ensures { result ≡ hear_rest l r row.now }
 {
     let k = r.known;
     let five = r.five;
@@ -281,7 +281,7 @@ pub fn completes(s: bool, u: Uid, b: u8) -> Turn
 
 // b3 of the SAK is set: the next level.
 fn more_levels(l: Level, r: Reader) -> Turn
-    ensures { result ≡ afterSak l r 0 true }
+    ensures { result ≡ after_sak l r 0 true }
 {
     let s = r.sweeps;
     match l {
@@ -293,7 +293,7 @@ fn more_levels(l: Level, r: Reader) -> Turn
 
 // b3 of the SAK b is clear: the UID is complete.
 fn last_level(l: Level, r: Reader, b: u8) -> Turn
-    ensures { result ≡ afterSak l r b false }
+    ensures { result ≡ after_sak l r b false }
 {
     let s = r.sweeps;
     match l {
@@ -318,7 +318,7 @@ fn contradicts(l: Level, more: bool, first: u8) -> bool
 
 // A good SAK b, against the level that was sent in SELECT.
 fn sak_heard(l: Level, r: Reader, b: u8) -> Turn
-    ensures { result ≡ sakHeard l r (Sak b) }
+    ensures { result ≡ sak_heard l r (Sak b) }
 {
     let five = r.five;
     let more = b / 4 % 2 == 1;
@@ -332,7 +332,7 @@ fn sak_heard(l: Level, r: Reader, b: u8) -> Turn
 }
 
 fn hear_sak(l: Level, r: Reader, row: &[u8]) -> Turn
-    ensures { result ≡ hearSak l r row.now }
+    ensures { result ≡ hear_sak l r row.now }
 {
     let a = selection::heard::read_sak(row);
     match a {
@@ -342,7 +342,7 @@ fn hear_sak(l: Level, r: Reader, row: &[u8]) -> Turn
 }
 
 fn hear_silence(row: &[u8]) -> Turn
-    ensures { result ≡ hearSilence row.now }
+    ensures { result ≡ hear_silence row.now }
 {
     if row.len() == 0 {
         return sends(blank(Phase::ReqaSent, true));

@@ -1,10 +1,10 @@
 -- Document 02, T-05: what a Type B reader does with its host's calls and with a row. What the row says is the matter of crate selection_b.
 use Rattle.std.specs.Prelude.{ℕ, ◌+◌, Bool, true, false, cond, not, List, [], ◌∷◌, replicate, ltb}
 use Rattle.rows.specs.Rows.{overlay}
-use Rattle.frame_b.specs.LimitsB.{frameRoomB}
-use Rattle.selection_b.specs.TypeB.{isSlots, marker}
-use Rattle.selection_b.specs.HeardB.{entry, read_slot, readAttrib, readHltb}
-use Rattle.refusal.specs.Refusal.{Said, giving, refusalSays, declineIf}
+use Rattle.frame_b.specs.LimitsB.{frame_room_b}
+use Rattle.selection_b.specs.TypeB.{is_slots, marker}
+use Rattle.selection_b.specs.HeardB.{entry, read_slot, read_attrib, read_hltb}
+use Rattle.refusal.specs.Refusal.{Said, giving, refusal_says, decline_if}
 use Rattle.refusal.specs.declared.Refusal.{Refusal}
 use Rattle.refusal.specs.declared.Refusal.TheVariants.{Room, Argument, NotDue}
 use Rattle.selection_b.specs.declared.Held.{Held}
@@ -29,12 +29,12 @@ reader p n s = record { phase = p; slots = n; slot = s }
 abbrev pub blank : PhaseB → ReaderB
 blank p = reader p 0 0
 
-abbrev pub isReady : PhaseB → Bool
-isReady Ready = true
-isReady Slot = false
-isReady AttribSent = false
-isReady HltbSent = false
-isReady Stopped = false
+abbrev pub is_ready : PhaseB → Bool
+is_ready Ready = true
+is_ready Slot = false
+is_ready AttribSent = false
+is_ready HltbSent = false
+is_ready Stopped = false
 
 abbrev pub turn : ReaderB → AnswerB → TurnB
 turn r a = record { reader = r; answer = a; atqb = replicate 12 0 }
@@ -47,7 +47,7 @@ stop e = turn (blank Stopped) (Declines e)
 
 -- a call of a reader that is ready, else 11
 abbrev pub due : ReaderB → TurnB → TurnB
-due r t = cond (isReady r.phase) t (turn r (Declines NotDue))
+due r t = cond (is_ready r.phase) t (turn r (Declines NotDue))
 
 -- a request with n slots goes out, of 40 bits: what comes back is slot 1
 abbrev pub opens : ℕ → TurnB
@@ -55,7 +55,7 @@ opens n = turn (reader Slot n 1) (Sends 40)
 
 -- REQB, or WUPB where wake: "N in 1, 2, 4, 8, 16; others are 6"
 unfoldable pub requests : ReaderB → Bool → ℕ → ℕ → TurnB
-requests r wake n afi = due r (cond (isSlots n) (opens n) (turn r (Declines Argument)))
+requests r wake n afi = due r (cond (is_slots n) (opens n) (turn r (Declines Argument)))
 
 -- ATTRIB, of 88 bits, to the card of an ATQB, with the reader's own size index: document 01: "index over 8" is 6
 unfoldable pub attaches : ReaderB → ℕ → TurnB
@@ -77,33 +77,33 @@ held r k atqb =
     cond (ltb r.slot r.slots) (record { reader = reader Slot r.slots (r.slot + 1); answer = Marks k; atqb = atqb })
     (record { reader = blank Ready; answer = Ends k; atqb = atqb })
 
-abbrev pub slotTurn : ReaderB → SlotSays → List ℕ → TurnB
-slotTurn r (Holds k) atqb = held r k atqb
-slotTurn r (NotSlot e) atqb = stop e
+abbrev pub slot_turn : ReaderB → SlotSays → List ℕ → TurnB
+slot_turn r (Holds k) atqb = held r k atqb
+slot_turn r (NotSlot e) atqb = stop e
 
-abbrev pub attribTurn : AttribRead → TurnB
-attribTurn (Mbli m) = turn (blank Ready) (Attached m)
-attribTurn (NotAttached e) = stop e
+abbrev pub attrib_turn : AttribRead → TurnB
+attrib_turn (Mbli m) = turn (blank Ready) (Attached m)
+attrib_turn (NotAttached e) = stop e
 
-abbrev pub hltbTurn : HltbRead → TurnB
-hltbTurn Obeys = turn (blank Ready) Halted
-hltbTurn (NotHalted e) = stop e
+abbrev pub hltb_turn : HltbRead → TurnB
+hltb_turn Obeys = turn (blank Ready) Halted
+hltb_turn (NotHalted e) = stop e
 
-abbrev pub hearIn : PhaseB → ReaderB → List ℕ → TurnB
-hearIn Ready r h = turn r (Declines NotDue)
-hearIn Slot r h = slotTurn r (read_slot h).says (read_slot h).atqb
-hearIn AttribSent r h = attribTurn (readAttrib h)
-hearIn HltbSent r h = hltbTurn (readHltb h)
-hearIn Stopped r h = turn r (Declines NotDue)
+abbrev pub hear_in : PhaseB → ReaderB → List ℕ → TurnB
+hear_in Ready r h = turn r (Declines NotDue)
+hear_in Slot r h = slot_turn r (read_slot h).says (read_slot h).atqb
+hear_in AttribSent r h = attrib_turn (read_attrib h)
+hear_in HltbSent r h = hltb_turn (read_hltb h)
+hear_in Stopped r h = turn r (Declines NotDue)
 
 unfoldable pub hear : ReaderB → List ℕ → TurnB
-hear r h = hearIn r.phase r h
+hear r h = hear_in r.phase r h
 
 -- ---- calls, with lent room for the frame that goes out
 
 -- 11, then 1; both change nothing
-unfoldable pub callWith : Bool → ReaderB → ℕ → TurnB → TurnB
-callWith isDue r room t = cond isDue (cond (ltb room frameRoomB) (turn r (Declines Room)) t) (turn r (Declines NotDue))
+unfoldable pub call_with : Bool → ReaderB → ℕ → TurnB → TurnB
+call_with isDue r room t = cond isDue (cond (ltb room frame_room_b) (turn r (Declines Room)) t) (turn r (Declines NotDue))
 
 -- a row is due
 abbrev pub awaits : PhaseB → Bool
@@ -123,28 +123,28 @@ goes Halted = false
 goes (Declines e) = false
 
 -- the lent row afterwards: the frame that goes out at its front, or unchanged
-abbrev pub rowAfter : AnswerB → List ℕ → List ℕ → List ℕ
-rowAfter (Sends n) frame out = overlay out 0 frame
-rowAfter (Marks k) frame out = overlay out 0 frame
-rowAfter (Ends k) frame out = out
-rowAfter (Attached m) frame out = out
-rowAfter Halted frame out = out
-rowAfter (Declines e) frame out = out
+abbrev pub row_after : AnswerB → List ℕ → List ℕ → List ℕ
+row_after (Sends n) frame out = overlay out 0 frame
+row_after (Marks k) frame out = overlay out 0 frame
+row_after (Ends k) frame out = out
+row_after (Attached m) frame out = out
+row_after Halted frame out = out
+row_after (Declines e) frame out = out
 
 -- ---- what an answer says, in the table's numbers
 
 -- the bits of the frame that goes out; of a slot its 13 bytes of the list; of a card that is attached its MBLI
-abbrev pub answerSays : AnswerB → List ℕ → Said
-answerSays (Sends n) atqb = giving (n ∷ [])
-answerSays (Marks k) atqb = giving (entry k atqb)
-answerSays (Ends k) atqb = giving (entry k atqb)
-answerSays (Attached m) atqb = giving (m ∷ [])
-answerSays Halted atqb = giving []
-answerSays (Declines e) atqb = refusalSays e
+abbrev pub answer_says : AnswerB → List ℕ → Said
+answer_says (Sends n) atqb = giving (n ∷ [])
+answer_says (Marks k) atqb = giving (entry k atqb)
+answer_says (Ends k) atqb = giving (entry k atqb)
+answer_says (Attached m) atqb = giving (m ∷ [])
+answer_says Halted atqb = giving []
+answer_says (Declines e) atqb = refusal_says e
 
-abbrev pub turnSays : TurnB → Said
-turnSays t = answerSays t.answer t.atqb
+abbrev pub turn_says : TurnB → Said
+turn_says t = answer_says t.answer t.atqb
 
 -- "A call tests 11, 1": a call that is due or not, with a lent row of so many bits, by the rules' turn t
-abbrev pub callSays : Bool → ℕ → TurnB → Said
-callSays isDue room t = declineIf (not isDue) 11 (declineIf (ltb room frameRoomB) 1 (turnSays t))
+abbrev pub call_says : Bool → ℕ → TurnB → Said
+call_says isDue room t = decline_if (not isDue) 11 (decline_if (ltb room frame_room_b) 1 (turn_says t))

@@ -3,8 +3,8 @@
 pub mod within;
 
 ghost use Rattle.std.specs.Prelude.{◌≡◌, length};
-ghost use Rattle.selection_b.specs.TypeB.{request, attribFor, hltb};
-ghost use Rattle.reader_b.specs.ReaderB.{blank, isReady, awaits, requests, attaches, halts, next, hear, callWith, rowAfter, turnSays, callSays};
+ghost use Rattle.selection_b.specs.TypeB.{request, attrib_for, hltb};
+ghost use Rattle.reader_b.specs.ReaderB.{blank, is_ready, awaits, requests, attaches, halts, next, hear, call_with, row_after, turn_says, call_says};
 ghost use Rattle.reader_b.specs.declared.PhaseB.TheVariants.{Ready};
 
 use refusal::Refusal;
@@ -74,9 +74,9 @@ pub fn is_awaiting(p: PhaseB) -> bool
 
 // REQB, or WUPB where wake, with N slots.
 pub fn request(r: ReaderB, wake: bool, n: u8, afi: u8, out: &mut [u8]) -> TurnB
-    ensures value { result ≡ callWith (isReady r.phase) r (length out.old) (requests r wake n afi) }
-    ensures out_after { out.new ≡ rowAfter result.answer (request wake n afi) out.old }
-    ensures result_value { turnSays result ≡ callSays (isReady r.phase) (length out.old) (requests r wake n afi) }
+    ensures value { result ≡ call_with (is_ready r.phase) r (length out.old) (requests r wake n afi) }
+    ensures out_after { out.new ≡ row_after result.answer (request wake n afi) out.old }
+    ensures result_value { turn_says result ≡ call_says (is_ready r.phase) (length out.old) (requests r wake n afi) }
 {
     let p = r.phase;
     if !within::is_ready(p) {
@@ -100,9 +100,9 @@ pub fn request(r: ReaderB, wake: bool, n: u8, afi: u8, out: &mut [u8]) -> TurnB
 
 // HLTB to the card with this PUPI.
 pub fn halt(r: ReaderB, pupi: [u8; 4], out: &mut [u8]) -> TurnB
-    ensures value { result ≡ callWith (isReady r.phase) r (length out.old) (halts r) }
-    ensures out_after { out.new ≡ rowAfter result.answer (hltb pupi) out.old }
-    ensures result_value { turnSays result ≡ callSays (isReady r.phase) (length out.old) (halts r) }
+    ensures value { result ≡ call_with (is_ready r.phase) r (length out.old) (halts r) }
+    ensures out_after { out.new ≡ row_after result.answer (hltb pupi) out.old }
+    ensures result_value { turn_says result ≡ call_says (is_ready r.phase) (length out.old) (halts r) }
 {
     let p = r.phase;
     if !within::is_ready(p) {
@@ -123,9 +123,9 @@ pub fn halt(r: ReaderB, pupi: [u8; 4], out: &mut [u8]) -> TurnB
 
 // ATTRIB to the card of an ATQB, with the reader's own size index.
 pub fn attach(r: ReaderB, atqb: [u8; 12], index: u8, out: &mut [u8]) -> TurnB
-    ensures value { result ≡ callWith (isReady r.phase) r (length out.old) (attaches r index) }
-    ensures out_after { out.new ≡ rowAfter result.answer (attribFor atqb index) out.old }
-    ensures result_value { turnSays result ≡ callSays (isReady r.phase) (length out.old) (attaches r index) }
+    ensures value { result ≡ call_with (is_ready r.phase) r (length out.old) (attaches r index) }
+    ensures out_after { out.new ≡ row_after result.answer (attrib_for atqb index) out.old }
+    ensures result_value { turn_says result ≡ call_says (is_ready r.phase) (length out.old) (attaches r index) }
 {
     let p = r.phase;
     if !within::is_ready(p) {
@@ -149,9 +149,9 @@ pub fn attach(r: ReaderB, atqb: [u8; 12], index: u8, out: &mut [u8]) -> TurnB
 
 // A row is heard; an empty one is silence. The next slot's marker, if one goes out, stands at the front of the lent row.
 pub fn hear(r: ReaderB, row: &[u8], out: &mut [u8]) -> TurnB
-    ensures value { result ≡ callWith (awaits r.phase) r (length out.old) (hear r row.now) }
-    ensures out_after { out.new ≡ rowAfter result.answer (next result.reader) out.old }
-    ensures result_value { turnSays result ≡ callSays (awaits r.phase) (length out.old) (hear r row.now) }
+    ensures value { result ≡ call_with (awaits r.phase) r (length out.old) (hear r row.now) }
+    ensures out_after { out.new ≡ row_after result.answer (next result.reader) out.old }
+    ensures result_value { turn_says result ≡ call_says (awaits r.phase) (length out.old) (hear r row.now) }
 {
     let p = r.phase;
     if !is_awaiting(p) {

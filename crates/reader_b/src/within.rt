@@ -1,8 +1,8 @@
 // The reader's rules. Called by our own crates only: firmware calls those of the crate itself.
 ghost use Rattle.std.specs.Prelude.{◌≡◌, ◌≤◌, length};
-ghost use Rattle.frame_b.specs.LimitsB.{frameRoomB};
-ghost use Rattle.selection_b.specs.HeardB.{read_slot, readAttrib, readHltb};
-ghost use Rattle.reader_b.specs.ReaderB.{turn, stop, isReady, next, held, slotTurn, attribTurn, hltbTurn, hear, goes, rowAfter};
+ghost use Rattle.frame_b.specs.LimitsB.{frame_room_b};
+ghost use Rattle.selection_b.specs.HeardB.{read_slot, read_attrib, read_hltb};
+ghost use Rattle.reader_b.specs.ReaderB.{turn, stop, is_ready, next, held, slot_turn, attrib_turn, hltb_turn, hear, goes, row_after};
 
 use crate::{AnswerB, PhaseB, ReaderB, TurnB};
 use refusal::Refusal;
@@ -33,7 +33,7 @@ fn stop(e: Refusal) -> TurnB
 
 // Is a call due?
 pub fn is_ready(p: PhaseB) -> bool
-    ensures { result ≡ isReady p }
+    ensures { result ≡ is_ready p }
 {
     match p {
         PhaseB::Ready => true,
@@ -69,7 +69,7 @@ fn hold(r: ReaderB, k: Held, atqb: [u8; 12]) -> TurnB
 }
 
 fn hear_slot(r: ReaderB, row: &[u8]) -> TurnB
-    ensures { result ≡ slotTurn r (read_slot row.now).says (read_slot row.now).atqb }
+    ensures { result ≡ slot_turn r (read_slot row.now).says (read_slot row.now).atqb }
 {
     let s = selection_b::heard::read_slot(row);
     let says = s.says;
@@ -81,7 +81,7 @@ fn hear_slot(r: ReaderB, row: &[u8]) -> TurnB
 }
 
 fn hear_attrib(row: &[u8]) -> TurnB
-    ensures { result ≡ attribTurn (readAttrib row.now) }
+    ensures { result ≡ attrib_turn (read_attrib row.now) }
 {
     let s = selection_b::heard::read_attrib(row);
     match s {
@@ -94,7 +94,7 @@ fn hear_attrib(row: &[u8]) -> TurnB
 }
 
 fn hear_hltb(row: &[u8]) -> TurnB
-    ensures { result ≡ hltbTurn (readHltb row.now) }
+    ensures { result ≡ hltb_turn (read_hltb row.now) }
 {
     let s = selection_b::heard::read_hltb(row);
     match s {
@@ -136,8 +136,8 @@ pub fn goes(a: AnswerB) -> bool
 
 // The next marker, where it goes out.
 pub fn put_next(t: TurnB, out: &mut [u8])
-    requires { frameRoomB ≤ length out.old }
-    ensures { out.new ≡ rowAfter t.answer (next t.reader) out.old }
+    requires { frame_room_b ≤ length out.old }
+    ensures { out.new ≡ row_after t.answer (next t.reader) out.old }
 {
     let a = t.answer;
     if !goes(a) {

@@ -3,9 +3,9 @@
 ghost use Rattle.std.specs.Prelude.{◌≡◌, cond, length, ◌<◌, ◌^◌};
 ghost use Rattle.rows.specs.Rows.{overlay};
 ghost use Rattle.block.specs.Cut.{part};
-ghost use Rattle.block.specs.Block.{behind, blockBytes, bytesIn};
-ghost use Rattle.reader_blocks.specs.ReaderFrames.{readerHears};
-ghost use Rattle.reader_blocks.specs.ReaderRules.{readerOpen, readerDone, readerAt, readerKeeps, stops, readerSends, readerI, readerAgain, ackOwn, ackOther, readerJoins, lastIsOut, asksAgain, readerRepeats, readerEchoes, awaitsI, readerTakesI, readerTakesAck, readerRules, readerLeaves, lentFor, readerTakes, isOpen, readerStarts, readerParts};
+ghost use Rattle.block.specs.Block.{behind, block_bytes, bytes_in};
+ghost use Rattle.reader_blocks.specs.ReaderFrames.{reader_hears};
+ghost use Rattle.reader_blocks.specs.ReaderRules.{reader_open, reader_done, reader_at, reader_keeps, stops, reader_sends, reader_i, reader_again, ack_own, ack_other, reader_joins, last_is_out, asks_again, reader_repeats, reader_echoes, awaits_i, reader_takes_i, reader_takes_ack, reader_rules, reader_leaves, lent_for, reader_takes, is_open, reader_starts, reader_parts};
 
 use block::{Block, BlockBytes, Told};
 use refusal::Refusal;
@@ -53,7 +53,7 @@ pub struct ReaderStep {
 
 // Between messages, with block number n.
 pub fn open(own: u8, card: u8, n: bool) -> ReaderLink
-    ensures { result ≡ readerOpen own card n }
+    ensures { result ≡ reader_open own card n }
 {
     ReaderLink {
         own,
@@ -69,7 +69,7 @@ pub fn open(own: u8, card: u8, n: bool) -> ReaderLink
 
 // A reader with which nothing more is due.
 fn done(phase: ReaderPhase) -> ReaderLink
-    ensures { result ≡ readerDone phase }
+    ensures { result ≡ reader_done phase }
 {
     ReaderLink {
         own: 0,
@@ -93,7 +93,7 @@ fn reader_at(
     again: u8,
     repeats: u8,
 ) -> ReaderLink
-    ensures { result ≡ readerAt l n phase at joined again repeats }
+    ensures { result ≡ reader_at l n phase at joined again repeats }
 {
     ReaderLink {
         own: l.own,
@@ -109,7 +109,7 @@ fn reader_at(
 
 // Declined, and nothing changes.
 fn keeps(l: ReaderLink, e: Refusal) -> ReaderStep
-    ensures { result ≡ readerKeeps l e }
+    ensures { result ≡ reader_keeps l e }
 {
     ReaderStep {
         link: l,
@@ -132,7 +132,7 @@ fn stop(e: Refusal) -> ReaderStep
 }
 
 fn sends(l: ReaderLink, b: Block) -> ReaderStep
-    ensures { result ≡ readerSends l b }
+    ensures { result ≡ reader_sends l b }
 {
     ReaderStep {
         link: l,
@@ -144,7 +144,7 @@ fn sends(l: ReaderLink, b: Block) -> ReaderStep
 
 // The I of its message, of len bytes, that begins at place at.
 fn sends_i(l: ReaderLink, n: bool, at: usize, len: usize) -> ReaderStep
-    ensures { result ≡ readerI l n at len }
+    ensures { result ≡ reader_i l n at len }
 {
     if block::has_more(l.card, at, len) {
         return sends(
@@ -160,7 +160,7 @@ fn sends_i(l: ReaderLink, n: bool, at: usize, len: usize) -> ReaderStep
 
 // The last I again.
 fn sends_again(l: ReaderLink, t: Turn, chained: bool) -> ReaderStep
-    ensures { result ≡ readerAgain l t chained }
+    ensures { result ≡ reader_again l t chained }
 {
     if l.again < 2 {
         let next = reader_at(
@@ -180,7 +180,7 @@ fn sends_again(l: ReaderLink, t: Turn, chained: bool) -> ReaderStep
 // The next I of its message. A message that ends before the last I ends before the next one too: 1, ahead of a sum that might not fit.
 fn next_i(l: ReaderLink, len: usize) -> ReaderStep
     requires { len < 2 ^ 63 }
-    ensures { lentFor l len result ≡ lentFor l len (ackOwn l Turn.Sending len) }
+    ensures { lent_for l len result ≡ lent_for l len (ack_own l Turn.Sending len) }
 {
     if len < l.at {
         return keeps(l, Refusal::Room);
@@ -191,7 +191,7 @@ fn next_i(l: ReaderLink, len: usize) -> ReaderStep
 // R(ACK) of the own number. This and what calls it give the step of the rules as far as it goes with the message that is lent.
 fn ack_own(l: ReaderLink, t: Turn, len: usize) -> ReaderStep
     requires { len < 2 ^ 63 }
-    ensures { lentFor l len result ≡ lentFor l len (ackOwn l t len) }
+    ensures { lent_for l len result ≡ lent_for l len (ack_own l t len) }
 {
     match t {
         Turn::Sending => next_i(l, len),
@@ -202,7 +202,7 @@ fn ack_own(l: ReaderLink, t: Turn, len: usize) -> ReaderStep
 
 // R(ACK) of the other number.
 fn ack_other(l: ReaderLink, t: Turn) -> ReaderStep
-    ensures { result ≡ ackOther l t }
+    ensures { result ≡ ack_other l t }
 {
     match t {
         Turn::Sending => sends_again(l, Turn::Sending, true),
@@ -213,7 +213,7 @@ fn ack_other(l: ReaderLink, t: Turn) -> ReaderStep
 
 fn takes_ack(l: ReaderLink, t: Turn, n: bool, len: usize) -> ReaderStep
     requires { len < 2 ^ 63 }
-    ensures { lentFor l len result ≡ lentFor l len (readerTakesAck l t n len) }
+    ensures { lent_for l len result ≡ lent_for l len (reader_takes_ack l t n len) }
 {
     if n == l.number {
         return ack_own(l, t, len);
@@ -223,7 +223,7 @@ fn takes_ack(l: ReaderLink, t: Turn, n: bool, len: usize) -> ReaderStep
 
 // An I that is joined: n is the number then, end how many bytes are joined.
 fn joins(l: ReaderLink, n: bool, chained: bool, end: usize) -> ReaderStep
-    ensures { result ≡ readerJoins l n chained end }
+    ensures { result ≡ reader_joins l n chained end }
 {
     if chained {
         let link = reader_at(l, n, ReaderPhase::Talking(Turn::Joining), 0, end, 0, 0);
@@ -243,7 +243,7 @@ fn joins(l: ReaderLink, n: bool, chained: bool, end: usize) -> ReaderStep
 }
 
 fn last_is_out(t: Turn) -> bool
-    ensures { result ≡ lastIsOut t }
+    ensures { result ≡ last_is_out t }
 {
     match t {
         Turn::Sending => false,
@@ -253,7 +253,7 @@ fn last_is_out(t: Turn) -> bool
 }
 
 fn awaits_i(l: ReaderLink, t: Turn, n: bool) -> bool
-    ensures { result ≡ awaitsI l t n }
+    ensures { result ≡ awaits_i l t n }
 {
     if n == l.number {
         return last_is_out(t);
@@ -262,7 +262,7 @@ fn awaits_i(l: ReaderLink, t: Turn, n: bool) -> bool
 }
 
 fn takes_i(l: ReaderLink, t: Turn, n: bool, chained: bool, bytes: usize, room: usize) -> ReaderStep
-    ensures { result ≡ readerTakesI l t n chained bytes room }
+    ensures { result ≡ reader_takes_i l t n chained bytes room }
 {
     if awaits_i(l, t, n) {
         if block::joins_in(l.joined, bytes, room) {
@@ -275,7 +275,7 @@ fn takes_i(l: ReaderLink, t: Turn, n: bool, chained: bool, bytes: usize, room: u
 
 // What it sends after silence or a damaged frame.
 fn asks_again(t: Turn, n: bool) -> Block
-    ensures { result ≡ asksAgain t n }
+    ensures { result ≡ asks_again t n }
 {
     match t {
         Turn::Sending => Block::Nak(n),
@@ -285,7 +285,7 @@ fn asks_again(t: Turn, n: bool) -> Block
 }
 
 fn repeats(l: ReaderLink, phase: ReaderPhase, b: Block) -> ReaderStep
-    ensures { result ≡ readerRepeats l phase b }
+    ensures { result ≡ reader_repeats l phase b }
 {
     if l.repeats < 2 {
         return sends(
@@ -297,7 +297,7 @@ fn repeats(l: ReaderLink, phase: ReaderPhase, b: Block) -> ReaderStep
 }
 
 fn echoes(l: ReaderLink, t: Turn, v: u8) -> ReaderStep
-    ensures { result ≡ readerEchoes l t v }
+    ensures { result ≡ reader_echoes l t v }
 {
     let w = v % 64;
     if block::wtx_ok(w) {
@@ -320,7 +320,7 @@ fn echoes(l: ReaderLink, t: Turn, v: u8) -> ReaderStep
 // What a reader that awaits a block does with it.
 fn rules(l: ReaderLink, t: Turn, b: Block, bytes: usize, room: usize, len: usize) -> ReaderStep
     requires { len < 2 ^ 63 }
-    ensures { lentFor l len result ≡ lentFor l len (readerRules l t b bytes room len) }
+    ensures { lent_for l len result ≡ lent_for l len (reader_rules l t b bytes room len) }
 {
     match b {
         Block::I(n, chained) => takes_i(l, t, n, chained, bytes, room),
@@ -335,7 +335,7 @@ fn rules(l: ReaderLink, t: Turn, b: Block, bytes: usize, room: usize, len: usize
 
 // What a reader that has sent DESELECT does with a block.
 fn leaves(l: ReaderLink, b: Block) -> ReaderStep
-    ensures { result ≡ readerLeaves l b }
+    ensures { result ≡ reader_leaves l b }
 {
     match b {
         Block::Deselect => {
@@ -358,7 +358,7 @@ fn leaves(l: ReaderLink, b: Block) -> ReaderStep
 
 // A step as far as it goes with a message of len bytes lent, from which an I is cut.
 fn lent_for(l: ReaderLink, len: usize, step: ReaderStep) -> ReaderStep
-    ensures { result ≡ lentFor l len step }
+    ensures { result ≡ lent_for l len step }
 {
     let send = step.send;
     if block::is_i(send) {
@@ -383,7 +383,7 @@ fn takes(
     len: usize,
 ) -> ReaderStep
     requires { len < 2 ^ 63 }
-    ensures { result ≡ readerTakes l phase b bytes room len }
+    ensures { result ≡ reader_takes l phase b bytes room len }
 {
     match phase {
         ReaderPhase::Talking(t) => lent_for(l, len, rules(l, t, b, bytes, room, len)),
@@ -395,7 +395,7 @@ fn takes(
 }
 
 pub fn is_open(phase: ReaderPhase) -> bool
-    ensures { result ≡ isOpen phase }
+    ensures { result ≡ is_open phase }
 {
     match phase {
         ReaderPhase::Open => true,
@@ -408,7 +408,7 @@ pub fn is_open(phase: ReaderPhase) -> bool
 
 // The host's message, of len bytes.
 pub fn starts(l: ReaderLink, len: usize) -> ReaderStep
-    ensures { result ≡ readerStarts l len }
+    ensures { result ≡ reader_starts l len }
 {
     let phase = l.phase;
     if is_open(phase) {
@@ -422,7 +422,7 @@ pub fn starts(l: ReaderLink, len: usize) -> ReaderStep
 
 // The host's DESELECT.
 pub fn parts(l: ReaderLink) -> ReaderStep
-    ensures { result ≡ readerParts l }
+    ensures { result ≡ reader_parts l }
 {
     let phase = l.phase;
     if is_open(phase) {
@@ -436,7 +436,7 @@ pub fn parts(l: ReaderLink) -> ReaderStep
 
 // What a reader does with a frame's bytes, none where it is silence or damaged. An accepted payload goes straight behind those joined.
 pub fn hears(l: ReaderLink, bytes: &[u8], message: &[u8], buffer: &mut [u8]) -> ReaderStep
-    ensures value { result ≡ readerHears l bytes.now (length buffer.old) (length message.now) }
+    ensures value { result ≡ reader_hears l bytes.now (length buffer.old) (length message.now) }
     ensures buffer_after { buffer.new ≡ cond result.joins (overlay buffer.old l.joined (behind bytes.now)) buffer.old }
 {
     let phase = l.phase;
@@ -454,7 +454,7 @@ pub fn hears(l: ReaderLink, bytes: &[u8], message: &[u8], buffer: &mut [u8]) -> 
 
 // The bytes of the block that a step sends.
 pub fn sent(step: ReaderStep, message: &[u8]) -> BlockBytes
-    ensures { result ≡ bytesIn (blockBytes step.send (part step.link.card step.link.at message.now)) }
+    ensures { result ≡ bytes_in (block_bytes step.send (part step.link.card step.link.at message.now)) }
 {
     let send = step.send;
     let link = step.link;

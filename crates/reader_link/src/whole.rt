@@ -1,15 +1,15 @@
 // The whole reader, every phase: selection by the rules of crate reader, then RATS, then blocks. Rows in, rows out.
 ghost use Rattle.std.specs.Prelude.{◌≡◌, true, false, cond, [], ◌≤◌, length};
-ghost use Rattle.limits.specs.Limits.{rowRoom};
+ghost use Rattle.limits.specs.Limits.{row_room};
 ghost use Rattle.rows.specs.Rows.{overlay};
-ghost use Rattle.frame.specs.Calls.{goodBytes};
-ghost use Rattle.selection.specs.Heard.{readAts};
+ghost use Rattle.frame.specs.Calls.{good_bytes};
+ghost use Rattle.selection.specs.Heard.{read_ats};
 ghost use Rattle.reader.specs.Reader.{hear};
 ghost use Rattle.block.specs.Block.{behind};
-ghost use Rattle.block.specs.Row.{heardRow};
-ghost use Rattle.reader_blocks.specs.ReaderFrames.{readerHears, readerOut, readerBlock};
-ghost use Rattle.reader_link.specs.ReaderCalls.{newReader, bitsOf, bitsBy, called, declinedBy, selecting, linked, linking, afterAts, awaitsBlock, frameDue, hearsIn, hearCall, isNewIn, startCall, wakeCall, isSelected, b6, ratsDue, ratsCall, between, sendIn, sendCall, deselectIn, deselectCall};
-ghost use Rattle.reader_link.specs.ReaderSays.{linkTurnSays, startSays, wakeSays, ratsSays, sendSays, deselectSays, hearSays};
+ghost use Rattle.block.specs.Row.{heard_row};
+ghost use Rattle.reader_blocks.specs.ReaderFrames.{reader_hears, reader_out, reader_block};
+ghost use Rattle.reader_link.specs.ReaderCalls.{new_reader, bits_of, bits_by, called, declined_by, selecting, linked, linking, after_ats, awaits_block, frame_due, hears_in, hear_call, is_new_in, start_call, wake_call, is_selected, b6, rats_due, rats_call, between, send_in, send_call, deselect_in, deselect_call};
+ghost use Rattle.reader_link.specs.ReaderSays.{link_turn_says, start_says, wake_says, rats_says, send_says, deselect_says, hear_says};
 
 use crate::{Link, LinkAnswer, LinkReader, LinkTurn};
 use block::Told;
@@ -20,7 +20,7 @@ use selection::AtsRead;
 
 // A reader that has sent no frame.
 pub fn new_reader() -> LinkReader
-    ensures { result ≡ newReader }
+    ensures { result ≡ new_reader }
 {
     LinkReader {
         reader: reader::new_reader(),
@@ -30,7 +30,7 @@ pub fn new_reader() -> LinkReader
 
 // How many air bits of the next frame stand at the front of the lent row; none: no frame.
 pub fn bits_of(a: LinkAnswer) -> usize
-    ensures { result ≡ bitsBy a }
+    ensures { result ≡ bits_by a }
 {
     match a {
         LinkAnswer::Selection(s) => selection_bits(s),
@@ -40,7 +40,7 @@ pub fn bits_of(a: LinkAnswer) -> usize
 }
 
 fn selection_bits(a: Answer) -> usize
-    ensures { result ≡ bitsOf a }
+    ensures { result ≡ bits_of a }
 {
     match a {
         Answer::Sends(n) => n,
@@ -53,7 +53,7 @@ fn selection_bits(a: Answer) -> usize
 
 // Declined before anything is looked at: while it selects, a reader says so as crate reader has it.
 fn declined_by(link: Link, e: Refusal) -> LinkAnswer
-    ensures { result ≡ declinedBy link e }
+    ensures { result ≡ declined_by link e }
 {
     match link {
         Link::NoLink => LinkAnswer::Selection(Answer::Declines(e)),
@@ -64,7 +64,7 @@ fn declined_by(link: Link, e: Refusal) -> LinkAnswer
 
 // .. and nothing changes.
 fn declines(x: LinkReader, e: Refusal) -> LinkTurn
-    ensures { result ≡ (called x (declinedBy x.link e) [] []).turn }
+    ensures { result ≡ (called x (declined_by x.link e) [] []).turn }
 {
     let link = x.link;
     let answer = declined_by(link, e);
@@ -73,7 +73,7 @@ fn declines(x: LinkReader, e: Refusal) -> LinkTurn
 
 // A turn of a selection handed back, and its frame at the front of the lent row.
 fn select_turn(t: Turn, out: &mut [u8]) -> LinkTurn
-    requires { rowRoom ≤ length out.old }
+    requires { row_room ≤ length out.old }
     ensures value { result ≡ (selecting t []).turn }
     ensures out_after { out.new ≡ overlay out.old 0 (selecting t []).sent }
 {
@@ -123,9 +123,9 @@ fn linked(r: Reader, phase: ReaderPhase, l: ReaderLink) -> LinkReader
 
 // A step of the link handed back, and its block at the front of the lent row.
 fn finish(r: Reader, step: ReaderStep, message: &[u8], out: &mut [u8]) -> LinkTurn
-    requires { rowRoom ≤ length out.old }
-    ensures value { result ≡ (linking r (readerOut step message.now [] 0 [])).turn }
-    ensures out_after { out.new ≡ overlay out.old 0 (linking r (readerOut step message.now [] 0 [])).sent }
+    requires { row_room ≤ length out.old }
+    ensures value { result ≡ (linking r (reader_out step message.now [] 0 [])).turn }
+    ensures out_after { out.new ≡ overlay out.old 0 (linking r (reader_out step message.now [] 0 [])).sent }
 {
     let told = step.told;
     let link = step.link;
@@ -141,8 +141,8 @@ fn finish(r: Reader, step: ReaderStep, message: &[u8], out: &mut [u8]) -> LinkTu
 
 // What a reader does with a row.
 fn hear_row(l: ReaderLink, row: &[u8], message: &[u8], buffer: &mut [u8]) -> ReaderStep
-    ensures value { result ≡ readerHears l (goodBytes (heardRow l.own row.now)) (length buffer.old) (length message.now) }
-    ensures buffer_after { buffer.new ≡ cond result.joins (overlay buffer.old l.joined (behind (goodBytes (heardRow l.own row.now)))) buffer.old }
+    ensures value { result ≡ reader_hears l (good_bytes (heard_row l.own row.now)) (length buffer.old) (length message.now) }
+    ensures buffer_after { buffer.new ≡ cond result.joins (overlay buffer.old l.joined (behind (good_bytes (heard_row l.own row.now)))) buffer.old }
 {
     let mut bytes = [0u8; 256];
     let n = block::within::read_row(l.own, row, &mut bytes);
@@ -158,10 +158,10 @@ fn hear_block(
     buffer: &mut [u8],
     out: &mut [u8],
 ) -> LinkTurn
-    requires { rowRoom ≤ length out.old }
-    ensures value { result ≡ (linking r (readerBlock l (heardRow l.own row.now) message.now buffer.old)).turn }
-    ensures buffer_after { buffer.new ≡ (linking r (readerBlock l (heardRow l.own row.now) message.now buffer.old)).buffer }
-    ensures out_after { out.new ≡ overlay out.old 0 (linking r (readerBlock l (heardRow l.own row.now) message.now buffer.old)).sent }
+    requires { row_room ≤ length out.old }
+    ensures value { result ≡ (linking r (reader_block l (heard_row l.own row.now) message.now buffer.old)).turn }
+    ensures buffer_after { buffer.new ≡ (linking r (reader_block l (heard_row l.own row.now) message.now buffer.old)).buffer }
+    ensures out_after { out.new ≡ overlay out.old 0 (linking r (reader_block l (heard_row l.own row.now) message.now buffer.old)).sent }
 {
     let step = hear_row(l, row, message, buffer);
     finish(r, step, message, out)
@@ -169,7 +169,7 @@ fn hear_block(
 
 // .. while ATS is awaited: it opens the link at number 0, and all else stops the reader.
 fn hear_ats(r: Reader, own: u8, row: &[u8]) -> LinkTurn
-    ensures { result ≡ (afterAts r own (readAts own row.now) []).turn }
+    ensures { result ≡ (after_ats r own (read_ats own row.now) []).turn }
 {
     let a = selection::ats::read_ats(own, row);
     match a {
@@ -195,7 +195,7 @@ fn hear_ats(r: Reader, own: u8, row: &[u8]) -> LinkTurn
 
 // .. while it selects.
 fn hear_selecting(r: Reader, row: &[u8], out: &mut [u8]) -> LinkTurn
-    requires { rowRoom ≤ length out.old }
+    requires { row_room ≤ length out.old }
     ensures value { result ≡ (selecting (hear r row.now) []).turn }
     ensures out_after { out.new ≡ overlay out.old 0 (selecting (hear r row.now) []).sent }
 {
@@ -211,10 +211,10 @@ fn hear_due(
     buffer: &mut [u8],
     out: &mut [u8],
 ) -> LinkTurn
-    requires { rowRoom ≤ length out.old }
-    ensures value { result ≡ (hearsIn x.link x.reader row.now message.now buffer.old).turn }
-    ensures buffer_after { buffer.new ≡ (hearsIn x.link x.reader row.now message.now buffer.old).buffer }
-    ensures out_after { out.new ≡ overlay out.old 0 (hearsIn x.link x.reader row.now message.now buffer.old).sent }
+    requires { row_room ≤ length out.old }
+    ensures value { result ≡ (hears_in x.link x.reader row.now message.now buffer.old).turn }
+    ensures buffer_after { buffer.new ≡ (hears_in x.link x.reader row.now message.now buffer.old).buffer }
+    ensures out_after { out.new ≡ overlay out.old 0 (hears_in x.link x.reader row.now message.now buffer.old).sent }
 {
     let r = x.reader;
     let link = x.link;
@@ -226,7 +226,7 @@ fn hear_due(
 }
 
 fn awaits_block(phase: ReaderPhase) -> bool
-    ensures { result ≡ awaitsBlock phase }
+    ensures { result ≡ awaits_block phase }
 {
     match phase {
         ReaderPhase::Open => false,
@@ -239,7 +239,7 @@ fn awaits_block(phase: ReaderPhase) -> bool
 
 // Is a row due?
 fn frame_due(link: Link, r: Reader) -> bool
-    ensures { result ≡ frameDue link r }
+    ensures { result ≡ frame_due link r }
 {
     let p = r.phase;
     match link {
@@ -261,10 +261,10 @@ pub fn hear(
     buffer: &mut [u8],
     out: &mut [u8],
 ) -> LinkTurn
-    ensures value { result ≡ (hearCall x row.now message.now buffer.old (length out.old)).turn }
-    ensures buffer_after { buffer.new ≡ (hearCall x row.now message.now buffer.old (length out.old)).buffer }
-    ensures out_after { out.new ≡ overlay out.old 0 (hearCall x row.now message.now buffer.old (length out.old)).sent }
-    ensures result_value { linkTurnSays result ≡ hearSays x row.now message.now buffer.old (length out.old) }
+    ensures value { result ≡ (hear_call x row.now message.now buffer.old (length out.old)).turn }
+    ensures buffer_after { buffer.new ≡ (hear_call x row.now message.now buffer.old (length out.old)).buffer }
+    ensures out_after { out.new ≡ overlay out.old 0 (hear_call x row.now message.now buffer.old (length out.old)).sent }
+    ensures result_value { link_turn_says result ≡ hear_says x row.now message.now buffer.old (length out.old) }
 {
     let r = x.reader;
     let link = x.link;
@@ -278,7 +278,7 @@ pub fn hear(
 }
 
 fn is_new(link: Link, r: Reader) -> bool
-    ensures { result ≡ isNewIn link r }
+    ensures { result ≡ is_new_in link r }
 {
     let p = r.phase;
     match link {
@@ -289,9 +289,9 @@ fn is_new(link: Link, r: Reader) -> bool
 }
 
 fn start(sweeps: bool, x: LinkReader, out: &mut [u8]) -> LinkTurn
-    ensures value { result ≡ (startCall sweeps x (length out.old)).turn }
-    ensures out_after { out.new ≡ overlay out.old 0 (startCall sweeps x (length out.old)).sent }
-    ensures result_value { linkTurnSays result ≡ startSays x (length out.old) }
+    ensures value { result ≡ (start_call sweeps x (length out.old)).turn }
+    ensures out_after { out.new ≡ overlay out.old 0 (start_call sweeps x (length out.old)).sent }
+    ensures result_value { link_turn_says result ≡ start_says x (length out.old) }
 {
     let r = x.reader;
     let link = x.link;
@@ -307,27 +307,27 @@ fn start(sweeps: bool, x: LinkReader, out: &mut [u8]) -> LinkTurn
 
 // Begins the selection of one card. 11: the reader is not new.
 pub fn select(x: LinkReader, out: &mut [u8]) -> LinkTurn
-    ensures value { result ≡ (startCall false x (length out.old)).turn }
-    ensures out_after { out.new ≡ overlay out.old 0 (startCall false x (length out.old)).sent }
-    ensures result_value { linkTurnSays result ≡ startSays x (length out.old) }
+    ensures value { result ≡ (start_call false x (length out.old)).turn }
+    ensures out_after { out.new ≡ overlay out.old 0 (start_call false x (length out.old)).sent }
+    ensures result_value { link_turn_says result ≡ start_says x (length out.old) }
 {
     start(false, x, out)
 }
 
 // Begins the reader's part of a sweep. 11: the reader is not new.
 pub fn start_sweep(x: LinkReader, out: &mut [u8]) -> LinkTurn
-    ensures value { result ≡ (startCall true x (length out.old)).turn }
-    ensures out_after { out.new ≡ overlay out.old 0 (startCall true x (length out.old)).sent }
-    ensures result_value { linkTurnSays result ≡ startSays x (length out.old) }
+    ensures value { result ≡ (start_call true x (length out.old)).turn }
+    ensures out_after { out.new ≡ overlay out.old 0 (start_call true x (length out.old)).sent }
+    ensures result_value { link_turn_says result ≡ start_says x (length out.old) }
 {
     start(true, x, out)
 }
 
 // T-03: begins the selection of the one card with this UID, by WUPA and SELECT. 11: the reader is not new; 6: the bytes are no valid UID.
 pub fn wake(x: LinkReader, bytes: &[u8], out: &mut [u8]) -> LinkTurn
-    ensures value { result ≡ (wakeCall x bytes.now (length out.old)).turn }
-    ensures out_after { out.new ≡ overlay out.old 0 (wakeCall x bytes.now (length out.old)).sent }
-    ensures result_value { linkTurnSays result ≡ wakeSays x bytes.now (length out.old) }
+    ensures value { result ≡ (wake_call x bytes.now (length out.old)).turn }
+    ensures out_after { out.new ≡ overlay out.old 0 (wake_call x bytes.now (length out.old)).sent }
+    ensures result_value { link_turn_says result ≡ wake_says x bytes.now (length out.old) }
 {
     let r = x.reader;
     let link = x.link;
@@ -342,7 +342,7 @@ pub fn wake(x: LinkReader, bytes: &[u8], out: &mut [u8]) -> LinkTurn
 }
 
 fn is_selected(p: Phase) -> bool
-    ensures { result ≡ isSelected p }
+    ensures { result ≡ is_selected p }
 {
     match p {
         Phase::New => false,
@@ -360,7 +360,7 @@ fn is_selected(p: Phase) -> bool
 
 // Is the reader selected, and does the card speak blocks?
 fn selects_blocks(r: Reader) -> bool
-    ensures { result ≡ ratsDue Link.NoLink r }
+    ensures { result ≡ rats_due Link.NoLink r }
 {
     let p = r.phase;
     if is_selected(p) {
@@ -370,7 +370,7 @@ fn selects_blocks(r: Reader) -> bool
 }
 
 fn rats_due(link: Link, r: Reader) -> bool
-    ensures { result ≡ ratsDue link r }
+    ensures { result ≡ rats_due link r }
 {
     match link {
         Link::NoLink => selects_blocks(r),
@@ -381,9 +381,9 @@ fn rats_due(link: Link, r: Reader) -> bool
 
 // Sends RATS with the reader's own size index. 11: no card is selected, or it speaks no blocks; 6: the index is over 8.
 pub fn rats(x: LinkReader, index: u8, out: &mut [u8]) -> LinkTurn
-    ensures value { result ≡ (ratsCall x index (length out.old)).turn }
-    ensures out_after { out.new ≡ overlay out.old 0 (ratsCall x index (length out.old)).sent }
-    ensures result_value { linkTurnSays result ≡ ratsSays x index (length out.old) }
+    ensures value { result ≡ (rats_call x index (length out.old)).turn }
+    ensures out_after { out.new ≡ overlay out.old 0 (rats_call x index (length out.old)).sent }
+    ensures result_value { link_turn_says result ≡ rats_says x index (length out.old) }
 {
     let r = x.reader;
     let link = x.link;
@@ -422,9 +422,9 @@ fn is_between(link: Link) -> bool
 }
 
 fn send_due(x: LinkReader, message: &[u8], out: &mut [u8]) -> LinkTurn
-    requires { rowRoom ≤ length out.old }
-    ensures value { result ≡ (sendIn x.link x message.now).turn }
-    ensures out_after { out.new ≡ overlay out.old 0 (sendIn x.link x message.now).sent }
+    requires { row_room ≤ length out.old }
+    ensures value { result ≡ (send_in x.link x message.now).turn }
+    ensures out_after { out.new ≡ overlay out.old 0 (send_in x.link x message.now).sent }
 {
     let r = x.reader;
     let link = x.link;
@@ -440,9 +440,9 @@ fn send_due(x: LinkReader, message: &[u8], out: &mut [u8]) -> LinkTurn
 
 // Sends a message's first block. 11: the reader is not between messages; 10: the message is over 4,096 bytes.
 pub fn send(x: LinkReader, message: &[u8], out: &mut [u8]) -> LinkTurn
-    ensures value { result ≡ (sendCall x message.now (length out.old)).turn }
-    ensures out_after { out.new ≡ overlay out.old 0 (sendCall x message.now (length out.old)).sent }
-    ensures result_value { linkTurnSays result ≡ sendSays x message.now (length out.old) }
+    ensures value { result ≡ (send_call x message.now (length out.old)).turn }
+    ensures out_after { out.new ≡ overlay out.old 0 (send_call x message.now (length out.old)).sent }
+    ensures result_value { link_turn_says result ≡ send_says x message.now (length out.old) }
 {
     let link = x.link;
     if !is_between(link) {
@@ -455,9 +455,9 @@ pub fn send(x: LinkReader, message: &[u8], out: &mut [u8]) -> LinkTurn
 }
 
 fn deselect_due(x: LinkReader, out: &mut [u8]) -> LinkTurn
-    requires { rowRoom ≤ length out.old }
-    ensures value { result ≡ (deselectIn x.link x).turn }
-    ensures out_after { out.new ≡ overlay out.old 0 (deselectIn x.link x).sent }
+    requires { row_room ≤ length out.old }
+    ensures value { result ≡ (deselect_in x.link x).turn }
+    ensures out_after { out.new ≡ overlay out.old 0 (deselect_in x.link x).sent }
 {
     let r = x.reader;
     let link = x.link;
@@ -474,9 +474,9 @@ fn deselect_due(x: LinkReader, out: &mut [u8]) -> LinkTurn
 
 // Sends DESELECT. 11: the reader is not between messages.
 pub fn deselect(x: LinkReader, out: &mut [u8]) -> LinkTurn
-    ensures value { result ≡ (deselectCall x (length out.old)).turn }
-    ensures out_after { out.new ≡ overlay out.old 0 (deselectCall x (length out.old)).sent }
-    ensures result_value { linkTurnSays result ≡ deselectSays x (length out.old) }
+    ensures value { result ≡ (deselect_call x (length out.old)).turn }
+    ensures out_after { out.new ≡ overlay out.old 0 (deselect_call x (length out.old)).sent }
+    ensures result_value { link_turn_says result ≡ deselect_says x (length out.old) }
 {
     let link = x.link;
     if !is_between(link) {

@@ -8,8 +8,8 @@ abbrev pub flags : ℕ
 flags = 240
 
 -- the flag of a slot in a round whose mask has len bits
-abbrev pub flagOf : ℕ → ℕ → ℕ
-flagOf len slot = 16 * (14 - len / 4) + slot
+abbrev pub flag_of : ℕ → ℕ → ℕ
+flag_of len slot = 16 * (14 - len / 4) + slot
 
 -- the mask of the round in which flag i was set has so many bits, and so is the slot
 abbrev pub length_of : ℕ → ℕ
@@ -19,6 +19,6 @@ abbrev pub slot_of : ℕ → ℕ
 slot_of i = i % 16
 
 -- the first flag that is set; as many as there are, where none is
-unfoldable pub firstMet : List ℕ → ℕ
-firstMet [] = 0
-firstMet (x ∷ m) = cond (eqb x 0) (suc (firstMet m)) 0
+unfoldable pub first_met : List ℕ → ℕ
+first_met [] = 0
+first_met (x ∷ m) = cond (eqb x 0) (suc (first_met m)) 0

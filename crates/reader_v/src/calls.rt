@@ -1,6 +1,6 @@
 // The host's calls. Each tests 11 (the reader is not ready), 1 (the lent row has no room for 112 bits, of a write for 8 more a byte), 6, and then sends a
 // frame, which stands at the front of the lent row. A request is for one tag by its UID, for the selected one, or for every tag that is not quiet.
-ghost use Rattle.reader_v.specs.CallsV.{Called, inventoryCall, sweepCall, quietCall, selectCall, resetCall, readCall, readsCall, writeCall, writesCall, lockCall};
+ghost use Rattle.reader_v.specs.CallsV.{Called, inventory_call, sweep_call, quiet_call, select_call, reset_call, read_call, reads_call, write_call, writes_call, lock_call};
 
 use crate::{PhaseV, ReaderV, TurnV, within};
 use sent_v::Mode;
@@ -15,7 +15,7 @@ pub fn inventory(
     afi: u8,
     out: &mut [u8],
 ) -> TurnV
-    ensures { Called r (inventoryCall slots len mask asks afi) out.old result out.new }
+    ensures { Called r (inventory_call slots len mask asks afi) out.old result out.new }
 {
     let good = within::is_round(slots, len);
     let k = within::round_for(slots == 1, asks, afi, len, mask);
@@ -25,7 +25,7 @@ pub fn inventory(
 
 // A sweep: rounds of 16 slots, from an empty mask on.
 pub fn sweep(r: ReaderV, asks: bool, afi: u8, out: &mut [u8]) -> TurnV
-    ensures { Called r (sweepCall asks afi) out.old result out.new }
+    ensures { Called r (sweep_call asks afi) out.old result out.new }
 {
     let mask = [0u8; 8];
     let k = within::round_for(false, asks, afi, 0, mask);
@@ -35,7 +35,7 @@ pub fn sweep(r: ReaderV, asks: bool, afi: u8, out: &mut [u8]) -> TurnV
 
 // Stay quiet. It is never answered.
 pub fn quiet(r: ReaderV, uid: [u8; 8], out: &mut [u8]) -> TurnV
-    ensures { Called r (quietCall uid) out.old result out.new }
+    ensures { Called r (quiet_call uid) out.old result out.new }
 {
     let k = within::head_for(Mode::Addressed, uid, false, 0x02);
     let p = [0u8];
@@ -53,7 +53,7 @@ pub fn quiet(r: ReaderV, uid: [u8; 8], out: &mut [u8]) -> TurnV
 
 // Select.
 pub fn select(r: ReaderV, uid: [u8; 8], out: &mut [u8]) -> TurnV
-    ensures { Called r (selectCall uid) out.old result out.new }
+    ensures { Called r (select_call uid) out.old result out.new }
 {
     let k = within::head_for(Mode::Addressed, uid, false, 0x25);
     let p = [0u8];
@@ -71,7 +71,7 @@ pub fn select(r: ReaderV, uid: [u8; 8], out: &mut [u8]) -> TurnV
 
 // Reset to ready.
 pub fn reset(r: ReaderV, m: Mode, uid: [u8; 8], out: &mut [u8]) -> TurnV
-    ensures { Called r (resetCall m uid) out.old result out.new }
+    ensures { Called r (reset_call m uid) out.old result out.new }
 {
     let k = within::head_for(m, uid, false, 0x26);
     let p = [0u8];
@@ -89,7 +89,7 @@ pub fn reset(r: ReaderV, m: Mode, uid: [u8; 8], out: &mut [u8]) -> TurnV
 
 // Read one block.
 pub fn read(r: ReaderV, m: Mode, uid: [u8; 8], block: u8, status: bool, out: &mut [u8]) -> TurnV
-    ensures { Called r (readCall m uid block status) out.old result out.new }
+    ensures { Called r (read_call m uid block status) out.old result out.new }
 {
     let k = within::head_for(m, uid, status, 0x20);
     let p = [block];
@@ -107,7 +107,7 @@ pub fn reads(
     status: bool,
     out: &mut [u8],
 ) -> TurnV
-    ensures { Called r (readsCall m uid first count status) out.old result out.new }
+    ensures { Called r (reads_call m uid first count status) out.old result out.new }
 {
     let good = within::is_count(count);
     let n = within::less_one(count);
@@ -119,7 +119,7 @@ pub fn reads(
 
 // Write one block. 6: not 1 to 32 bytes.
 pub fn write(r: ReaderV, m: Mode, uid: [u8; 8], block: u8, bytes: &[u8], out: &mut [u8]) -> TurnV
-    ensures { Called r (writeCall m uid block bytes.now) out.old result out.new }
+    ensures { Called r (write_call m uid block bytes.now) out.old result out.new }
 {
     let good = within::is_filling(1, bytes.len());
     let k = within::head_for(m, uid, false, 0x21);
@@ -137,7 +137,7 @@ pub fn writes(
     bytes: &[u8],
     out: &mut [u8],
 ) -> TurnV
-    ensures { Called r (writesCall m uid first count bytes.now) out.old result out.new }
+    ensures { Called r (writes_call m uid first count bytes.now) out.old result out.new }
 {
     let good = within::is_filling(count, bytes.len());
     let k = within::head_for(m, uid, false, 0x24);
@@ -147,7 +147,7 @@ pub fn writes(
 
 // Lock one block.
 pub fn lock(r: ReaderV, m: Mode, uid: [u8; 8], block: u8, out: &mut [u8]) -> TurnV
-    ensures { Called r (lockCall m uid block) out.old result out.new }
+    ensures { Called r (lock_call m uid block) out.old result out.new }
 {
     let k = within::head_for(m, uid, false, 0x22);
     let p = [block];

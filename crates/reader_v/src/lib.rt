@@ -5,7 +5,7 @@ pub mod within;
 ghost use Rattle.std.specs.Prelude.{◌≡◌, length};
 ghost use Rattle.reader_v.specs.declared.PhaseV.TheVariants.{Ready};
 ghost use Rattle.reader_v.specs.ReaderV.{blank, awaits};
-ghost use Rattle.reader_v.specs.HearV.{hearCall, heardData, heardRow, turnSays, hearSays};
+ghost use Rattle.reader_v.specs.HearV.{hear_call, heard_data, heard_row, turn_says, hear_says};
 
 use refusal::Refusal;
 use selection_b::Held;
@@ -85,10 +85,10 @@ pub fn is_awaiting(p: PhaseV) -> bool
 // A row is heard; an empty one is silence. A read's data go to the front of `bytes`, and a sweep's next request to the front of `out`. 11: no row is due;
 // 1: `out` has no room for 112 bits, or, where a read is awaited, `bytes` none for its blocks of 32 bytes each, 33 with status.
 pub fn hear(r: ReaderV, row: &[u8], bytes: &mut [u8], out: &mut [u8]) -> TurnV
-    ensures value { result ≡ hearCall r row.now (length bytes.old) (length out.old) }
-    ensures bytes_after { bytes.new ≡ heardData r row.now bytes.old out.old }
-    ensures out_after { out.new ≡ heardRow r row.now bytes.old out.old }
-    ensures result_value { turnSays result ≡ hearSays r row.now (length bytes.old) (length out.old) }
+    ensures value { result ≡ hear_call r row.now (length bytes.old) (length out.old) }
+    ensures bytes_after { bytes.new ≡ heard_data r row.now bytes.old out.old }
+    ensures out_after { out.new ≡ heard_row r row.now bytes.old out.old }
+    ensures result_value { turn_says result ≡ hear_says r row.now (length bytes.old) (length out.old) }
 {
     let p = r.phase;
     if !is_awaiting(p) {

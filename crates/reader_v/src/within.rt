@@ -1,12 +1,12 @@
 // The reader's rules. Called by our own crates only: firmware calls those of the crate itself.
 ghost use Rattle.std.specs.Prelude.{◌≡◌, true, cond, ◌+◌, ◌*◌, ◌≤◌, ◌<◌, length, set, replicate, ltb};
 ghost use Rattle.rows.specs.Rows.{overlay};
-ghost use Rattle.reader_v.specs.Met.{flagOf, firstMet};
-ghost use Rattle.reader_v.specs.ReaderV.{blank, atRound, reading, turn, stop, isReady, isDeep, turn_of, isMore, metAfter, telling, nextSlot, roundOf, finished, told, hearSlot, hearQuiet, doneAnswer, answerTurn, hear};
-ghost use Rattle.answer_v.specs.Heard.{readAnswer};
-ghost use Rattle.reader_v.specs.HearV.{outFrame, dataIn, dataRoom, isShort, with_bits};
+ghost use Rattle.reader_v.specs.Met.{flag_of, first_met};
+ghost use Rattle.reader_v.specs.ReaderV.{blank, at_round, reading, turn, stop, is_ready, is_deep, turn_of, is_more, met_after, telling, next_slot, round_of, finished, told, hear_slot, hear_quiet, done_answer, answer_turn, hear};
+ghost use Rattle.answer_v.specs.Heard.{read_answer};
+ghost use Rattle.reader_v.specs.HearV.{out_frame, data_in, data_room, is_short, with_bits};
 ghost use Rattle.reader_v.specs.SafeV.{Safe};
-ghost use Rattle.reader_v.specs.CallsV.{Called, roundCall, requestCall, askedFor, isRound, isCount, less_one, isFilling, roundFor, headFor};
+ghost use Rattle.reader_v.specs.CallsV.{Called, round_call, request_call, asked_for, is_round, is_count, less_one, is_filling, round_for, head_for};
 
 use crate::{AnswerR, PhaseV, ReaderV, TurnV};
 use answer_v::{AnswerSays, SlotV, Turn};
@@ -60,7 +60,7 @@ fn stop(e: Refusal) -> TurnV
 
 // Is a call due?
 pub fn is_ready(p: PhaseV) -> bool
-    ensures { result ≡ isReady p }
+    ensures { result ≡ is_ready p }
 {
     match p {
         PhaseV::Ready => true,
@@ -76,7 +76,7 @@ pub fn is_ready(p: PhaseV) -> bool
 // ---- slots that are still to come
 
 fn flag_of(len: u8, slot: u8) -> usize
-    ensures { result ≡ flagOf len slot }
+    ensures { result ≡ flag_of len slot }
 {
     let d = len as usize / 4;
     if d > 14 {
@@ -97,7 +97,7 @@ fn with_flag(met: [u8; 240], i: usize, v: u8) -> [u8; 240]
 }
 
 fn first_met(met: [u8; 240]) -> usize
-    ensures { result ≡ firstMet met }
+    ensures { result ≡ first_met met }
 {
     for i in 0..240usize {
         if met[i] != 0 {
@@ -108,7 +108,7 @@ fn first_met(met: [u8; 240]) -> usize
 }
 
 fn is_more(k: Held) -> bool
-    ensures { result ≡ isMore k }
+    ensures { result ≡ is_more k }
 {
     match k {
         Held::None => false,
@@ -118,7 +118,7 @@ fn is_more(k: Held) -> bool
 }
 
 fn met_after(sweeps: bool, r: ReaderV, k: Held) -> [u8; 240]
-    ensures { result ≡ metAfter sweeps r k }
+    ensures { result ≡ met_after sweeps r k }
 {
     let met = r.met;
     if !sweeps {
@@ -134,7 +134,7 @@ fn met_after(sweeps: bool, r: ReaderV, k: Held) -> [u8; 240]
 // The round of a flag.
 fn round_of(k: Round, i: usize) -> Round
     requires { i < 240 }
-    ensures { result ≡ roundOf k i }
+    ensures { result ≡ round_of k i }
 {
     let n = 4 * (14 - i / 16);
     let old = k.mask;
@@ -165,7 +165,7 @@ fn telling(r: ReaderV, a: AnswerR, s: SlotV) -> TurnV
 
 fn next_slot(r: ReaderV, m: [u8; 240]) -> ReaderV
     requires { r.slot < 15 }
-    ensures { result ≡ nextSlot r m }
+    ensures { result ≡ next_slot r m }
 {
     let p = r.phase;
     let k = r.round;
@@ -180,7 +180,7 @@ fn next_slot(r: ReaderV, m: [u8; 240]) -> ReaderV
 }
 
 fn at_round(p: PhaseV, k: Round, m: [u8; 240]) -> ReaderV
-    ensures { result ≡ atRound p k m }
+    ensures { result ≡ at_round p k m }
 {
     ReaderV {
         phase: p,
@@ -238,7 +238,7 @@ fn turn_of(sweeps: bool, r: ReaderV) -> Turn
 }
 
 fn is_deep(sweeps: bool, len: u8) -> bool
-    ensures { result ≡ isDeep sweeps len }
+    ensures { result ≡ is_deep sweeps len }
 {
     if sweeps {
         return 60 <= len;
@@ -247,7 +247,7 @@ fn is_deep(sweeps: bool, len: u8) -> bool
 }
 
 fn hear_slot(sweeps: bool, r: ReaderV, row: &[u8]) -> TurnV
-    ensures { result ≡ hearSlot sweeps r row.now }
+    ensures { result ≡ hear_slot sweeps r row.now }
 {
     let s = answer_v::read_slot(turn_of(sweeps, r), row);
     let says = s.says;
@@ -260,7 +260,7 @@ fn hear_slot(sweeps: bool, r: ReaderV, row: &[u8]) -> TurnV
 // ---- other answers
 
 fn hear_quiet(row: &[u8]) -> TurnV
-    ensures { result ≡ hearQuiet row.now }
+    ensures { result ≡ hear_quiet row.now }
 {
     if row.len() == 0 {
         return turn(blank(PhaseV::Ready), AnswerR::Quieted);
@@ -269,7 +269,7 @@ fn hear_quiet(row: &[u8]) -> TurnV
 }
 
 fn done_answer(reads: bool, n: usize) -> AnswerR
-    ensures { result ≡ doneAnswer reads n }
+    ensures { result ≡ done_answer reads n }
 {
     if reads {
         return AnswerR::Data(n);
@@ -278,7 +278,7 @@ fn done_answer(reads: bool, n: usize) -> AnswerR
 }
 
 fn hear_answer(reads: bool, count: u8, status: bool, row: &[u8]) -> TurnV
-    ensures { result ≡ answerTurn reads (readAnswer reads count status row.now) }
+    ensures { result ≡ answer_turn reads (read_answer reads count status row.now) }
 {
     let s = answer_v::read_answer(reads, count, status, row);
     match s {
@@ -309,7 +309,7 @@ pub fn hear_rules(r: ReaderV, row: &[u8]) -> TurnV
 // The bytes of a read go to the front of the lent room.
 pub fn put_data(t: TurnV, row: &[u8], bytes: &mut [u8])
     requires { Safe t.answer t.reader row.now (length bytes.old) }
-    ensures { bytes.new ≡ overlay bytes.old 0 (dataIn t.answer row.now) }
+    ensures { bytes.new ≡ overlay bytes.old 0 (data_in t.answer row.now) }
 {
     let a = t.answer;
     match a {
@@ -328,8 +328,8 @@ pub fn put_data(t: TurnV, row: &[u8], bytes: &mut [u8])
 // The request of a sweep's next round, where it goes out. The answer is how many bits it has.
 pub fn put_next(t: TurnV, row: &[u8], room: usize, out: &mut [u8]) -> usize
     requires { Safe t.answer t.reader row.now room × (112 ≤ length out.old) }
-    ensures value { result ≡ length (outFrame t) }
-    ensures out_after { out.new ≡ overlay out.old 0 (outFrame t) }
+    ensures value { result ≡ length (out_frame t) }
+    ensures out_after { out.new ≡ overlay out.old 0 (out_frame t) }
 {
     let a = t.answer;
     let r = t.reader;
@@ -366,7 +366,7 @@ fn read_room(r: ReaderV) -> usize
 }
 
 fn data_room(p: PhaseV, r: ReaderV) -> usize
-    ensures { result ≡ dataRoom p r }
+    ensures { result ≡ data_room p r }
 {
     match p {
         PhaseV::Ready => 0,
@@ -380,7 +380,7 @@ fn data_room(p: PhaseV, r: ReaderV) -> usize
 }
 
 pub fn is_short(r: ReaderV, room: usize, out: usize) -> bool
-    ensures { result ≡ isShort r room out }
+    ensures { result ≡ is_short r room out }
 {
     let p = r.phase;
     if room < data_room(p, r) {
@@ -409,7 +409,7 @@ pub fn sized(t: TurnV, n: usize) -> TurnV
 // Tests 11, 1, 6; then an inventory goes out, and the reader is the next one.
 pub fn send_round(r: ReaderV, good: bool, k: Round, next: ReaderV, out: &mut [u8]) -> TurnV
     requires { good ≡ true → k.len ≤ 64 }
-    ensures { Called r (roundCall good k next) out.old result out.new }
+    ensures { Called r (round_call good k next) out.old result out.new }
 {
     let p = r.phase;
     if !is_ready(p) {
@@ -427,7 +427,7 @@ pub fn send_round(r: ReaderV, good: bool, k: Round, next: ReaderV, out: &mut [u8
 
 // Has a row of so many bits no room for a request with so many bytes of data?
 fn is_narrow(room: usize, n: usize) -> bool
-    ensures { result ≡ ltb room (askedFor n) }
+    ensures { result ≡ ltb room (asked_for n) }
 {
     if room < 112 {
         return true;
@@ -446,7 +446,7 @@ pub fn send_request(
     out: &mut [u8],
 ) -> TurnV
     requires { length parameters.now ≤ 2 }
-    ensures { Called r (requestCall good k parameters.now bytes.now next) out.old result out.new }
+    ensures { Called r (request_call good k parameters.now bytes.now next) out.old result out.new }
 {
     let p = r.phase;
     if !is_ready(p) {
@@ -465,7 +465,7 @@ pub fn send_request(
 // ---- arguments
 
 pub fn is_round(slots: u8, len: u8) -> bool
-    ensures { result ≡ isRound slots len }
+    ensures { result ≡ is_round slots len }
 {
     if slots == 1 {
         return len <= 64;
@@ -477,7 +477,7 @@ pub fn is_round(slots: u8, len: u8) -> bool
 }
 
 pub fn is_count(count: u16) -> bool
-    ensures { result ≡ isCount count }
+    ensures { result ≡ is_count count }
 {
     if count < 1 {
         return false;
@@ -495,7 +495,7 @@ pub fn less_one(count: u16) -> u8
 }
 
 pub fn is_filling(count: u16, n: usize) -> bool
-    ensures { result ≡ isFilling count n }
+    ensures { result ≡ is_filling count n }
 {
     if !is_count(count) {
         return false;
@@ -514,7 +514,7 @@ pub fn is_filling(count: u16, n: usize) -> bool
 }
 
 pub fn round_for(one: bool, asks: bool, afi: u8, len: u8, mask: [u8; 8]) -> Round
-    ensures { result ≡ roundFor one asks afi len mask }
+    ensures { result ≡ round_for one asks afi len mask }
 {
     Round {
         one: one,
@@ -526,14 +526,14 @@ pub fn round_for(one: bool, asks: bool, afi: u8, len: u8, mask: [u8; 8]) -> Roun
 }
 
 pub fn start(p: PhaseV, k: Round) -> ReaderV
-    ensures { result ≡ atRound p k (replicate 240 0) }
+    ensures { result ≡ at_round p k (replicate 240 0) }
 {
     let m = [0u8; 240];
     at_round(p, k, m)
 }
 
 pub fn head_for(m: Mode, uid: [u8; 8], option: bool, code: u8) -> Head
-    ensures { result ≡ headFor m uid option code }
+    ensures { result ≡ head_for m uid option code }
 {
     Head {
         mode: m,

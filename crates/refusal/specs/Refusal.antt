@@ -43,16 +43,16 @@ abbrev pub giving : List ℕ → Said
 giving vs = record { number = 0; values = vs }
 
 -- declined with this number, and the byte index that comes with it
-abbrev pub decliningAt : ℕ → ℕ → Said
-decliningAt n place = record { number = n; values = place ∷ [] }
+abbrev pub declining_at : ℕ → ℕ → Said
+declining_at n place = record { number = n; values = place ∷ [] }
 
 -- .. a number other than 3 comes with 0
 abbrev pub declining : ℕ → Said
-declining n = decliningAt n 0
+declining n = declining_at n 0
 
-abbrev pub refusalSays : Refusal → Said
-refusalSays e = decliningAt (number_of e) (place_of e)
+abbrev pub refusal_says : Refusal → Said
+refusal_says e = declining_at (number_of e) (place_of e)
 
 -- a call's own test, with the number that it gives where it applies; else what comes behind it
-abbrev pub declineIf : Bool → ℕ → Said → Said
-declineIf test n s = cond test (declining n) s
+abbrev pub decline_if : Bool → ℕ → Said → Said
+decline_if test n s = cond test (declining n) s

@@ -22,23 +22,23 @@ formed q = not q.extended && (not q.eighth && not (not q.inventory && (q.fifth &
 
 -- ---- "the four states"
 
-abbrev pub isOff : StateV → Bool
-isOff Off = true
-isOff (Ready w) = false
-isOff Quiet = false
-isOff (Selected w) = false
+abbrev pub is_off : StateV → Bool
+is_off Off = true
+is_off (Ready w) = false
+is_off Quiet = false
+is_off (Selected w) = false
 
-abbrev pub isQuiet : StateV → Bool
-isQuiet Off = false
-isQuiet (Ready w) = false
-isQuiet Quiet = true
-isQuiet (Selected w) = false
+abbrev pub is_quiet : StateV → Bool
+is_quiet Off = false
+is_quiet (Ready w) = false
+is_quiet Quiet = true
+is_quiet (Selected w) = false
 
-abbrev pub isSelected : StateV → Bool
-isSelected Off = false
-isSelected (Ready w) = false
-isSelected Quiet = false
-isSelected (Selected w) = true
+abbrev pub is_selected : StateV → Bool
+is_selected Off = false
+is_selected (Ready w) = false
+is_selected Quiet = false
+is_selected (Selected w) = true
 
 -- the states that take an inventory
 abbrev pub listens : StateV → Bool

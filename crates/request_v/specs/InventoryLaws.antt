@@ -3,14 +3,14 @@ use Rattle.std.specs.Prelude.{◌≡◌, refl, ℕ, ◌+◌, ◌-◌, ◌*◌, �
 use Rattle.std.proofs.Common.{sym, ap, ◌∙◌, arith}
 use Rattle.std.proofs.lemmas.List.{length-replicate}
 use Rattle.rows.specs.Rows.{overlay, clean}
-use Rattle.rows.specs.CleanLaws.{bits-clean}
-use Rattle.rows.specs.RowLaws.{overlay-all}
-use Rattle.frame.specs.Frame.{airBits}
-use Rattle.frame.specs.ByteLaws.{length-airBits, bits-airBits}
+use Rattle.rows.specs.CleanLaws.{bits_clean}
+use Rattle.rows.specs.RowLaws.{overlay_all}
+use Rattle.frame.specs.Frame.{air_bits}
+use Rattle.frame.specs.ByteLaws.{length_air_bits, bits_air_bits}
 
 -- a UID's bits written over a row of 64
-pub bits-whole : (uid d : List ℕ) → length uid ≡ 8 → d ≡ overlay (replicate 64 0) 0 (airBits uid) → d ≡ airBits uid
-bits-whole uid d n e = e ∙ overlay-all (replicate 64 0) (airBits uid) (rw (length-replicate, length-airBits, n))
+pub bits_whole : (uid d : List ℕ) → length uid ≡ 8 → d ≡ overlay (replicate 64 0) 0 (air_bits uid) → d ≡ air_bits uid
+bits_whole uid d n e = e ∙ overlay_all (replicate 64 0) (air_bits uid) (rw (length-replicate, length_air_bits, n))
 
-pub uid-clean : (uid d : List ℕ) → d ≡ airBits uid → clean d ≡ true
-uid-clean uid d e = rw e (bits-clean (airBits uid) (bits-airBits uid))
+pub uid_clean : (uid d : List ℕ) → d ≡ air_bits uid → clean d ≡ true
+uid_clean uid d e = rw e (bits_clean (air_bits uid) (bits_air_bits uid))

@@ -4,9 +4,9 @@
 use Rattle.std.specs.Prelude.{ℕ, ◌+◌, ◌-◌, ◌*◌, Bool, true, false, cond, not, ◌&&◌, ◌||◌, List, take, drop, eqb, leb, ltb}
 use Rattle.rows.specs.Rows.{any}
 use Rattle.frame_b.specs.FrameB.{byte_at}
-use Rattle.frame_v.specs.FrameV.{bytesIn, sound}
-use Rattle.request_v.specs.Flags.{flags_of, formed, isOff, isQuiet, isSelected}
-use Rattle.request_v.specs.Inventory.{matching, inventoryDeed}
+use Rattle.frame_v.specs.FrameV.{bytes_in, sound}
+use Rattle.request_v.specs.Flags.{flags_of, formed, is_off, is_quiet, is_selected}
+use Rattle.request_v.specs.Inventory.{matching, inventory_deed}
 use Rattle.request_v.specs.declared.Tag.{Tag}
 use Rattle.request_v.specs.declared.Flags.{Flags}
 use Rattle.request_v.specs.declared.Deed.{Deed}
@@ -14,25 +14,25 @@ use Rattle.request_v.specs.declared.Deed.TheVariants.{Nothing, Quiets, Drops, Fa
 
 -- ---- commands: a is the first byte of the parameters, b the second, m how many bytes of parameters there are
 
-abbrev pub isMany : ℕ → Bool
-isMany code = eqb code 0x23 || eqb code 0x24
+abbrev pub is_many : ℕ → Bool
+is_many code = eqb code 0x23 || eqb code 0x24
 
-abbrev pub isWrite : ℕ → Bool
-isWrite code = eqb code 0x21 || eqb code 0x24
+abbrev pub is_write : ℕ → Bool
+is_write code = eqb code 0x21 || eqb code 0x24
 
-abbrev pub isRead : ℕ → Bool
-isRead code = eqb code 0x20 || eqb code 0x23
+abbrev pub is_read : ℕ → Bool
+is_read code = eqb code 0x20 || eqb code 0x23
 
-abbrev pub isCommand : ℕ → Bool
-isCommand code = leb 0x20 code && leb code 0x26
+abbrev pub is_command : ℕ → Bool
+is_command code = leb 0x20 code && leb code 0x26
 
 -- how many blocks a command names; select and reset to ready name none
 unfoldable pub count_of : ℕ → ℕ → ℕ
-count_of code b = cond (isMany code) (b + 1) (cond (leb code 0x22) 1 0)
+count_of code b = cond (is_many code) (b + 1) (cond (leb code 0x22) 1 0)
 
 -- how many bytes its parameters have: the first block; of 23 and 24 the count; of a write the blocks' bytes; select and reset to ready have none
-unfoldable pub lengthDue : ℕ → ℕ → ℕ → ℕ
-lengthDue size code b =
+unfoldable pub length_due : ℕ → ℕ → ℕ → ℕ
+length_due size code b =
     cond (leb 0x25 code) 0
     (cond (eqb code 0x24) (2 + (b + 1) * size)
     (cond (eqb code 0x23) 2
@@ -43,102 +43,102 @@ unfoldable pub absent : ℕ → ℕ → ℕ → Bool
 absent blocks a n = not (eqb n 0) && ltb blocks (a + n)
 
 -- a lock is a byte for each block, 0 where it is open
-abbrev pub isLock : ℕ → Bool
-isLock l = not (eqb l 0)
+abbrev pub is_lock : ℕ → Bool
+is_lock l = not (eqb l 0)
 
 -- one of the named blocks is locked
-unfoldable pub anyLocked : List ℕ → ℕ → ℕ → Bool
-anyLocked locks first count = any isLock (take count (drop first locks))
+unfoldable pub any_locked : List ℕ → ℕ → ℕ → Bool
+any_locked locks first count = any is_lock (take count (drop first locks))
 
 -- 11: a lock of a locked block; "a write that names a locked one changes nothing and gets 12"
-unfoldable pub lockError : ℕ → Bool → ℕ
-lockError code locked = cond locked (cond (eqb code 0x22) 0x11 (cond (isWrite code) 0x12 0)) 0
+unfoldable pub lock_error : ℕ → Bool → ℕ
+lock_error code locked = cond locked (cond (eqb code 0x22) 0x11 (cond (is_write code) 0x12 0)) 0
 
 -- 03: only reads know the Option flag
-unfoldable pub optionError : Flags → ℕ → ℕ
-optionError q code = cond (q.option && not (isRead code)) 0x03 0
+unfoldable pub option_error : Flags → ℕ → ℕ
+option_error q code = cond (q.option && not (is_read code)) 0x03 0
 
 -- The error, 0 for none; the first that fits. 01: a code that is none of these; 02: a wrong length; "A request that names an absent block changes nothing and
 -- gets 10; else a write that names a locked one changes nothing and gets 12"; the Option flag comes last
-unfoldable pub errorOf : Tag → Flags → List ℕ → ℕ → ℕ → ℕ → ℕ → ℕ
-errorOf t q locks code m a b =
-    cond (not (isCommand code)) 0x01
-    (cond (not (eqb m (lengthDue t.size code b))) 0x02
+unfoldable pub error_of : Tag → Flags → List ℕ → ℕ → ℕ → ℕ → ℕ → ℕ
+error_of t q locks code m a b =
+    cond (not (is_command code)) 0x01
+    (cond (not (eqb m (length_due t.size code b))) 0x02
     (cond (absent t.blocks a (count_of code b)) 0x10
-    (let e : ℕ = lockError code (anyLocked locks a (count_of code b)) in
-    cond (eqb e 0) (optionError q code) e)))
+    (let e : ℕ = lock_error code (any_locked locks a (count_of code b)) in
+    cond (eqb e 0) (option_error q code) e)))
 
 -- 01 and 02 are answered only where the Address flag or the Select flag is set
-unfoldable pub failsWith : Flags → ℕ → Deed
-failsWith q e = cond (leb e 0x02 && not (q.fifth || q.sixth)) Nothing (Fails e)
+unfoldable pub fails_with : Flags → ℕ → Deed
+fails_with q e = cond (leb e 0x02 && not (q.fifth || q.sixth)) Nothing (Fails e)
 
 -- a command without error; its parameters begin at byte p of the row
 unfoldable pub done_of : Flags → ℕ → ℕ → ℕ → ℕ → Deed
 done_of q code p a b =
-    cond (isRead code) (Reads a (count_of code b) q.option)
+    cond (is_read code) (Reads a (count_of code b) q.option)
     (cond (eqb code 0x21) (Writes a 1 (p + 1))
     (cond (eqb code 0x24) (Writes a (count_of code b) (p + 2))
     (cond (eqb code 0x22) (Locks a)
     (cond (eqb code 0x25) Selects Resets))))
 
-unfoldable pub commandDeed : Tag → Flags → List ℕ → ℕ → ℕ → ℕ → ℕ → ℕ → Deed
-commandDeed t q locks code p m a b =
-    let e : ℕ = errorOf t q locks code m a b in
-    cond (eqb e 0) (done_of q code p a b) (failsWith q e)
+unfoldable pub command_deed : Tag → Flags → List ℕ → ℕ → ℕ → ℕ → ℕ → ℕ → Deed
+command_deed t q locks code p m a b =
+    let e : ℕ = error_of t q locks code m a b in
+    cond (eqb e 0) (done_of q code p a b) (fails_with q e)
 
 -- ---- requests
 
 -- the row holds this UID behind its code
-unfoldable pub isOwn : List ℕ → List ℕ → Bool
-isOwn uid f = leb 10 (bytesIn f) && matching uid f 16 64
+unfoldable pub is_own : List ℕ → List ℕ → Bool
+is_own uid f = leb 10 (bytes_in f) && matching uid f 16 64
 
 -- Address flag: only the tag with this UID; Select flag: only a selected tag; neither: every tag that is not quiet
 unfoldable pub meant : Tag → Flags → List ℕ → Bool
-meant t q f = cond q.sixth (isOwn t.uid f) (cond q.fifth (isSelected t.state) (not (isQuiet t.state)))
+meant t q f = cond q.sixth (is_own t.uid f) (cond q.fifth (is_selected t.state) (not (is_quiet t.state)))
 
 -- addressed, no Option flag, a UID and nothing behind it: the one form that stay quiet and select have
 unfoldable pub is_bare : Flags → ℕ → Bool
 is_bare q n = q.sixth && (not q.option && eqb n 10)
 
 -- the parameters stand behind the code, or behind the UID
-abbrev pub parametersAt : Flags → ℕ
-parametersAt q = cond q.sixth 10 2
+abbrev pub parameters_at : Flags → ℕ
+parameters_at q = cond q.sixth 10 2
 
 -- stay quiet is never answered, and has no effect in any other form
-abbrev pub quietDeed : Bool → Deed
-quietDeed bare = cond bare Quiets Nothing
+abbrev pub quiet_deed : Bool → Deed
+quiet_deed bare = cond bare Quiets Nothing
 
 -- a select that is not addressed
-abbrev pub loneSelect : ℕ → Bool → Bool
-loneSelect code addressed = eqb code 0x25 && not addressed
+abbrev pub lone_select : ℕ → Bool → Bool
+lone_select code addressed = eqb code 0x25 && not addressed
 
 -- a command, with its parameters
-unfoldable pub askedDeed : Tag → Flags → List ℕ → ℕ → List ℕ → Deed
-askedDeed t q locks code f =
-    let p : ℕ = parametersAt q in
-    commandDeed t q locks code p (bytesIn f - p) (byte_at p f) (byte_at (p + 1) f)
+unfoldable pub asked_deed : Tag → Flags → List ℕ → ℕ → List ℕ → Deed
+asked_deed t q locks code f =
+    let p : ℕ = parameters_at q in
+    command_deed t q locks code p (bytes_in f - p) (byte_at p f) (byte_at (p + 1) f)
 
 -- a request that is meant for the tag; inventory without its flag is nothing
-unfoldable pub ownDeed : Tag → Flags → List ℕ → List ℕ → Deed
-ownDeed t q locks f =
+unfoldable pub own_deed : Tag → Flags → List ℕ → List ℕ → Deed
+own_deed t q locks f =
     let code : ℕ = byte_at 1 f in
     cond (eqb code 0x01) Nothing
-    (cond (eqb code 0x02) (quietDeed (is_bare q (bytesIn f)))
-    (cond (loneSelect code q.sixth) Nothing
-    (askedDeed t q locks code f)))
+    (cond (eqb code 0x02) (quiet_deed (is_bare q (bytes_in f)))
+    (cond (lone_select code q.sixth) Nothing
+    (asked_deed t q locks code f)))
 
 -- of requests for others a tag heeds one: a selected tag that hears another one selected is selected no more
-unfoldable pub otherDeed : Tag → Flags → List ℕ → Deed
-otherDeed t q f = cond (isSelected t.state && (eqb (byte_at 1 f) 0x25 && is_bare q (bytesIn f))) Drops Nothing
+unfoldable pub other_deed : Tag → Flags → List ℕ → Deed
+other_deed t q f = cond (is_selected t.state && (eqb (byte_at 1 f) 0x25 && is_bare q (bytes_in f))) Drops Nothing
 
-unfoldable pub requestDeed : Tag → Flags → List ℕ → List ℕ → Deed
-requestDeed t q locks f = cond (meant t q f) (ownDeed t q locks f) (otherDeed t q f)
+unfoldable pub request_deed : Tag → Flags → List ℕ → List ℕ → Deed
+request_deed t q locks f = cond (meant t q f) (own_deed t q locks f) (other_deed t q f)
 
 -- ---- every row
 
 -- damage, and flags q that it cannot read, make a tag do nothing; nor does a tag without power
-unfoldable pub deedBy : Tag → Flags → List ℕ → List ℕ → Deed
-deedBy t q locks f = cond (not (isOff t.state) && (sound f && formed q)) (cond q.inventory (inventoryDeed t q f) (requestDeed t q locks f)) Nothing
+unfoldable pub deed_by : Tag → Flags → List ℕ → List ℕ → Deed
+deed_by t q locks f = cond (not (is_off t.state) && (sound f && formed q)) (cond q.inventory (inventory_deed t q f) (request_deed t q locks f)) Nothing
 
 unfoldable pub deed_of : Tag → List ℕ → List ℕ → Deed
-deed_of t locks f = deedBy t (flags_of (byte_at 0 f)) locks f
+deed_of t locks f = deed_by t (flags_of (byte_at 0 f)) locks f

@@ -1,19 +1,19 @@
 // How a request is read. Called by our own crates only: firmware calls those of crate tag.
 ghost use Rattle.std.specs.Prelude.{◌≡◌, true, ◌+◌, ◌*◌, ◌≤◌, ◌<◌, length};
 ghost use Rattle.rows.specs.Rows.{clean};
-ghost use Rattle.frame.specs.Frame.{airBits};
+ghost use Rattle.frame.specs.Frame.{air_bits};
 ghost use Rattle.frame_b.specs.FrameB.{byte_at};
-ghost use Rattle.frame_v.specs.FrameV.{sound, bytesIn};
-ghost use Rattle.request_v.specs.Flags.{formed, isOff, isQuiet, isSelected, listens};
-ghost use Rattle.request_v.specs.Inventory.{length_at, mostMask, isInventory, admitted, matching, slot_of, turnIn, inventoryDeed};
-ghost use Rattle.request_v.specs.Request.{isMany, isWrite, isRead, isCommand, count_of, lengthDue, absent, anyLocked, lockError, optionError, errorOf, failsWith, done_of, commandDeed, isOwn, meant, is_bare, parametersAt, loneSelect, quietDeed, askedDeed, ownDeed, otherDeed, requestDeed, deed_of};
+ghost use Rattle.frame_v.specs.FrameV.{sound, bytes_in};
+ghost use Rattle.request_v.specs.Flags.{formed, is_off, is_quiet, is_selected, listens};
+ghost use Rattle.request_v.specs.Inventory.{length_at, most_mask, is_inventory, admitted, matching, slot_of, turn_in, inventory_deed};
+ghost use Rattle.request_v.specs.Request.{is_many, is_write, is_read, is_command, count_of, length_due, absent, any_locked, lock_error, option_error, error_of, fails_with, done_of, command_deed, is_own, meant, is_bare, parameters_at, lone_select, quiet_deed, asked_deed, own_deed, other_deed, request_deed, deed_of};
 
 use crate::{Deed, Flags, StateV, Tag};
 
 // ---- the tag's state
 
 pub fn is_off(s: StateV) -> bool
-    ensures { result ≡ isOff s }
+    ensures { result ≡ is_off s }
 {
     match s {
         StateV::Off => true,
@@ -24,7 +24,7 @@ pub fn is_off(s: StateV) -> bool
 }
 
 fn is_quiet(s: StateV) -> bool
-    ensures { result ≡ isQuiet s }
+    ensures { result ≡ is_quiet s }
 {
     match s {
         StateV::Off => false,
@@ -35,7 +35,7 @@ fn is_quiet(s: StateV) -> bool
 }
 
 pub fn is_selected(s: StateV) -> bool
-    ensures { result ≡ isSelected s }
+    ensures { result ≡ is_selected s }
 {
     match s {
         StateV::Off => false,
@@ -85,7 +85,7 @@ fn byte(row: &[u8], i: usize) -> u8
 }
 
 fn uid_bits(uid: [u8; 8]) -> [u8; 64]
-    ensures { result ≡ airBits uid }
+    ensures { result ≡ air_bits uid }
 {
     let mut bits = [0u8; 64];
     frame_b::within::put_bits(&mut bits, 0, &uid);
@@ -125,7 +125,7 @@ fn length_at(q: Flags) -> usize
 }
 
 fn most_mask(one: bool) -> u8
-    ensures { result ≡ mostMask one }
+    ensures { result ≡ most_mask one }
 {
     if one {
         return 64;
@@ -134,7 +134,7 @@ fn most_mask(one: bool) -> u8
 }
 
 fn is_inventory(q: Flags, code: u8, n: usize, len: u8) -> bool
-    ensures { result ≡ isInventory q code n len }
+    ensures { result ≡ is_inventory q code n len }
 {
     if code != 0x01 {
         return false;
@@ -162,8 +162,8 @@ fn is_admitted(t: Tag, q: Flags, asked: u8) -> bool
 
 // The mask of len bits fits the UID: now, or in its slot.
 fn turn_in(uid: [u8; 8], one: bool, len: u8) -> Deed
-    requires { len ≤ mostMask one }
-    ensures { result ≡ turnIn one (slot_of uid len) }
+    requires { len ≤ most_mask one }
+    ensures { result ≡ turn_in one (slot_of uid len) }
 {
     if one {
         return Deed::Tells;
@@ -177,7 +177,7 @@ fn turn_in(uid: [u8; 8], one: bool, len: u8) -> Deed
 
 fn inventory_deed(t: Tag, q: Flags, row: &[u8]) -> Deed
     requires { sound row.now ≡ true }
-    ensures { result ≡ inventoryDeed t q row.now }
+    ensures { result ≡ inventory_deed t q row.now }
 {
     let s = t.state;
     if !is_listening(s) {
@@ -203,7 +203,7 @@ fn inventory_deed(t: Tag, q: Flags, row: &[u8]) -> Deed
 // ---- commands
 
 fn is_many(code: u8) -> bool
-    ensures { result ≡ isMany code }
+    ensures { result ≡ is_many code }
 {
     if code == 0x23 {
         return true;
@@ -212,7 +212,7 @@ fn is_many(code: u8) -> bool
 }
 
 fn is_write(code: u8) -> bool
-    ensures { result ≡ isWrite code }
+    ensures { result ≡ is_write code }
 {
     if code == 0x21 {
         return true;
@@ -221,7 +221,7 @@ fn is_write(code: u8) -> bool
 }
 
 fn is_read(code: u8) -> bool
-    ensures { result ≡ isRead code }
+    ensures { result ≡ is_read code }
 {
     if code == 0x20 {
         return true;
@@ -230,7 +230,7 @@ fn is_read(code: u8) -> bool
 }
 
 fn is_command(code: u8) -> bool
-    ensures { result ≡ isCommand code }
+    ensures { result ≡ is_command code }
 {
     if code < 0x20 {
         return false;
@@ -252,7 +252,7 @@ fn count_of(code: u8, b: u8) -> usize
 }
 
 fn length_due(size: u8, code: u8, b: u8) -> usize
-    ensures { result ≡ lengthDue size code b }
+    ensures { result ≡ length_due size code b }
 {
     if 0x25 <= code {
         return 0;
@@ -283,7 +283,7 @@ fn is_absent(blocks: u16, a: u8, n: usize) -> bool
 // Is one of the named blocks locked?
 fn is_any_locked(locks: &[u8], first: usize, count: usize) -> bool
     requires { 0 < count → first + count ≤ length locks.now }
-    ensures { result ≡ anyLocked locks.now first count }
+    ensures { result ≡ any_locked locks.now first count }
 {
     for i in 0..count {
         if locks[first + i] != 0 {
@@ -294,7 +294,7 @@ fn is_any_locked(locks: &[u8], first: usize, count: usize) -> bool
 }
 
 fn lock_error(code: u8, locked: bool) -> u8
-    ensures { result ≡ lockError code locked }
+    ensures { result ≡ lock_error code locked }
 {
     if !locked {
         return 0;
@@ -309,7 +309,7 @@ fn lock_error(code: u8, locked: bool) -> u8
 }
 
 fn option_error(q: Flags, code: u8) -> u8
-    ensures { result ≡ optionError q code }
+    ensures { result ≡ option_error q code }
 {
     if !q.option {
         return 0;
@@ -322,7 +322,7 @@ fn option_error(q: Flags, code: u8) -> u8
 
 fn error_of(t: Tag, q: Flags, locks: &[u8], code: u8, m: usize, a: u8, b: u8) -> u8
     requires { t.blocks ≤ length locks.now }
-    ensures { result ≡ errorOf t q locks.now code m a b }
+    ensures { result ≡ error_of t q locks.now code m a b }
 {
     if !is_command(code) {
         return 0x01;
@@ -343,7 +343,7 @@ fn error_of(t: Tag, q: Flags, locks: &[u8], code: u8, m: usize, a: u8, b: u8) ->
 }
 
 fn fails_with(q: Flags, e: u8) -> Deed
-    ensures { result ≡ failsWith q e }
+    ensures { result ≡ fails_with q e }
 {
     if e > 0x02 {
         return Deed::Fails(e);
@@ -395,7 +395,7 @@ fn done_of(q: Flags, code: u8, p: usize, a: u8, b: u8) -> Deed
 
 fn command_deed(t: Tag, q: Flags, locks: &[u8], code: u8, p: usize, m: usize, a: u8, b: u8) -> Deed
     requires { (t.blocks ≤ length locks.now) × (p ≤ 10) }
-    ensures { result ≡ commandDeed t q locks.now code p m a b }
+    ensures { result ≡ command_deed t q locks.now code p m a b }
 {
     let e = error_of(t, q, locks, code, m, a, b);
     if e == 0 {
@@ -408,7 +408,7 @@ fn command_deed(t: Tag, q: Flags, locks: &[u8], code: u8, p: usize, m: usize, a:
 
 fn is_own(uid: [u8; 8], row: &[u8]) -> bool
     requires { sound row.now ≡ true }
-    ensures { result ≡ isOwn uid row.now }
+    ensures { result ≡ is_own uid row.now }
 {
     if row.len() / 8 - 2 < 10 {
         return false;
@@ -444,7 +444,7 @@ fn is_bare(q: Flags, n: usize) -> bool
 }
 
 fn parameters_at(q: Flags) -> usize
-    ensures value { result ≡ parametersAt q }
+    ensures value { result ≡ parameters_at q }
     ensures upper_bound { result ≤ 10 }
 {
     if q.sixth {
@@ -455,7 +455,7 @@ fn parameters_at(q: Flags) -> usize
 
 // Select is always addressed.
 fn is_lone_select(code: u8, addressed: bool) -> bool
-    ensures { result ≡ loneSelect code addressed }
+    ensures { result ≡ lone_select code addressed }
 {
     if code == 0x25 {
         return !addressed;
@@ -465,7 +465,7 @@ fn is_lone_select(code: u8, addressed: bool) -> bool
 
 // Stay quiet, in its one form or another.
 fn quiet_deed(bare: bool) -> Deed
-    ensures { result ≡ quietDeed bare }
+    ensures { result ≡ quiet_deed bare }
 {
     if bare {
         return Deed::Quiets;
@@ -475,8 +475,8 @@ fn quiet_deed(bare: bool) -> Deed
 
 // A request that is meant for the tag, and is neither inventory nor stay quiet.
 fn asked_deed(t: Tag, q: Flags, locks: &[u8], code: u8, row: &[u8]) -> Deed
-    requires { (sound row.now ≡ true) × (t.blocks ≤ length locks.now) × (parametersAt q ≤ bytesIn row.now) }
-    ensures { result ≡ askedDeed t q locks.now code row.now }
+    requires { (sound row.now ≡ true) × (t.blocks ≤ length locks.now) × (parameters_at q ≤ bytes_in row.now) }
+    ensures { result ≡ asked_deed t q locks.now code row.now }
 {
     let p = parameters_at(q);
     let a = byte(row, p);
@@ -485,8 +485,8 @@ fn asked_deed(t: Tag, q: Flags, locks: &[u8], code: u8, row: &[u8]) -> Deed
 }
 
 fn own_deed(t: Tag, q: Flags, locks: &[u8], row: &[u8]) -> Deed
-    requires { (sound row.now ≡ true) × (t.blocks ≤ length locks.now) × (parametersAt q ≤ bytesIn row.now) }
-    ensures { result ≡ ownDeed t q locks.now row.now }
+    requires { (sound row.now ≡ true) × (t.blocks ≤ length locks.now) × (parameters_at q ≤ bytes_in row.now) }
+    ensures { result ≡ own_deed t q locks.now row.now }
 {
     let code = byte(row, 1);
     if code == 0x01 {
@@ -503,7 +503,7 @@ fn own_deed(t: Tag, q: Flags, locks: &[u8], row: &[u8]) -> Deed
 
 fn other_deed(t: Tag, q: Flags, row: &[u8]) -> Deed
     requires { sound row.now ≡ true }
-    ensures { result ≡ otherDeed t q row.now }
+    ensures { result ≡ other_deed t q row.now }
 {
     let s = t.state;
     if !is_selected(s) {
@@ -521,7 +521,7 @@ fn other_deed(t: Tag, q: Flags, row: &[u8]) -> Deed
 
 fn request_deed(t: Tag, q: Flags, locks: &[u8], row: &[u8]) -> Deed
     requires { (sound row.now ≡ true) × (t.blocks ≤ length locks.now) }
-    ensures { result ≡ requestDeed t q locks.now row.now }
+    ensures { result ≡ request_deed t q locks.now row.now }
 {
     if is_meant(t, q, row) {
         return own_deed(t, q, locks, row);

@@ -5,23 +5,23 @@ use Rattle.std.proofs.lemmas.List.{set_split}
 use Rattle.std.proofs.Math.Seq.{drop-append-add, take-append_seam}
 use Rattle.rows.specs.Rows.{overlay}
 
-pub length-overlay : (d : List ℕ) (at : ℕ) (s : List ℕ) → at + length s ≤ length d → length (overlay d at s) ≡ length d
+pub length_overlay : (d : List ℕ) (at : ℕ) (s : List ℕ) → at + length s ≤ length d → length (overlay d at s) ≡ length d
 unfolding overlay
-length-overlay d at s h = simp (length-append, length-take, length-drop) (omega arith)
+length_overlay d at s h = simp (length-append, length-take, length-drop) (omega arith)
 
 -- nothing written changes nothing
-pub overlay-nil : (d : List ℕ) (at : ℕ) → overlay d at [] ≡ d
+pub overlay_nil : (d : List ℕ) (at : ℕ) → overlay d at [] ≡ d
 unfolding overlay
-overlay-nil d at = rw (add-zero, take-append-drop)
+overlay_nil d at = rw (add-zero, take-append-drop)
 
 drop_past : (p q : List ℕ) (n k : ℕ) → length p ≡ n → drop (n + k) (p ++ q) ≡ drop k q
 drop_past p q n k e = rw (← e, drop-append-add)
 
 -- two rows written one behind the other are one row
-pub overlay-next : (d : List ℕ) (at : ℕ) (s t : List ℕ) → at + length s + length t ≤ length d
+pub overlay_next : (d : List ℕ) (at : ℕ) (s t : List ℕ) → at + length s + length t ≤ length d
     → overlay (overlay d at s) (at + length s) t ≡ overlay d at (s ++ t)
 unfolding overlay
-overlay-next d at s t h =
+overlay_next d at s t h =
     let p : List ℕ = take at d ++ s in
     let r : List ℕ = drop (at + length s) d in
     let e : length p ≡ at + length s = simp (length-append, length-take) (omega arith) in
@@ -37,43 +37,43 @@ overlay-next d at s t h =
     )
 
 -- a store is a row of one element written
-pub overlay-one : (d : List ℕ) (at v : ℕ) → at < length d → set d at v ≡ overlay d at (v ∷ [])
+pub overlay_one : (d : List ℕ) (at v : ℕ) → at < length d → set d at v ≡ overlay d at (v ∷ [])
 unfolding overlay
-overlay-one d at v h = rw (set_split d at v h, add-one)
+overlay_one d at v h = rw (set_split d at v h, add-one)
 
 -- one element more is stored behind a row
-pub overlay-set : (d : List ℕ) (at : ℕ) (s : List ℕ) (v : ℕ) → at + length s < length d
+pub overlay_set : (d : List ℕ) (at : ℕ) (s : List ℕ) (v : ℕ) → at + length s < length d
     → set (overlay d at s) (at + length s) v ≡ overlay d at (s ++ (v ∷ []))
-overlay-set d at s v h =
-    overlay-one (overlay d at s) (at + length s) v (rw (length-overlay d at s (omega arith)) h)
-    ∙ overlay-next d at s (v ∷ []) (omega arith)
+overlay_set d at s v h =
+    overlay_one (overlay d at s) (at + length s) v (rw (length_overlay d at s (omega arith)) h)
+    ∙ overlay_next d at s (v ∷ []) (omega arith)
 
 -- a turn of the loop that copies
-pub overlay-copy : (d : List ℕ) (at : ℕ) (s : List ℕ) (i : ℕ) → at + i < length d → i < length s
+pub overlay_copy : (d : List ℕ) (at : ℕ) (s : List ℕ) (i : ℕ) → at + i < length d → i < length s
     → set (overlay d at (take i s)) (at + i) (get_or s i 0) ≡ overlay d at (take (i + 1) s)
-overlay-copy d at s i h l =
+overlay_copy d at s i h l =
     let e : length (take i s) ≡ i = length-take-le i s (omega arith) in
-    rw (add-one, take-suc s i 0) (rw e at (overlay-set d at (take i s) (get_or s i 0) (rw e h)))
+    rw (add-one, take-suc s i 0) (rw e at (overlay_set d at (take i s) (get_or s i 0) (rw e h)))
 
 -- a row written at the start of the part from k on is written at k: the rest of a `&mut` slice, lent on
-pub overlay-part : (d : List ℕ) (k : ℕ) (s : List ℕ) → k ≤ length d
+pub overlay_part : (d : List ℕ) (k : ℕ) (s : List ℕ) → k ≤ length d
     → take k d ++ (overlay (take (length d - k) (drop k d)) 0 s ++ drop (length d - k) (drop k d)) ≡ overlay d k s
 unfolding overlay
-overlay-part d k s h =
+overlay_part d k s h =
     let e : length (drop k d) ≤ length d - k = simp length-drop (omega arith) in
     rw (take_all (length d - k) (drop k d) e, drop_of_length-le (drop k d) e, append-nil, zero-add, drop-drop)
 
 -- what stands at the front of a row after a row was written there
-pub overlay-front : (d s : List ℕ) → take (length s) (overlay d 0 s) ≡ s
+pub overlay_front : (d s : List ℕ) → take (length s) (overlay d 0 s) ≡ s
 unfolding overlay
-overlay-front d s = take-append_seam s (drop (0 + length s) d)
+overlay_front d s = take-append_seam s (drop (0 + length s) d)
 
 -- .. which the row is long enough for
-pub overlay-fits : (d s : List ℕ) → length s ≤ length (overlay d 0 s)
+pub overlay_fits : (d s : List ℕ) → length s ≤ length (overlay d 0 s)
 unfolding overlay
-overlay-fits d s = simp length-append (omega arith)
+overlay_fits d s = simp length-append (omega arith)
 
 -- a row written over one that is as long takes its place
-pub overlay-all : (d s : List ℕ) → length d ≡ length s → overlay d 0 s ≡ s
+pub overlay_all : (d s : List ℕ) → length d ≡ length s → overlay d 0 s ≡ s
 unfolding overlay
-overlay-all d s e = rw (zero-add, ← e, drop_of_length-le d {i = length d} (omega arith), append-nil)
+overlay_all d s e = rw (zero-add, ← e, drop_of_length-le d {i = length d} (omega arith), append-nil)

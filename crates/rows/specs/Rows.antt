@@ -7,9 +7,9 @@ unfoldable pub overlay : List ℕ → ℕ → List ℕ → List ℕ
 overlay d at s = take at d ++ (s ++ drop (at + length s) d)
 
 -- "Where none sends, the row is empty"
-unfoldable pub isNil : List ℕ → Bool
-isNil [] = true
-isNil (x ∷ r) = false
+unfoldable pub is_nil : List ℕ → Bool
+is_nil [] = true
+is_nil (x ∷ r) = false
 
 -- no bit of a received row collided
 unfoldable pub clean : List ℕ → Bool

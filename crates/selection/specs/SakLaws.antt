@@ -1,27 +1,27 @@
 -- A SAK that our cards send is read as it was sent. Assumes nothing.
 use Rattle.std.specs.Prelude.{◌≡◌, refl, Bool, true, false, cond}
-use Rattle.rows.specs.Rows.{isNil, clean, same}
-use Rattle.parity.specs.Bits.{bitsOf, unbits, ones, odd}
-use Rattle.crc.specs.Crc.{shift, shifts, crcByte, crcFrom, crcA, crcBytes, withCrc}
-use Rattle.frame.specs.Frame.{airByte, standard, data_of, bytesOf, firstWrong, faulty}
-use Rattle.selection.specs.Heard.{readSak}
-use Rattle.selection.specs.Selection.{sakFrame}
+use Rattle.rows.specs.Rows.{is_nil, clean, same}
+use Rattle.parity.specs.Bits.{bits_of, unbits, ones, odd}
+use Rattle.crc.specs.Crc.{shift, shifts, crc_byte, crc_from, crc_a, crc_bytes, with_crc}
+use Rattle.frame.specs.Frame.{air_byte, standard, data_of, bytes_of, first_wrong, faulty}
+use Rattle.selection.specs.Heard.{read_sak}
+use Rattle.selection.specs.Selection.{sak_frame}
 use Rattle.selection.specs.declared.SakRead.TheVariants.{Sak}
 
-pub reads_more : readSak (sakFrame 0x04) ≡ Sak 0x04
-unfolding readSak sakFrame standard airByte withCrc crcBytes crcA crcFrom crcByte shifts shift bitsOf unbits odd ones data_of bytesOf firstWrong faulty same clean isNil
+pub reads_more : read_sak (sak_frame 0x04) ≡ Sak 0x04
+unfolding read_sak sak_frame standard air_byte with_crc crc_bytes crc_a crc_from crc_byte shifts shift bits_of unbits odd ones data_of bytes_of first_wrong faulty same clean is_nil
 reads_more = refl
 
-pub reads-last : (b : Bool) → readSak (sakFrame (cond b 0x20 0x00)) ≡ Sak (cond b 0x20 0x00)
-unfolding readSak sakFrame standard airByte withCrc crcBytes crcA crcFrom crcByte shifts shift bitsOf unbits odd ones data_of bytesOf firstWrong faulty same clean isNil
-reads-last true = refl
-reads-last false = refl
+pub reads_last : (b : Bool) → read_sak (sak_frame (cond b 0x20 0x00)) ≡ Sak (cond b 0x20 0x00)
+unfolding read_sak sak_frame standard air_byte with_crc crc_bytes crc_a crc_from crc_byte shifts shift bits_of unbits odd ones data_of bytes_of first_wrong faulty same clean is_nil
+reads_last true = refl
+reads_last false = refl
 
-pub clean-more : clean (sakFrame 0x04) ≡ true
-unfolding sakFrame standard airByte withCrc crcBytes crcA crcFrom crcByte shifts shift bitsOf odd ones clean
-clean-more = refl
+pub clean_more : clean (sak_frame 0x04) ≡ true
+unfolding sak_frame standard air_byte with_crc crc_bytes crc_a crc_from crc_byte shifts shift bits_of odd ones clean
+clean_more = refl
 
-pub clean-last : (b : Bool) → clean (sakFrame (cond b 0x20 0x00)) ≡ true
-unfolding sakFrame standard airByte withCrc crcBytes crcA crcFrom crcByte shifts shift bitsOf odd ones clean
-clean-last true = refl
-clean-last false = refl
+pub clean_last : (b : Bool) → clean (sak_frame (cond b 0x20 0x00)) ≡ true
+unfolding sak_frame standard air_byte with_crc crc_bytes crc_a crc_from crc_byte shifts shift bits_of odd ones clean
+clean_last true = refl
+clean_last false = refl

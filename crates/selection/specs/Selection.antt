@@ -2,7 +2,7 @@
 -- A level on the air is one row of 45 bits, its five bytes with parity. Where k of its 40 data bits are known, the reader has sent
 -- the first k + k / 8 of them and the card answers the rest.
 use Rattle.std.specs.Prelude.{ℕ, ◌+◌, ◌*◌, ◌/◌, ◌%◌, cond, List, [], ◌∷◌, ◌++◌, take, drop, get_or, ltb}
-use Rattle.crc.specs.Crc.{withCrc}
+use Rattle.crc.specs.Crc.{with_crc}
 use Rattle.frame.specs.Frame.{short, standard}
 use Rattle.uid.specs.declared.Level.{Level}
 use Rattle.uid.specs.declared.Level.TheVariants.{One, Two, Three}
@@ -32,7 +32,7 @@ wupa = short 0x52
 
 -- "HLTA: 50 00 and CRC_A"
 unfoldable pub hlta : List ℕ
-hlta = standard (withCrc (0x50 ∷ 0x00 ∷ []))
+hlta = standard (with_crc (0x50 ∷ 0x00 ∷ []))
 
 -- "ANTICOLLISION: SEL .., NVB, then k bits of that level's five bytes"
 unfoldable pub anticollision : Level → ℕ → List ℕ → List ℕ
@@ -44,32 +44,32 @@ others k five = drop (cut k) (standard five)
 
 -- "SELECT: SEL, 70, the five bytes, CRC_A"
 unfoldable pub select : Level → List ℕ → List ℕ
-select l five = standard (withCrc (sel l ∷ 0x70 ∷ five))
+select l five = standard (with_crc (sel l ∷ 0x70 ∷ five))
 
 -- "The answer is SAK and CRC_A"
-unfoldable pub sakFrame : ℕ → List ℕ
-sakFrame s = standard (withCrc (s ∷ []))
+unfoldable pub sak_frame : ℕ → List ℕ
+sak_frame s = standard (with_crc (s ∷ []))
 
 -- "ATQA 04 00, 44 00 or 84 00 for 4, 7, 10 bytes, first byte first"
-abbrev pub atqaByte : UidSize → ℕ
-atqaByte Single = 0x04
-atqaByte Double = 0x44
-atqaByte Triple = 0x84
+abbrev pub atqa_byte : UidSize → ℕ
+atqa_byte Single = 0x04
+atqa_byte Double = 0x44
+atqa_byte Triple = 0x84
 
 unfoldable pub atqa : UidSize → List ℕ
-atqa z = standard (atqaByte z ∷ 0x00 ∷ [])
+atqa z = standard (atqa_byte z ∷ 0x00 ∷ [])
 
 -- "RATS: E0, then FSDI in the high half and CID 0, CRC_A"
 unfoldable pub rats : ℕ → List ℕ
-rats fsdi = standard (withCrc (0xE0 ∷ 16 * fsdi ∷ []))
+rats fsdi = standard (with_crc (0xE0 ∷ 16 * fsdi ∷ []))
 
 -- "Our card's ATS is 02, then FSCI, CRC_A"
 unfoldable pub ats : ℕ → List ℕ
-ats fsci = standard (withCrc (0x02 ∷ fsci ∷ []))
+ats fsci = standard (with_crc (0x02 ∷ fsci ∷ []))
 
 -- "9 to 15 read as 8 (house rule)", and so does every larger index
-abbrev pub atMost8 : ℕ → ℕ
-atMost8 i = cond (ltb 8 i) 8 i
+abbrev pub at_most8 : ℕ → ℕ
+at_most8 i = cond (ltb 8 i) 8 i
 
 -- "Sizes for index 0 to 8: 16, 24, 32, 40, 48, 64, 96, 128, 256"
 unfoldable pub size : ℕ → ℕ

@@ -3,97 +3,97 @@ use Rattle.std.specs.Prelude.{◌≡◌, ℕ, ◌+◌, ◌-◌, ◌*◌, ◌≤�
 use Rattle.std.proofs.Math.Path.{sym, ap}
 use Rattle.std.proofs.Common.{ap₂, ◌∙◌, length-append, length-take, take-append-drop, length-take-le, arith}
 use Rattle.std.proofs.lemmas.List.{append_cancel_left}
-use Rattle.rows.specs.EachLaws.{parts-equal}
+use Rattle.rows.specs.EachLaws.{parts_equal}
 use Rattle.rows.specs.Rows.{Bits, fill}
-use Rattle.parity.specs.BitLaws.{length-bits}
-use Rattle.crc.specs.Crc.{withCrc, crcBytes}
-use Rattle.frame.specs.ByteLaws.{bits-bytes, length-bytes, length-airBits, airBits-append}
-use Rattle.frame.specs.Frame.{airBits, short, standard, bytesOf}
-use Rattle.frame.specs.FrameLaws.{length-standard}
-use Rattle.crc.specs.CrcLaws.{length-with}
-use Rattle.frame.specs.TellLaws.{standard-bits}
-use Rattle.selection.specs.SealLaws.{seal, standard-seal, take-seal, seal-same}
-use Rattle.selection.specs.Selection.{rats, cut, sel, nvb, reqa, wupa, hlta, anticollision, select, sakFrame}
+use Rattle.parity.specs.BitLaws.{length_bits}
+use Rattle.crc.specs.Crc.{with_crc, crc_bytes}
+use Rattle.frame.specs.ByteLaws.{bits_bytes, length_bytes, length_air_bits, air_bits_append}
+use Rattle.frame.specs.Frame.{air_bits, short, standard, bytes_of}
+use Rattle.frame.specs.FrameLaws.{length_standard}
+use Rattle.crc.specs.CrcLaws.{length_with}
+use Rattle.frame.specs.TellLaws.{standard_bits}
+use Rattle.selection.specs.SealLaws.{seal, standard_seal, take_seal, seal_same}
+use Rattle.selection.specs.Selection.{rats, cut, sel, nvb, reqa, wupa, hlta, anticollision, select, sak_frame}
 use Rattle.uid.specs.declared.Level.{Level}
 
-pub length-reqa : length reqa ≡ 7
+pub length_reqa : length reqa ≡ 7
 unfolding reqa short
-length-reqa = length-bits 7 0x26
+length_reqa = length_bits 7 0x26
 
-pub length-wupa : length wupa ≡ 7
+pub length_wupa : length wupa ≡ 7
 unfolding wupa short
-length-wupa = length-bits 7 0x52
+length_wupa = length_bits 7 0x52
 
-pub length-hlta : length hlta ≡ 36
+pub length_hlta : length hlta ≡ 36
 unfolding hlta
-length-hlta = length-standard (withCrc (0x50 ∷ 0x00 ∷ [])) ∙ rw length-with
+length_hlta = length_standard (with_crc (0x50 ∷ 0x00 ∷ [])) ∙ rw length_with
 
-pub length-rats : (i : ℕ) → length (rats i) ≡ 36
+pub length_rats : (i : ℕ) → length (rats i) ≡ 36
 unfolding rats
-length-rats i = length-standard (withCrc (0xE0 ∷ 16 * i ∷ [])) ∙ rw length-with
+length_rats i = length_standard (with_crc (0xE0 ∷ 16 * i ∷ [])) ∙ rw length_with
 
-pub length-anti : (l : Level) (k : ℕ) (five : List ℕ) → length five ≡ 5 → k ≤ 40 → length (anticollision l k five) ≡ 18 + cut k
+pub length_anti : (l : Level) (k : ℕ) (five : List ℕ) → length five ≡ 5 → k ≤ 40 → length (anticollision l k five) ≡ 18 + cut k
 unfolding anticollision
-length-anti l k five h m = rw (length-append, length-standard, length-take, length-standard, h) (omega arith)
+length_anti l k five h m = rw (length-append, length_standard, length-take, length_standard, h) (omega arith)
 
-pub length-select : (l : Level) (five : List ℕ) → length five ≡ 5 → length (select l five) ≡ 81
+pub length_select : (l : Level) (five : List ℕ) → length five ≡ 5 → length (select l five) ≡ 81
 unfolding select
-length-select l five h = rw (length-standard, length-with) (omega arith)
+length_select l five h = rw (length_standard, length_with) (omega arith)
 
-pub length-sak : (b : ℕ) → length (sakFrame b) ≡ 27
-unfolding sakFrame
-length-sak b = length-standard (withCrc (b ∷ [])) ∙ rw length-with
+pub length_sak : (b : ℕ) → length (sak_frame b) ≡ 27
+unfolding sak_frame
+length_sak b = length_standard (with_crc (b ∷ [])) ∙ rw length_with
 
 -- ---- ANTICOLLISION: the level's row, cut
 
-module _ (five K x : List ℕ) (h : length five ≡ 5) (e : airBits five ≡ K ++ x) where
+module _ (five K x : List ℕ) (h : length five ≡ 5) (e : air_bits five ≡ K ++ x) where
   row_is : standard five ≡ seal 5 (K ++ x)
-  row_is = standard-seal five ∙ ap₂ seal h e
+  row_is = standard_seal five ∙ ap₂ seal h e
 
   sizes : length K + length x ≡ 40
-  sizes = sym (length-append K x) ∙ ap length (sym e) ∙ length-airBits five ∙ ap (λ n. 8 * n) h
+  sizes = sym (length-append K x) ∙ ap length (sym e) ∙ length_air_bits five ∙ ap (λ n. 8 * n) h
 
   pub sent_is : take (cut (length K)) (standard five) ≡ seal 5 K
-  sent_is = rw row_is (take-seal 5 K x sizes)
+  sent_is = rw row_is (take_seal 5 K x sizes)
 
-  pub rest-is : drop (cut (length K)) (standard five) ≡ drop (cut (length K)) (seal 5 (K ++ x))
-  rest-is = rw row_is
+  pub rest_is : drop (cut (length K)) (standard five) ≡ drop (cut (length K)) (seal 5 (K ++ x))
+  rest_is = rw row_is
 
 -- what the reader sends of the bits K that it knows
-pub sent-known : (K : List ℕ) → Bits K → length K ≤ 40 → take (cut (length K)) (standard (bytesOf 5 K)) ≡ seal 5 K
+pub sent_known : (K : List ℕ) → Bits K → length K ≤ 40 → take (cut (length K)) (standard (bytes_of 5 K)) ≡ seal 5 K
 unfolding fill
-sent-known K b h = sent_is (bytesOf 5 K) K (replicate (40 - length K) 0) (length-bytes 5 K) (bits-bytes 5 K b h)
+sent_known K b h = sent_is (bytes_of 5 K) K (replicate (40 - length K) 0) (length_bytes 5 K) (bits_bytes 5 K b h)
 
 module _ (l : Level) (five K : List ℕ) (h : length five ≡ 5) (b : Bits K) (m : length K ≤ 40) where
-  pub anti-same : (x : List ℕ) → airBits five ≡ K ++ x → anticollision l (length K) (bytesOf 5 K) ≡ anticollision l (length K) five
+  pub anti_same : (x : List ℕ) → air_bits five ≡ K ++ x → anticollision l (length K) (bytes_of 5 K) ≡ anticollision l (length K) five
   unfolding anticollision
-  anti-same x e = ap (λ r. standard (sel l ∷ nvb (length K) ∷ []) ++ r) (sent-known K b m ∙ sym (sent_is five K x h e))
+  anti_same x e = ap (λ r. standard (sel l ∷ nvb (length K) ∷ []) ++ r) (sent_known K b m ∙ sym (sent_is five K x h e))
 
 -- an ANTICOLLISION tells its bits
-pub anti-bits : (l : Level) (k : ℕ) (a c : List ℕ) → length a ≡ 5 → length c ≡ 5 → k ≤ 40 → anticollision l k a ≡ anticollision l k c → take k (airBits a) ≡ take k (airBits c)
+pub anti_bits : (l : Level) (k : ℕ) (a c : List ℕ) → length a ≡ 5 → length c ≡ 5 → k ≤ 40 → anticollision l k a ≡ anticollision l k c → take k (air_bits a) ≡ take k (air_bits c)
 unfolding anticollision
-anti-bits l k a c ha hc m e =
-    seal-same 5 (take k (airBits a)) (take k (airBits c)) (k-long a ha ∙ sym (k-long c hc)) (rw (k-long a ha) m)
+anti_bits l k a c ha hc m e =
+    seal_same 5 (take k (air_bits a)) (take k (air_bits c)) (k_long a ha ∙ sym (k_long c hc)) (rw (k_long a ha) m)
     (sym (sent a ha) ∙ append_cancel_left (standard (sel l ∷ nvb k ∷ [])) _ _ e ∙ sent c hc)
   where
-    k-long : (five : List ℕ) → length five ≡ 5 → length (take k (airBits five)) ≡ k
-    k-long five h = length-take-le k (airBits five) (rw (length-airBits, h) m)
+    k_long : (five : List ℕ) → length five ≡ 5 → length (take k (air_bits five)) ≡ k
+    k_long five h = length-take-le k (air_bits five) (rw (length_air_bits, h) m)
 
-    sent : (five : List ℕ) → length five ≡ 5 → take (cut k) (standard five) ≡ seal 5 (take k (airBits five))
-    sent five h = rw (k-long five h) at (sent_is five (take k (airBits five)) (drop k (airBits five)) h (sym (take-append-drop k (airBits five))))
+    sent : (five : List ℕ) → length five ≡ 5 → take (cut k) (standard five) ≡ seal 5 (take k (air_bits five))
+    sent five h = rw (k_long five h) at (sent_is five (take k (air_bits five)) (drop k (air_bits five)) h (sym (take-append-drop k (air_bits five))))
 
 -- ---- SELECT
 
-crc-tells : (l m : List ℕ) → length l ≡ length m → standard (withCrc l) ≡ standard (withCrc m) → airBits l ≡ airBits m
-unfolding withCrc crcBytes
-crc-tells l m h e =
-    let b : airBits (l ++ crcBytes l) ≡ airBits (m ++ crcBytes m) = standard-bits (l ++ crcBytes l) (m ++ crcBytes m) e in
-    (parts-equal (8 * length l) (airBits l) (airBits m) (airBits (crcBytes l)) (airBits (crcBytes m)) (length-airBits l) (rw (length-airBits m) (omega arith))
-    (sym (airBits-append l (crcBytes l)) ∙ b ∙ airBits-append m (crcBytes m))).0
+crc_tells : (l m : List ℕ) → length l ≡ length m → standard (with_crc l) ≡ standard (with_crc m) → air_bits l ≡ air_bits m
+unfolding with_crc crc_bytes
+crc_tells l m h e =
+    let b : air_bits (l ++ crc_bytes l) ≡ air_bits (m ++ crc_bytes m) = standard_bits (l ++ crc_bytes l) (m ++ crc_bytes m) e in
+    (parts_equal (8 * length l) (air_bits l) (air_bits m) (air_bits (crc_bytes l)) (air_bits (crc_bytes m)) (length_air_bits l) (rw (length_air_bits m) (omega arith))
+    (sym (air_bits_append l (crc_bytes l)) ∙ b ∙ air_bits_append m (crc_bytes m))).0
 
-pub select-tells : (l : Level) (a c : List ℕ) → length a ≡ 5 → length c ≡ 5 → select l a ≡ select l c → airBits a ≡ airBits c
+pub select_tells : (l : Level) (a c : List ℕ) → length a ≡ 5 → length c ≡ 5 → select l a ≡ select l c → air_bits a ≡ air_bits c
 unfolding select
-select-tells l a c ha hc e =
+select_tells l a c ha hc e =
     let H : List ℕ = sel l ∷ 0x70 ∷ [] in
-    append_cancel_left (airBits H) (airBits a) (airBits c)
-    (sym (airBits-append H a) ∙ crc-tells (H ++ a) (H ++ c) (omega arith) e ∙ airBits-append H c)
+    append_cancel_left (air_bits H) (air_bits a) (air_bits c)
+    (sym (air_bits_append H a) ∙ crc_tells (H ++ a) (H ++ c) (omega arith) e ∙ air_bits_append H c)

@@ -3,25 +3,25 @@ use Rattle.std.specs.Prelude.{◌≡◌, refl, Bool, true, false, cond, List, []
 use Rattle.std.proofs.Common.{sym, not-suc-le-zero, arith, ltb-false}
 use Rattle.std.proofs.Math.ListN.{get_or-eq_default}
 use Rattle.rows.specs.Rows.{All}
-use Rattle.selection.specs.Selection.{atMost8, size}
+use Rattle.selection.specs.Selection.{at_most8, size}
 
 -- what lies past a table's end is not read
-getD-in : (l : List ℕ) (i d e : ℕ) → i < length l → get_or l i d ≡ get_or l i e
-getD-in [] i d e h = absurd (not-suc-le-zero h)
-getD-in (x ∷ l) zero d e h = refl
-getD-in (x ∷ l) (suc i) d e h = getD-in l i d e (omega arith)
+get_d_in : (l : List ℕ) (i d e : ℕ) → i < length l → get_or l i d ≡ get_or l i e
+get_d_in [] i d e h = absurd (not-suc-le-zero h)
+get_d_in (x ∷ l) zero d e h = refl
+get_d_in (x ∷ l) (suc i) d e h = get_d_in l i d e (omega arith)
 
 pub size_small : (i : ℕ) → i < 8 → get_or (16 ∷ 24 ∷ 32 ∷ 40 ∷ 48 ∷ 64 ∷ 96 ∷ 128 ∷ []) i 0 ≡ size i
 unfolding size
-size_small i h = getD-in (16 ∷ 24 ∷ 32 ∷ 40 ∷ 48 ∷ 64 ∷ 96 ∷ 128 ∷ []) i 0 256 h
+size_small i h = get_d_in (16 ∷ 24 ∷ 32 ∷ 40 ∷ 48 ∷ 64 ∷ 96 ∷ 128 ∷ []) i 0 256 h
 
-pub size-large : (i : ℕ) → 8 ≤ i → 256 ≡ size i
+pub size_large : (i : ℕ) → 8 ≤ i → 256 ≡ size i
 unfolding size
-size-large i h = sym (get_or-eq_default (16 ∷ 24 ∷ 32 ∷ 40 ∷ 48 ∷ 64 ∷ 96 ∷ 128 ∷ []) 256 h)
+size_large i h = sym (get_or-eq_default (16 ∷ 24 ∷ 32 ∷ 40 ∷ 48 ∷ 64 ∷ 96 ∷ 128 ∷ []) 256 h)
 
 -- "9 to 15 read as 8"
-pub index-most : (i : ℕ) → atMost8 i ≤ 8
-index-most i = go (ltb 8 i) refl
+pub index_most : (i : ℕ) → at_most8 i ≤ 8
+index_most i = go (ltb 8 i) refl
   where
     go : (b : Bool) → ltb 8 i ≡ b → cond b 8 i ≤ 8
     go true e = omega arith
@@ -32,8 +32,8 @@ at_most [] k h = omega arith
 at_most (x ∷ l) zero h = h.0
 at_most (x ∷ l) (suc k) h = at_most l k h.1
 
-pub size-most : (i : ℕ) → size i ≤ 256
+pub size_most : (i : ℕ) → size i ≤ 256
 unfolding size
-size-most i =
+size_most i =
     at_most (16 ∷ 24 ∷ 32 ∷ 40 ∷ 48 ∷ 64 ∷ 96 ∷ 128 ∷ []) i
     (omega arith, (omega arith, (omega arith, (omega arith, (omega arith, (omega arith, (omega arith, (omega arith, tt))))))))

@@ -1,7 +1,7 @@
 // ATS, as the reader reads it: the card's size index, or why not.
 ghost use Rattle.std.specs.Prelude.{◌≡◌};
-ghost use Rattle.selection.specs.Heard.{announced, atsBytes, readAts};
-ghost use Rattle.selection.specs.Says.{atsSays};
+ghost use Rattle.selection.specs.Heard.{announced, ats_bytes, read_ats};
+ghost use Rattle.selection.specs.Says.{ats_says};
 
 use crate::AtsRead;
 use frame::Received;
@@ -17,7 +17,7 @@ fn announced(t0: u8) -> usize
 
 // The bytes of an ATS, CRC_A left out.
 fn read_bytes(l: &[u8]) -> AtsRead
-    ensures { result ≡ atsBytes l.now }
+    ensures { result ≡ ats_bytes l.now }
 {
     if l.len() == 0 {
         return AtsRead::NotAts(Refusal::Forbidden);
@@ -44,8 +44,8 @@ fn read_bytes(l: &[u8]) -> AtsRead
 
 // ATS, heard by a reader of this size index.
 pub fn read_ats(own: u8, row: &[u8]) -> AtsRead
-    ensures value { result ≡ readAts own row.now }
-    ensures result_value { atsSays result ≡ atsSays (readAts own row.now) }
+    ensures value { result ≡ read_ats own row.now }
+    ensures result_value { ats_says result ≡ ats_says (read_ats own row.now) }
 {
     if row.len() == 0 {
         return AtsRead::NotAts(Refusal::Silence);

@@ -3,17 +3,17 @@ ghost use Rattle.std.specs.Prelude.{◌≡◌, ◌<◌, ◌≤◌, take};
 ghost use Rattle.rows.specs.Rows.{same};
 ghost use Rattle.uid.specs.Uid.{level};
 ghost use Rattle.frame.specs.Frame.{data_of};
-ghost use Rattle.selection.specs.Level.{firstCollided, levelSays};
-ghost use Rattle.selection.specs.Heard.{readAtqa, notRest, restPlace, readRest, readSak};
-ghost use Rattle.selection.specs.Says.{atqaSays, restSays, sakSays};
+ghost use Rattle.selection.specs.Level.{first_collided, level_says};
+ghost use Rattle.selection.specs.Heard.{read_atqa, not_rest, rest_place, read_rest, read_sak};
+ghost use Rattle.selection.specs.Says.{atqa_says, rest_says, sak_says};
 
 use crate::{AtqaRead, Rest, RestSays, SakRead};
 use refusal::Refusal;
 
 // ATQA. A collided bit counts as 1, so it is enough that b1 to b5 are not all zeros.
 pub fn read_atqa(row: &[u8]) -> AtqaRead
-    ensures value { result ≡ readAtqa row.now }
-    ensures result_value { atqaSays result ≡ atqaSays (readAtqa row.now) }
+    ensures value { result ≡ read_atqa row.now }
+    ensures result_value { atqa_says result ≡ atqa_says (read_atqa row.now) }
 {
     if row.len() == 0 {
         return AtqaRead::NotAtqa(Refusal::Silence);
@@ -34,8 +34,8 @@ pub fn read_atqa(row: &[u8]) -> AtqaRead
 
 // SAK and CRC_A.
 pub fn read_sak(row: &[u8]) -> SakRead
-    ensures value { result ≡ readSak row.now }
-    ensures result_value { sakSays result ≡ sakSays (readSak row.now) }
+    ensures value { result ≡ read_sak row.now }
+    ensures result_value { sak_says result ≡ sak_says (read_sak row.now) }
 {
     if row.len() == 0 {
         return SakRead::NotSak(Refusal::Silence);
@@ -59,7 +59,7 @@ pub fn read_sak(row: &[u8]) -> SakRead
 }
 
 fn not_rest(e: Refusal) -> Rest
-    ensures { result ≡ notRest e }
+    ensures { result ≡ not_rest e }
 {
     Rest {
         says: RestSays::NotRest(e),
@@ -79,7 +79,7 @@ fn is_checked(five: [u8; 5]) -> bool
 // level's bits were sent.
 fn first_wrong(k: u8, w: [u8; 45]) -> usize
     requires { k < 40 }
-    ensures { result ≡ restPlace k w }
+    ensures { result ≡ rest_place k w }
 {
     let i = (k as usize + 7) / 8;
     i + frame::within::first_wrong(&w, 9 * i, 5 - i)
@@ -87,8 +87,8 @@ fn first_wrong(k: u8, w: [u8; 45]) -> usize
 
 // What a level's 45 bits say whose first collided data bit stands at p.
 fn collided_level(k: u8, w: [u8; 45], d: [u8; 40], p: usize) -> Rest
-    requires { (k < 40) × (d ≡ data_of 5 w) × (p ≡ firstCollided d) × (p < 40) }
-    ensures { result ≡ levelSays k w }
+    requires { (k < 40) × (d ≡ data_of 5 w) × (p ≡ first_collided d) × (p < 40) }
+    ensures { result ≡ level_says k w }
 {
     if 32 <= p {
         return not_rest(Refusal::Collision);
@@ -107,8 +107,8 @@ fn collided_level(k: u8, w: [u8; 45], d: [u8; 40], p: usize) -> Rest
 
 // What a level's 45 bits say of whose data bits none collided.
 fn whole_level(k: u8, w: [u8; 45], d: [u8; 40]) -> Rest
-    requires { (k < 40) × (d ≡ data_of 5 w) × (40 ≤ firstCollided d) }
-    ensures { result ≡ levelSays k w }
+    requires { (k < 40) × (d ≡ data_of 5 w) × (40 ≤ first_collided d) }
+    ensures { result ≡ level_says k w }
 {
     let b = first_wrong(k, w);
     if b < 5 {
@@ -128,7 +128,7 @@ fn whole_level(k: u8, w: [u8; 45], d: [u8; 40]) -> Rest
 // What a level's 45 bits say, of which the first k data bits were sent.
 fn level_says(k: u8, w: [u8; 45]) -> Rest
     requires { k < 40 }
-    ensures { result ≡ levelSays k w }
+    ensures { result ≡ level_says k w }
 {
     let d = crate::level::data_bits(w);
     let p = crate::level::first_collided(&d);
@@ -140,8 +140,8 @@ fn level_says(k: u8, w: [u8; 45]) -> Rest
 
 // The answer to ANTICOLLISION, of which k bits of five were sent: the parity of the broken byte is never looked at.
 pub fn read_rest(k: u8, five: [u8; 5], row: &[u8]) -> Rest
-    ensures value { result ≡ readRest k five row.now }
-    ensures result_value { restSays result ≡ restSays (readRest k five row.now) }
+    ensures value { result ≡ read_rest k five row.now }
+    ensures result_value { rest_says result ≡ rest_says (read_rest k five row.now) }
 {
     if row.len() == 0 {
         return not_rest(Refusal::Silence);

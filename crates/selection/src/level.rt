@@ -1,8 +1,8 @@
 // The 45 bits of a level as they were sent and heard: its data bits, the first of them that collided, and the bytes of those known.
 ghost use Rattle.std.specs.Prelude.{◌≡◌, true};
 ghost use Rattle.rows.specs.Rows.{clean, next, fill};
-ghost use Rattle.frame.specs.Frame.{data_of, bytesOf};
-ghost use Rattle.selection.specs.Level.{firstCollided};
+ghost use Rattle.frame.specs.Frame.{data_of, bytes_of};
+ghost use Rattle.selection.specs.Level.{first_collided};
 
 // The 40 data bits, parity left out.
 pub fn data_bits(w: [u8; 45]) -> [u8; 40]
@@ -17,7 +17,7 @@ pub fn data_bits(w: [u8; 45]) -> [u8; 40]
 
 // The position of the first collided bit, or the number of bits where none collided.
 pub fn first_collided(h: &[u8]) -> usize
-    ensures { result ≡ firstCollided h.now }
+    ensures { result ≡ first_collided h.now }
 {
     for i in 0..h.len() {
         if h[i] > 1 {
@@ -29,7 +29,7 @@ pub fn first_collided(h: &[u8]) -> usize
 
 // The bits before the first collided one, at p, and then a 1; zeros behind. All of them where none collided.
 pub fn known_bits(d: [u8; 40], p: usize) -> [u8; 40]
-    requires { p ≡ firstCollided d }
+    requires { p ≡ first_collided d }
     ensures { result ≡ fill 40 (next d) }
 {
     let mut e = [0u8; 40];
@@ -43,7 +43,7 @@ pub fn known_bits(d: [u8; 40], p: usize) -> [u8; 40]
 // The five bytes of 40 bits, none of them collided.
 pub fn five_bytes(e: [u8; 40]) -> [u8; 5]
     requires { clean e ≡ true }
-    ensures { result ≡ bytesOf 5 e }
+    ensures { result ≡ bytes_of 5 e }
 {
     let mut five = [0u8; 5];
     for i in 0..5usize {

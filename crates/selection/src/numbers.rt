@@ -1,7 +1,7 @@
 // SEL, NVB and the other numbers that a selection's frames are made of.
 ghost use Rattle.std.specs.Prelude.{◌≡◌, ◌+◌, ◌%◌, min};
 ghost use Rattle.uid.specs.Uid.{place};
-ghost use Rattle.selection.specs.Selection.{sel, nvb, cut, atqaByte, atMost8, size};
+ghost use Rattle.selection.specs.Selection.{sel, nvb, cut, atqa_byte, at_most8, size};
 
 use uid::{Level, UidSize};
 
@@ -52,7 +52,7 @@ pub fn anticollision_bits(k: u8) -> usize
 
 // The first byte of ATQA.
 pub fn atqa_byte(z: UidSize) -> u8
-    ensures { result ≡ atqaByte z }
+    ensures { result ≡ atqa_byte z }
 {
     match z {
         UidSize::Single => 0x04,
@@ -63,7 +63,7 @@ pub fn atqa_byte(z: UidSize) -> u8
 
 // A size index, 9 and above read as 8.
 pub fn at_most_8(i: u8) -> u8
-    ensures { result ≡ atMost8 i }
+    ensures { result ≡ at_most8 i }
 {
     if i > 8 { 8 } else { i }
 }

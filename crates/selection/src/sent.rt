@@ -1,7 +1,7 @@
 // The frames that a reader and a card send in a selection: rows of air bits, parity included, by value.
 ghost use Rattle.std.specs.Prelude.{◌≡◌};
 ghost use Rattle.frame.specs.Frame.{standard};
-ghost use Rattle.selection.specs.Selection.{reqa, wupa, hlta, select, sakFrame, atqa};
+ghost use Rattle.selection.specs.Selection.{reqa, wupa, hlta, select, sak_frame, atqa};
 
 use uid::{Level, UidSize};
 
@@ -25,7 +25,7 @@ pub fn hlta() -> [u8; 36]
 
 // SAK and its CRC_A.
 pub fn sak_frame(sak: u8) -> [u8; 27]
-    ensures { result ≡ sakFrame sak }
+    ensures { result ≡ sak_frame sak }
 {
     let data = [sak];
     let crc = crc::crc_bytes(&data);

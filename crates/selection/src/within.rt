@@ -1,7 +1,7 @@
 // Functions that only crates of this repository call: most have a condition, and their callers' proofs show that they meet it.
 ghost use Rattle.std.specs.Prelude.{◌≡◌, [], ◌∷◌, ◌≤◌, ◌<◌, length};
 ghost use Rattle.rows.specs.Rows.{overlay, same};
-ghost use Rattle.crc.specs.Crc.{withCrc};
+ghost use Rattle.crc.specs.Crc.{with_crc};
 ghost use Rattle.frame.specs.Frame.{standard};
 ghost use Rattle.selection.specs.Selection.{anticollision, rats, ats};
 
@@ -9,7 +9,7 @@ use uid::Level;
 
 // A frame of two bytes and their CRC_A.
 pub fn two_bytes(a: u8, b: u8) -> [u8; 36]
-    ensures { result ≡ standard (withCrc (a ∷ b ∷ [])) }
+    ensures { result ≡ standard (with_crc (a ∷ b ∷ [])) }
 {
     let data = [a, b];
     let crc = crc::crc_bytes(&data);

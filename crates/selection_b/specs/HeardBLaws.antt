@@ -6,15 +6,15 @@ use Rattle.std.proofs.lemmas.List.{length-replicate}
 use Rattle.std.proofs.Math.Seq.{get_or-take}
 use borrow.Author.Tests.{eq-eqb, ne_eqb}
 use native.Mathlib.Omega.{arith}
-use Rattle.rows.specs.CleanLaws.{not-nil}
-use Rattle.rows.specs.ListLaws.{is-nil}
-use Rattle.rows.specs.RowLaws.{overlay-all}
-use Rattle.rows.specs.Rows.{overlay, isNil, clean}
-use Rattle.crc.specs.CrcOf.{crcGoodB}
-use Rattle.frame.specs.ByteLaws.{length-bytes}
-use Rattle.frame.specs.Frame.{bytesOf}
-use Rattle.frame_b.specs.FrameB.{withoutCrcB, readB}
-use Rattle.selection_b.specs.HeardB.{nobody, alone, slot_of, read_slot, byte_of, readByte, readAttrib, readHltb}
+use Rattle.rows.specs.CleanLaws.{not_nil}
+use Rattle.rows.specs.ListLaws.{is_nil_law}
+use Rattle.rows.specs.RowLaws.{overlay_all}
+use Rattle.rows.specs.Rows.{overlay, is_nil, clean}
+use Rattle.crc.specs.CrcOf.{crc_good_b}
+use Rattle.frame.specs.ByteLaws.{length_bytes}
+use Rattle.frame.specs.Frame.{bytes_of}
+use Rattle.frame_b.specs.FrameB.{without_crc_b, read_b}
+use Rattle.selection_b.specs.HeardB.{nobody, alone, slot_of, read_slot, byte_of, read_byte, read_attrib, read_hltb}
 use Rattle.refusal.specs.Refusal.{Said}
 use Rattle.refusal.specs.declared.Refusal.{Refusal}
 use Rattle.refusal.specs.declared.Refusal.TheVariants.{Length, Silence, Collision, Crc, Forbidden}
@@ -26,104 +26,104 @@ use Rattle.selection_b.specs.declared.AttribRead.TheVariants.{Mbli, NotAttached}
 use Rattle.selection_b.specs.declared.HltbRead.TheVariants.{Obeys, NotHalted}
 
 -- bytes that are written over a row of their number
-pub bytes_whole : (n : ℕ) (f held : List ℕ) → held ≡ overlay (replicate n 0) 0 (bytesOf n f) → held ≡ bytesOf n f
-bytes_whole n f held e = e ∙ overlay-all (replicate n 0) (bytesOf n f) (rw (length-replicate, length-bytes))
+pub bytes_whole : (n : ℕ) (f held : List ℕ) → held ≡ overlay (replicate n 0) 0 (bytes_of n f) → held ≡ bytes_of n f
+bytes_whole n f held e = e ∙ overlay_all (replicate n 0) (bytes_of n f) (rw (length-replicate, length_bytes))
 
 -- ---- a slot
 
-nil : (h : List ℕ) → length h ≡ 0 → isNil h ≡ true
-nil h e = rw (is-nil h e) (unfold isNil in refl)
+nil : (h : List ℕ) → length h ≡ 0 → is_nil h ≡ true
+nil h e = rw (is_nil_law h e) (unfold is_nil in refl)
 
-pub slot-none : (h : List ℕ) → length h ≡ 0 → nobody (Holds None) ≡ read_slot h
+pub slot_none : (h : List ℕ) → length h ≡ 0 → nobody (Holds None) ≡ read_slot h
 unfolding read_slot
-slot-none h e = rw (nil h e)
+slot_none h e = rw (nil h e)
 
 module _ (h : List ℕ) (some : length h ≢ 0) where
-  not_none : isNil h ≡ false
-  not_none = not-nil h (omega (arith, some))
+  not_none : is_nil h ≡ false
+  not_none = not_nil h (omega (arith, some))
 
-  pub slot-length : length h ≢ 112 → nobody (NotSlot Length) ≡ read_slot h
+  pub slot_length : length h ≢ 112 → nobody (NotSlot Length) ≡ read_slot h
   unfolding read_slot
-  slot-length n = rw (not_none, ne_eqb (length h) 112 n)
+  slot_length n = rw (not_none, ne_eqb (length h) 112 n)
 
-  pub slot-more : length h ≡ 112 → clean h ≡ false → nobody (Holds More) ≡ read_slot h
+  pub slot_more : length h ≡ 112 → clean h ≡ false → nobody (Holds More) ≡ read_slot h
   unfolding read_slot
-  slot-more n c = rw (not_none, eq-eqb (length h) 112 n, c)
+  slot_more n c = rw (not_none, eq-eqb (length h) 112 n, c)
 
-  pub slot-clean : length h ≡ 112 → clean h ≡ true → slot_of (withoutCrcB (bytesOf 14 h)) ≡ read_slot h
+  pub slot_clean : length h ≡ 112 → clean h ≡ true → slot_of (without_crc_b (bytes_of 14 h)) ≡ read_slot h
   unfolding read_slot
-  slot-clean n c = rw (not_none, eq-eqb (length h) 112 n, c)
+  slot_clean n c = rw (not_none, eq-eqb (length h) 112 n, c)
 
-  pub byte-length : length h ≢ 24 → NotByte Length ≡ readByte h
-  unfolding readByte readB
-  byte-length n = rw (not_none, ne_eqb (length h) 24 n)
+  pub byte_length : length h ≢ 24 → NotByte Length ≡ read_byte h
+  unfolding read_byte read_b
+  byte_length n = rw (not_none, ne_eqb (length h) 24 n)
 
-  pub byte-collided : length h ≡ 24 → clean h ≡ false → NotByte Collision ≡ readByte h
-  unfolding readByte readB
-  byte-collided n c = rw (not_none, eq-eqb (length h) 24 n, c)
+  pub byte_collided : length h ≡ 24 → clean h ≡ false → NotByte Collision ≡ read_byte h
+  unfolding read_byte read_b
+  byte_collided n c = rw (not_none, eq-eqb (length h) 24 n, c)
 
-  pub byte-clean : length h ≡ 24 → clean h ≡ true → byte_of (withoutCrcB (bytesOf 3 h)) ≡ readByte h
-  unfolding readByte readB
-  byte-clean n c = rw (not_none, eq-eqb (length h) 24 n, c)
+  pub byte_clean : length h ≡ 24 → clean h ≡ true → byte_of (without_crc_b (bytes_of 3 h)) ≡ read_byte h
+  unfolding read_byte read_b
+  byte_clean n c = rw (not_none, eq-eqb (length h) 24 n, c)
 
-pub byte-silence : (h : List ℕ) → length h ≡ 0 → NotByte Silence ≡ readByte h
-unfolding readByte
-byte-silence h e = rw (nil h e)
+pub byte_silence : (h : List ℕ) → length h ≡ 0 → NotByte Silence ≡ read_byte h
+unfolding read_byte
+byte_silence h e = rw (nil h e)
 
 -- ---- held bytes l that are those of a row
 
 module _ (l m : List ℕ) (e : l ≡ m) where
-  pub slot-crc : crcGoodB l ≡ false → nobody (NotSlot Crc) ≡ slot_of (withoutCrcB m)
-  unfolding withoutCrcB
-  slot-crc c = rw (← e, c)
+  pub slot_crc : crc_good_b l ≡ false → nobody (NotSlot Crc) ≡ slot_of (without_crc_b m)
+  unfolding without_crc_b
+  slot_crc c = rw (← e, c)
 
-  pub slot-forbidden : length l ≡ 14 → crcGoodB l ≡ true → get_or l 0 0 ≢ 0x50 → nobody (NotSlot Forbidden) ≡ slot_of (withoutCrcB m)
-  unfolding withoutCrcB
-  slot-forbidden n c f = rw (← e, c, get_or-take (length l - 2) l 0 0 (omega arith), ne_eqb (get_or l 0 0) 0x50 f)
+  pub slot_forbidden : length l ≡ 14 → crc_good_b l ≡ true → get_or l 0 0 ≢ 0x50 → nobody (NotSlot Forbidden) ≡ slot_of (without_crc_b m)
+  unfolding without_crc_b
+  slot_forbidden n c f = rw (← e, c, get_or-take (length l - 2) l 0 0 (omega arith), ne_eqb (get_or l 0 0) 0x50 f)
 
-  pub slot-one : length l ≡ 14 → crcGoodB l ≡ true → get_or l 0 0 ≡ 0x50 → (a : List ℕ) → a ≡ overlay (replicate 12 0) 0 (take 12 l) → alone a ≡ slot_of (withoutCrcB m)
-  unfolding withoutCrcB
-  slot-one n c f a g =
+  pub slot_one : length l ≡ 14 → crc_good_b l ≡ true → get_or l 0 0 ≡ 0x50 → (a : List ℕ) → a ≡ overlay (replicate 12 0) 0 (take 12 l) → alone a ≡ slot_of (without_crc_b m)
+  unfolding without_crc_b
+  slot_one n c f a g =
       let z : length l - 2 ≡ 12 = omega arith in
-      rw (← e, c, get_or-take (length l - 2) l 0 0 (omega arith), eq-eqb (get_or l 0 0) 0x50 f, z) (ap alone (g ∙ overlay-all (replicate 12 0) (take 12 l) (sym (length-take-le 12 l (omega arith)))))
+      rw (← e, c, get_or-take (length l - 2) l 0 0 (omega arith), eq-eqb (get_or l 0 0) 0x50 f, z) (ap alone (g ∙ overlay_all (replicate 12 0) (take 12 l) (sym (length-take-le 12 l (omega arith)))))
 
-  pub byte-crc : crcGoodB l ≡ false → NotByte Crc ≡ byte_of (withoutCrcB m)
-  unfolding withoutCrcB
-  byte-crc c = rw (← e, c)
+  pub byte_crc : crc_good_b l ≡ false → NotByte Crc ≡ byte_of (without_crc_b m)
+  unfolding without_crc_b
+  byte_crc c = rw (← e, c)
 
-  pub byte_one : length l ≡ 3 → crcGoodB l ≡ true → Byte (get_or l 0 0) ≡ byte_of (withoutCrcB m)
-  unfolding withoutCrcB
+  pub byte_one : length l ≡ 3 → crc_good_b l ≡ true → Byte (get_or l 0 0) ≡ byte_of (without_crc_b m)
+  unfolding without_crc_b
   byte_one n c = rw (← e, c, get_or-take (length l - 2) l 0 0 (omega arith))
 
 -- ---- answers of one byte
 
-module _ (h : List ℕ) (a : ByteRead) (e : a ≡ readByte h) where
-  pub attrib-forbidden : (b : ℕ) → a ≡ Byte b → b % 16 ≢ 0 → NotAttached Forbidden ≡ readAttrib h
-  unfolding readAttrib
-  attrib-forbidden b f n = rw (← e, f, ne_eqb (b % 16) 0 n)
+module _ (h : List ℕ) (a : ByteRead) (e : a ≡ read_byte h) where
+  pub attrib_forbidden : (b : ℕ) → a ≡ Byte b → b % 16 ≢ 0 → NotAttached Forbidden ≡ read_attrib h
+  unfolding read_attrib
+  attrib_forbidden b f n = rw (← e, f, ne_eqb (b % 16) 0 n)
 
-  pub attrib-mbli : (b : ℕ) → a ≡ Byte b → b % 16 ≡ 0 → Mbli (b / 16) ≡ readAttrib h
-  unfolding readAttrib
-  attrib-mbli b f n = rw (← e, f, eq-eqb (b % 16) 0 n)
+  pub attrib_mbli : (b : ℕ) → a ≡ Byte b → b % 16 ≡ 0 → Mbli (b / 16) ≡ read_attrib h
+  unfolding read_attrib
+  attrib_mbli b f n = rw (← e, f, eq-eqb (b % 16) 0 n)
 
-  pub attrib-not : (x : Refusal) → a ≡ NotByte x → NotAttached x ≡ readAttrib h
-  unfolding readAttrib
-  attrib-not x f = rw (← e, f)
+  pub attrib_not : (x : Refusal) → a ≡ NotByte x → NotAttached x ≡ read_attrib h
+  unfolding read_attrib
+  attrib_not x f = rw (← e, f)
 
-  pub hltb-forbidden : (b : ℕ) → a ≡ Byte b → b ≢ 0 → NotHalted Forbidden ≡ readHltb h
-  unfolding readHltb
-  hltb-forbidden b f n = rw (← e, f, ne_eqb b 0 n)
+  pub hltb_forbidden : (b : ℕ) → a ≡ Byte b → b ≢ 0 → NotHalted Forbidden ≡ read_hltb h
+  unfolding read_hltb
+  hltb_forbidden b f n = rw (← e, f, ne_eqb b 0 n)
 
-  pub hltb-obeys : (b : ℕ) → a ≡ Byte b → b ≡ 0 → Obeys ≡ readHltb h
-  unfolding readHltb
-  hltb-obeys b f n = rw (← e, f, eq-eqb b 0 n)
+  pub hltb_obeys : (b : ℕ) → a ≡ Byte b → b ≡ 0 → Obeys ≡ read_hltb h
+  unfolding read_hltb
+  hltb_obeys b f n = rw (← e, f, eq-eqb b 0 n)
 
-  pub hltb-not : (x : Refusal) → a ≡ NotByte x → NotHalted x ≡ readHltb h
-  unfolding readHltb
-  hltb-not x f = rw (← e, f)
+  pub hltb_not : (x : Refusal) → a ≡ NotByte x → NotHalted x ≡ read_hltb h
+  unfolding read_hltb
+  hltb_not x f = rw (← e, f)
 
 -- ---- what equals a definition says what it says
 
 module _ {A : Type 0} (says : A → Said) where
-  pub says-too : {r d : A} → r ≡ d → (r ≡ d) × (says r ≡ says d)
-  says-too e = (e, ap says e)
+  pub says_too : {r d : A} → r ≡ d → (r ≡ d) × (says r ≡ says d)
+  says_too e = (e, ap says e)

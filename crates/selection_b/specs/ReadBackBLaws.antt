@@ -5,50 +5,50 @@ use mathlib.Core.List.{List, [], ◌∷◌, ◌++◌}
 use Rattle.std.proofs.Math.ListN.{length}
 use Rattle.std.proofs.Common.{length-append, eq-eqb}
 use native.Mathlib.Omega.{arith}
-use Rattle.rows.specs.CleanLaws.{not-nil}
+use Rattle.rows.specs.CleanLaws.{not_nil}
 use Rattle.rows.specs.ListLaws.{all_append}
-use Rattle.rows.specs.Rows.{Bytes, isNil}
-use Rattle.frame_b.specs.FrameB.{frameB}
-use Rattle.frame_b.specs.FrameBLaws.{length-frame, clean-frame, bytes-frame, without-with, read-frame}
-use Rattle.selection_b.specs.TypeB.{Parts, atqbBytes, done}
-use Rattle.selection_b.specs.HeardB.{read_slot, alone, readByte, readAttrib, readHltb}
+use Rattle.rows.specs.Rows.{Bytes, is_nil}
+use Rattle.frame_b.specs.FrameB.{frame_b}
+use Rattle.frame_b.specs.FrameBLaws.{length_frame, clean_frame, bytes_frame, without_with, read_frame_law}
+use Rattle.selection_b.specs.TypeB.{Parts, atqb_bytes, done}
+use Rattle.selection_b.specs.HeardB.{read_slot, alone, read_byte, read_attrib, read_hltb}
 use Rattle.selection_b.specs.declared.AttribRead.TheVariants.{Mbli}
 use Rattle.selection_b.specs.declared.HltbRead.TheVariants.{Obeys}
 
-some-frame : (l : List ℕ) → isNil (frameB l) ≡ false
-some-frame l = not-nil (frameB l) (omega (arith, length-frame l))
+some_frame : (l : List ℕ) → is_nil (frame_b l) ≡ false
+some_frame l = not_nil (frame_b l) (omega (arith, length_frame l))
 
 module _ (u a p : List ℕ) (h : Parts u a p) where
-  pub length-atqb : length (atqbBytes u a p) ≡ 12
-  unfolding atqbBytes
-  length-atqb = rw (length-append, length-append) (omega (arith, h.four, h.application-four, h.three))
+  pub length_atqb : length (atqb_bytes u a p) ≡ 12
+  unfolding atqb_bytes
+  length_atqb = rw (length-append, length-append) (omega (arith, h.four, h.application_four, h.three))
 
-  pub bytes-atqb : Bytes (atqbBytes u a p)
-  unfolding atqbBytes
-  bytes-atqb = (omega arith, all_append (λ x. x < 256) u (a ++ p) h.pupi-bytes (all_append (λ x. x < 256) a p h.application-bytes h.protocol-bytes))
+  pub bytes_atqb : Bytes (atqb_bytes u a p)
+  unfolding atqb_bytes
+  bytes_atqb = (omega arith, all_append (λ x. x < 256) u (a ++ p) h.pupi_bytes (all_append (λ x. x < 256) a p h.application_bytes h.protocol_bytes))
 
   -- an ATQB alone in a slot
-  pub reads-atqb : read_slot (frameB (atqbBytes u a p)) ≡ alone (atqbBytes u a p)
+  pub reads_atqb : read_slot (frame_b (atqb_bytes u a p)) ≡ alone (atqb_bytes u a p)
   unfolding read_slot
-  reads-atqb =
-      let l : List ℕ = atqbBytes u a p in
-      let n : length (frameB l) ≡ 112 = rw (length-frame, length-atqb) in
-      rw (some-frame l, n, clean-frame l, bytes-frame 12 l bytes-atqb length-atqb, without-with l) (unfold atqbBytes in refl)
+  reads_atqb =
+      let l : List ℕ = atqb_bytes u a p in
+      let n : length (frame_b l) ≡ 112 = rw (length_frame, length_atqb) in
+      rw (some_frame l, n, clean_frame l, bytes_frame 12 l bytes_atqb length_atqb, without_with l) (unfold atqb_bytes in refl)
 
 -- the answer to ATTRIB, with MBLI m and CID 0
-pub reads-attrib : (m : ℕ) → m < 16 → readAttrib (frameB (16 * m ∷ [])) ≡ Mbli m
-unfolding readAttrib readByte
-reads-attrib m h =
+pub reads_attrib : (m : ℕ) → m < 16 → read_attrib (frame_b (16 * m ∷ [])) ≡ Mbli m
+unfolding read_attrib read_byte
+reads_attrib m h =
     let l : List ℕ = 16 * m ∷ [] in
     let e : 16 * m / 16 ≡ m = omega arith in
-    rw (some-frame l, read-frame 1 l (omega arith, tt) refl, eq-eqb (16 * m % 16) 0 (omega arith), e)
+    rw (some_frame l, read_frame_law 1 l (omega arith, tt) refl, eq-eqb (16 * m % 16) 0 (omega arith), e)
 
 -- our card's
-pub reads-attached : readAttrib done ≡ Mbli 0
+pub reads_attached : read_attrib done ≡ Mbli 0
 unfolding done
-reads-attached = reads-attrib 0 (omega arith)
+reads_attached = reads_attrib 0 (omega arith)
 
 -- the answer to HLTB
-pub reads-halted : readHltb done ≡ Obeys
-unfolding readHltb readByte done
-reads-halted = rw (some-frame (0x00 ∷ []), read-frame 1 (0x00 ∷ []) (omega arith, tt) refl)
+pub reads_halted : read_hltb done ≡ Obeys
+unfolding read_hltb read_byte done
+reads_halted = rw (some_frame (0x00 ∷ []), read_frame_law 1 (0x00 ∷ []) (omega arith, tt) refl)

@@ -2,13 +2,13 @@
 use Rattle.std.specs.Prelude.{◌≡◌, refl, ℕ, ◌≤◌, ◌<◌, ◌%◌, Bool, true, false, cond, ◌||◌, eqb, leb}
 use Rattle.std.proofs.lemmas.Bool.{false≢true}
 use Rattle.std.proofs.Common.{eqb-true, arith}
-use Rattle.selection_b.specs.TypeB.{isSlots, code_of, param}
+use Rattle.selection_b.specs.TypeB.{is_slots, code_of, param}
 use Rattle.selection_b.specs.TakenB.{slots_of}
 
 -- what holds of 1, 2, 4, 8 and 16 holds of N
-pub slots-cases : (F : ℕ → Type 0) (n : ℕ) → isSlots n ≡ true → F 1 → F 2 → F 4 → F 8 → F 16 → F n
-unfolding isSlots
-slots-cases F n e f₁ f₂ f₄ f₈ f₁₆ = go (eqb n 1) refl (eqb n 2) refl (eqb n 4) refl (eqb n 8) refl (eqb n 16) refl e
+pub slots_cases : (F : ℕ → Type 0) (n : ℕ) → is_slots n ≡ true → F 1 → F 2 → F 4 → F 8 → F 16 → F n
+unfolding is_slots
+slots_cases F n e f₁ f₂ f₄ f₈ f₁₆ = go (eqb n 1) refl (eqb n 2) refl (eqb n 4) refl (eqb n 8) refl (eqb n 16) refl e
   where
     at : (k : ℕ) → eqb n k ≡ true → F k → F n
     at k e f = rw (eqb-true n k e) f
@@ -29,15 +29,15 @@ pub record Param (wake : Bool) (n : ℕ) : Type 0 where
   pub slots : slots_of (param wake n % 8) ≡ n
   pub wakes : leb 8 (param wake n) ≡ wake
 
-pub param_is : (wake : Bool) (n : ℕ) → isSlots n ≡ true → Param wake n
+pub param_is : (wake : Bool) (n : ℕ) → is_slots n ≡ true → Param wake n
 unfolding param code_of slots_of
-param_is true n e = slots-cases (Param true) n e (record { small = omega arith; coded = omega arith; slots = refl; wakes = refl }) (record { small = omega arith; coded = omega arith; slots = refl; wakes = refl }) (record { small = omega arith; coded = omega arith; slots = refl; wakes = refl }) (record { small = omega arith; coded = omega arith; slots = refl; wakes = refl }) (record { small = omega arith; coded = omega arith; slots = refl; wakes = refl })
-param_is false n e = slots-cases (Param false) n e (record { small = omega arith; coded = omega arith; slots = refl; wakes = refl }) (record { small = omega arith; coded = omega arith; slots = refl; wakes = refl }) (record { small = omega arith; coded = omega arith; slots = refl; wakes = refl }) (record { small = omega arith; coded = omega arith; slots = refl; wakes = refl }) (record { small = omega arith; coded = omega arith; slots = refl; wakes = refl })
+param_is true n e = slots_cases (Param true) n e (record { small = omega arith; coded = omega arith; slots = refl; wakes = refl }) (record { small = omega arith; coded = omega arith; slots = refl; wakes = refl }) (record { small = omega arith; coded = omega arith; slots = refl; wakes = refl }) (record { small = omega arith; coded = omega arith; slots = refl; wakes = refl }) (record { small = omega arith; coded = omega arith; slots = refl; wakes = refl })
+param_is false n e = slots_cases (Param false) n e (record { small = omega arith; coded = omega arith; slots = refl; wakes = refl }) (record { small = omega arith; coded = omega arith; slots = refl; wakes = refl }) (record { small = omega arith; coded = omega arith; slots = refl; wakes = refl }) (record { small = omega arith; coded = omega arith; slots = refl; wakes = refl }) (record { small = omega arith; coded = omega arith; slots = refl; wakes = refl })
 
 -- the tests, one by one
-pub slots-is : (n : ℕ) → isSlots n ≡ cond (eqb n 1) true (cond (eqb n 2) true (cond (eqb n 4) true (cond (eqb n 8) true (eqb n 16))))
-unfolding isSlots
-slots-is n = go (eqb n 1) (eqb n 2) (eqb n 4) (eqb n 8)
+pub slots_is : (n : ℕ) → is_slots n ≡ cond (eqb n 1) true (cond (eqb n 2) true (cond (eqb n 4) true (cond (eqb n 8) true (eqb n 16))))
+unfolding is_slots
+slots_is n = go (eqb n 1) (eqb n 2) (eqb n 4) (eqb n 8)
   where
     go : (a b c d : Bool) → (a || b || c || d || eqb n 16) ≡ cond a true (cond b true (cond c true (cond d true (eqb n 16))))
     go true b c d = refl
@@ -46,9 +46,9 @@ slots-is n = go (eqb n 1) (eqb n 2) (eqb n 4) (eqb n 8)
     go false false false true = refl
     go false false false false = refl
 
-pub code-most : (n : ℕ) → code_of n ≤ 4
+pub code_most : (n : ℕ) → code_of n ≤ 4
 unfolding code_of
-code-most n = go (eqb n 1) (eqb n 2) (eqb n 4) (eqb n 8)
+code_most n = go (eqb n 1) (eqb n 2) (eqb n 4) (eqb n 8)
   where
     go : (a b c d : Bool) → cond a 0 (cond b 1 (cond c 2 (cond d 3 4))) ≤ 4
     go true b c d = omega arith
@@ -57,8 +57,8 @@ code-most n = go (eqb n 1) (eqb n 2) (eqb n 4) (eqb n 8)
     go false false false true = omega arith
     go false false false false = omega arith
 
-pub slots-least : (n : ℕ) → isSlots n ≡ true → 1 ≤ n
-slots-least n e = slots-cases (λ n. 1 ≤ n) n e (omega arith) (omega arith) (omega arith) (omega arith) (omega arith)
+pub slots_least : (n : ℕ) → is_slots n ≡ true → 1 ≤ n
+slots_least n e = slots_cases (λ n. 1 ≤ n) n e (omega arith) (omega arith) (omega arith) (omega arith) (omega arith)
 
-pub slots-most : (n : ℕ) → isSlots n ≡ true → n ≤ 16
-slots-most n e = slots-cases (λ n. n ≤ 16) n e (omega arith) (omega arith) (omega arith) (omega arith) (omega arith)
+pub slots_most : (n : ℕ) → is_slots n ≡ true → n ≤ 16
+slots_most n e = slots_cases (λ n. n ≤ 16) n e (omega arith) (omega arith) (omega arith) (omega arith) (omega arith)

@@ -1,10 +1,10 @@
 // What the reader makes of a row, by what it awaits.
 ghost use Rattle.std.specs.Prelude.{◌≡◌, true, length};
 ghost use Rattle.rows.specs.Rows.{clean};
-ghost use Rattle.frame.specs.Frame.{bytesOf};
-ghost use Rattle.frame_b.specs.FrameB.{withoutCrcB};
-ghost use Rattle.selection_b.specs.HeardB.{nobody, slot_of, read_slot, byte_of, readByte, readAttrib, readHltb};
-ghost use Rattle.selection_b.specs.SaysB.{slotSays, attribSays, hltbSays};
+ghost use Rattle.frame.specs.Frame.{bytes_of};
+ghost use Rattle.frame_b.specs.FrameB.{without_crc_b};
+ghost use Rattle.selection_b.specs.HeardB.{nobody, slot_of, read_slot, byte_of, read_byte, read_attrib, read_hltb};
+ghost use Rattle.selection_b.specs.SaysB.{slot_says, attrib_says, hltb_says};
 
 use crate::{AttribRead, ByteRead, Held, HltbRead, SlotRead, SlotSays};
 use refusal::Refusal;
@@ -22,7 +22,7 @@ fn nobody(s: SlotSays) -> SlotRead
 // A row of 112 bits, none of them collided.
 fn slot_in(row: &[u8]) -> SlotRead
     requires { (length row.now ≡ 112) × (clean row.now ≡ true) }
-    ensures { result ≡ slot_of (withoutCrcB (bytesOf 14 row.now)) }
+    ensures { result ≡ slot_of (without_crc_b (bytes_of 14 row.now)) }
 {
     let mut held = [0u8; 14];
     frame_b::within::bytes_of(row, 14, &mut held);
@@ -43,7 +43,7 @@ fn slot_in(row: &[u8]) -> SlotRead
 // What was heard in a slot.
 pub fn read_slot(row: &[u8]) -> SlotRead
     ensures value { result ≡ read_slot row.now }
-    ensures result_value { slotSays result ≡ slotSays (read_slot row.now) }
+    ensures result_value { slot_says result ≡ slot_says (read_slot row.now) }
 {
     if row.len() == 0 {
         return nobody(SlotSays::Holds(Held::None));
@@ -60,7 +60,7 @@ pub fn read_slot(row: &[u8]) -> SlotRead
 // A row of 24 bits, none of them collided.
 fn byte_in(row: &[u8]) -> ByteRead
     requires { (length row.now ≡ 24) × (clean row.now ≡ true) }
-    ensures { result ≡ byte_of (withoutCrcB (bytesOf 3 row.now)) }
+    ensures { result ≡ byte_of (without_crc_b (bytes_of 3 row.now)) }
 {
     let mut held = [0u8; 3];
     frame_b::within::bytes_of(row, 3, &mut held);
@@ -72,7 +72,7 @@ fn byte_in(row: &[u8]) -> ByteRead
 
 // An answer of one byte and CRC_B.
 fn read_byte(row: &[u8]) -> ByteRead
-    ensures { result ≡ readByte row.now }
+    ensures { result ≡ read_byte row.now }
 {
     if row.len() == 0 {
         return ByteRead::NotByte(Refusal::Silence);
@@ -88,8 +88,8 @@ fn read_byte(row: &[u8]) -> ByteRead
 
 // The answer to ATTRIB.
 pub fn read_attrib(row: &[u8]) -> AttribRead
-    ensures value { result ≡ readAttrib row.now }
-    ensures result_value { attribSays result ≡ attribSays (readAttrib row.now) }
+    ensures value { result ≡ read_attrib row.now }
+    ensures result_value { attrib_says result ≡ attrib_says (read_attrib row.now) }
 {
     let a = read_byte(row);
     match a {
@@ -105,8 +105,8 @@ pub fn read_attrib(row: &[u8]) -> AttribRead
 
 // The answer to HLTB.
 pub fn read_hltb(row: &[u8]) -> HltbRead
-    ensures value { result ≡ readHltb row.now }
-    ensures result_value { hltbSays result ≡ hltbSays (readHltb row.now) }
+    ensures value { result ≡ read_hltb row.now }
+    ensures result_value { hltb_says result ≡ hltb_says (read_hltb row.now) }
 {
     let a = read_byte(row);
     match a {

@@ -1,11 +1,11 @@
 // The frames of Type B that reader and card send: rows of data bits, by value.
 ghost use Rattle.std.specs.Prelude.{◌≡◌, [], ◌∷◌};
-ghost use Rattle.frame_b.specs.FrameB.{frameB};
-ghost use Rattle.selection_b.specs.TypeB.{isSlots, code_of, param, request, marker, atqbBytes, kind_of, attrib, attribFor, hltb, done};
+ghost use Rattle.frame_b.specs.FrameB.{frame_b};
+ghost use Rattle.selection_b.specs.TypeB.{is_slots, code_of, param, request, marker, atqb_bytes, kind_of, attrib, attrib_for, hltb, done};
 
 // Is N one of 1, 2, 4, 8, 16?
 pub fn is_slots(n: u8) -> bool
-    ensures { result ≡ isSlots n }
+    ensures { result ≡ is_slots n }
 {
     if n == 1 {
         return true;
@@ -53,7 +53,7 @@ fn param(wake: bool, n: u8) -> u8
 
 // Three bytes and their CRC_B.
 pub fn three_bytes(a: u8, b: u8, d: u8) -> [u8; 40]
-    ensures { result ≡ frameB (a ∷ b ∷ d ∷ []) }
+    ensures { result ≡ frame_b (a ∷ b ∷ d ∷ []) }
 {
     let bytes = [a, b, d];
     let mut row = [0u8; 40];
@@ -71,7 +71,7 @@ pub fn request(wake: bool, n: u8, afi: u8) -> [u8; 40]
 
 // One byte and its CRC_B.
 pub fn one_byte(a: u8) -> [u8; 24]
-    ensures { result ≡ frameB (a ∷ []) }
+    ensures { result ≡ frame_b (a ∷ []) }
 {
     let bytes = [a];
     let mut row = [0u8; 24];
@@ -98,7 +98,7 @@ pub fn done() -> [u8; 24]
 
 // ATQB without CRC_B.
 fn atqb_bytes(pupi: [u8; 4], application: [u8; 4], protocol: [u8; 3]) -> [u8; 12]
-    ensures { result ≡ atqbBytes pupi application protocol }
+    ensures { result ≡ atqb_bytes pupi application protocol }
 {
     let mut bytes = [0x50u8; 12];
     rows::within::put(&mut bytes, 1, &pupi);
@@ -108,7 +108,7 @@ fn atqb_bytes(pupi: [u8; 4], application: [u8; 4], protocol: [u8; 3]) -> [u8; 12
 }
 
 pub fn atqb(pupi: [u8; 4], application: [u8; 4], protocol: [u8; 3]) -> [u8; 112]
-    ensures { result ≡ frameB (atqbBytes pupi application protocol) }
+    ensures { result ≡ frame_b (atqb_bytes pupi application protocol) }
 {
     let bytes = atqb_bytes(pupi, application, protocol);
     let mut row = [0u8; 112];
@@ -149,7 +149,7 @@ fn kind_of(b: u8) -> u8
 
 // ATTRIB to the card of an ATQB.
 pub fn attrib_for(atqb: [u8; 12], index: u8) -> [u8; 88]
-    ensures { result ≡ attribFor atqb index }
+    ensures { result ≡ attrib_for atqb index }
 {
     let kind = kind_of(atqb[10]);
     let pupi = [atqb[1], atqb[2], atqb[3], atqb[4]];

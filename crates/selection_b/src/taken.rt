@@ -2,7 +2,7 @@
 ghost use Rattle.std.specs.Prelude.{◌≡◌, true, length};
 ghost use Rattle.rows.specs.Rows.{same, clean};
 ghost use Rattle.selection_b.specs.TypeB.{hltb};
-ghost use Rattle.selection_b.specs.TakenB.{slots_of, noRequest, requestRead, admits, isMarker, isAttrib};
+ghost use Rattle.selection_b.specs.TakenB.{slots_of, no_request, request_read, admits, is_marker, is_attrib};
 
 use crate::RequestRead;
 
@@ -29,7 +29,7 @@ fn slots_of(code: u8) -> u8
 }
 
 fn no_request() -> RequestRead
-    ensures { result ≡ noRequest }
+    ensures { result ≡ no_request }
 {
     RequestRead {
         is: false,
@@ -42,7 +42,7 @@ fn no_request() -> RequestRead
 // A row of 40 bits, none of them collided.
 fn request_in(row: &[u8]) -> RequestRead
     requires { (length row.now ≡ 40) × (clean row.now ≡ true) }
-    ensures { result ≡ requestRead row.now }
+    ensures { result ≡ request_read row.now }
 {
     let afi = parity::within::byte_at(row, 8);
     let m = parity::within::byte_at(row, 16);
@@ -67,7 +67,7 @@ fn request_in(row: &[u8]) -> RequestRead
 
 // Is the row REQB or WUPB, and which?
 pub fn read_request(row: &[u8]) -> RequestRead
-    ensures { result ≡ requestRead row.now }
+    ensures { result ≡ request_read row.now }
 {
     if row.len() != 40 {
         return no_request();
@@ -96,7 +96,7 @@ pub fn admits(asked: u8, own: u8) -> bool
 
 // Is the row the marker of this slot?
 pub fn is_marker(slot: u8, row: &[u8]) -> bool
-    ensures { result ≡ isMarker slot row.now }
+    ensures { result ≡ is_marker slot row.now }
 {
     if slot < 2 {
         return false;
@@ -110,7 +110,7 @@ pub fn is_marker(slot: u8, row: &[u8]) -> bool
 
 // Is the row ATTRIB to the card with this PUPI?
 pub fn is_attrib(pupi: [u8; 4], row: &[u8]) -> bool
-    ensures { result ≡ isAttrib pupi row.now }
+    ensures { result ≡ is_attrib pupi row.now }
 {
     if row.len() != 88 {
         return false;

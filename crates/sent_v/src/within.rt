@@ -1,17 +1,17 @@
 // Functions that only crates of this repository call: each has a condition, and its callers' proofs show that they meet it.
 ghost use Rattle.std.specs.Prelude.{◌≡◌, ◌+◌, ◌*◌, ◌≤◌, ◌++◌, ◌∷◌, [], length, take};
 ghost use Rattle.rows.specs.Rows.{overlay, fill};
-ghost use Rattle.frame.specs.Frame.{airBits};
-ghost use Rattle.frame_b.specs.FrameB.{frameB};
-ghost use Rattle.sent_v.specs.Sent.{roundFlags, roundLength, cutMask, grownMask, roundBytes, modeFlags, headFlags, headLength, requestBytes};
+ghost use Rattle.frame.specs.Frame.{air_bits};
+ghost use Rattle.frame_b.specs.FrameB.{frame_b};
+ghost use Rattle.sent_v.specs.Sent.{round_flags, round_length, cut_mask, grown_mask, round_bytes, mode_flags, head_flags, head_length, request_bytes};
 
 use crate::{Head, Mode, Round};
 
 // Three parts one behind the other and their CRC_B, at the front of a row. The answer is how many bits that are.
 fn put_parts(a: &[u8], b: &[u8], d: &[u8], out: &mut [u8]) -> usize
     requires { 8 * (length a.now + length b.now + length d.now + 2) ≤ length out.old }
-    ensures value { result ≡ length (frameB (a.now ++ (b.now ++ d.now))) }
-    ensures out_after { out.new ≡ overlay out.old 0 (frameB (a.now ++ (b.now ++ d.now))) }
+    ensures value { result ≡ length (frame_b (a.now ++ (b.now ++ d.now))) }
+    ensures out_after { out.new ≡ overlay out.old 0 (frame_b (a.now ++ (b.now ++ d.now))) }
 {
     frame_b::within::put_bits(out, 0, a);
     let k = a.len() + b.len();
@@ -27,7 +27,7 @@ fn put_parts(a: &[u8], b: &[u8], d: &[u8], out: &mut [u8]) -> usize
 // The low len bits of a mask, and zeros above them, as bits.
 fn cut_bits(mask: [u8; 8], len: usize) -> [u8; 64]
     requires { len ≤ 64 }
-    ensures { result ≡ fill 64 (take len (airBits mask)) }
+    ensures { result ≡ fill 64 (take len (air_bits mask)) }
 {
     let mut bits = [0u8; 64];
     frame_b::within::put_bits(&mut bits, 0, &mask);
@@ -38,7 +38,7 @@ fn cut_bits(mask: [u8; 8], len: usize) -> [u8; 64]
 
 pub fn cut_mask(mask: [u8; 8], len: usize) -> [u8; 8]
     requires { len ≤ 64 }
-    ensures { result ≡ cutMask mask len }
+    ensures { result ≡ cut_mask mask len }
 {
     let bits = cut_bits(mask, len);
     let mut bytes = [0u8; 8];
@@ -49,7 +49,7 @@ pub fn cut_mask(mask: [u8; 8], len: usize) -> [u8; 8]
 // Four bits more.
 pub fn grown_mask(mask: [u8; 8], len: usize, slot: u8) -> [u8; 8]
     requires { len ≤ 60 }
-    ensures { result ≡ grownMask mask len slot }
+    ensures { result ≡ grown_mask mask len slot }
 {
     let mut bits = cut_bits(mask, len);
     let s = parity::bits_of(slot);
@@ -62,7 +62,7 @@ pub fn grown_mask(mask: [u8; 8], len: usize, slot: u8) -> [u8; 8]
 // ---- requests
 
 fn round_flags(one: bool, asks: bool) -> u8
-    ensures { result ≡ roundFlags one asks }
+    ensures { result ≡ round_flags one asks }
 {
     if one {
         if asks {
@@ -77,7 +77,7 @@ fn round_flags(one: bool, asks: bool) -> u8
 }
 
 fn round_length(asks: bool) -> usize
-    ensures value { result ≡ roundLength asks }
+    ensures value { result ≡ round_length asks }
     ensures upper_bound { result ≤ 3 }
 {
     if asks {
@@ -89,8 +89,8 @@ fn round_length(asks: bool) -> usize
 // An inventory.
 pub fn put_round(k: Round, out: &mut [u8]) -> usize
     requires { (112 ≤ length out.old) × (k.len ≤ 64) }
-    ensures value { result ≡ length (frameB (roundBytes k)) }
-    ensures out_after { out.new ≡ overlay out.old 0 (frameB (roundBytes k)) }
+    ensures value { result ≡ length (frame_b (round_bytes k)) }
+    ensures out_after { out.new ≡ overlay out.old 0 (frame_b (round_bytes k)) }
 {
     let head = [round_flags(k.one, k.asks), 0x01, k.afi];
     let n = round_length(k.asks);
@@ -102,7 +102,7 @@ pub fn put_round(k: Round, out: &mut [u8]) -> usize
 }
 
 fn head_flags(m: Mode, option: bool) -> u8
-    ensures { result ≡ headFlags m option }
+    ensures { result ≡ head_flags m option }
 {
     let f = mode_flags(m);
     if option {
@@ -112,7 +112,7 @@ fn head_flags(m: Mode, option: bool) -> u8
 }
 
 fn mode_flags(m: Mode) -> u8
-    ensures value { result ≡ modeFlags m }
+    ensures value { result ≡ mode_flags m }
     ensures upper_bound { result ≤ 0x22 }
 {
     match m {
@@ -123,7 +123,7 @@ fn mode_flags(m: Mode) -> u8
 }
 
 fn head_length(m: Mode) -> usize
-    ensures value { result ≡ headLength m }
+    ensures value { result ≡ head_length m }
     ensures upper_bound { result ≤ 10 }
 {
     match m {
@@ -135,7 +135,7 @@ fn head_length(m: Mode) -> usize
 
 // Flags, code and UID.
 fn head_bytes(k: Head) -> [u8; 10]
-    ensures { result ≡ headFlags k.mode k.option ∷ k.code ∷ k.uid }
+    ensures { result ≡ head_flags k.mode k.option ∷ k.code ∷ k.uid }
 {
     let m = k.mode;
     let uid = k.uid;
@@ -149,8 +149,8 @@ fn head_bytes(k: Head) -> [u8; 10]
 // Any other request.
 pub fn put_request(k: Head, parameters: &[u8], bytes: &[u8], out: &mut [u8]) -> usize
     requires { 8 * (12 + length parameters.now + length bytes.now) ≤ length out.old }
-    ensures value { result ≡ length (frameB (requestBytes k parameters.now bytes.now)) }
-    ensures out_after { out.new ≡ overlay out.old 0 (frameB (requestBytes k parameters.now bytes.now)) }
+    ensures value { result ≡ length (frame_b (request_bytes k parameters.now bytes.now)) }
+    ensures out_after { out.new ≡ overlay out.old 0 (frame_b (request_bytes k parameters.now bytes.now)) }
 {
     let head = head_bytes(k);
     let m = k.mode;

@@ -5,13 +5,13 @@ use Rattle.std.proofs.Common.{sym, ◌∙◌, arith, eq-eqb, ne_eqb}
 use mathlib.Core.List.{List, [], ◌∷◌, ◌++◌}
 use Rattle.std.proofs.Math.ListN.{length-append}
 use Rattle.rows.specs.Rows.{overlay}
-use Rattle.rows.specs.RowLaws.{overlay-front, overlay-nil, overlay-next}
-use Rattle.selection_b.specs.HeardB.{heldNumber, entry}
+use Rattle.rows.specs.RowLaws.{overlay_front, overlay_nil, overlay_next}
+use Rattle.selection_b.specs.HeardB.{held_number, entry}
 use Rattle.selection_b.specs.TypeB.{request}
 use Rattle.field.specs.TakeLaws.{front_fits}
 use Rattle.reader_b.specs.ReaderB.{next}
-use Rattle.slots_rules.specs.RunB.{outFrame, listBytes}
-use Rattle.slots.specs.Steps.{toldIn, toldBy}
+use Rattle.slots_rules.specs.RunB.{out_frame, list_bytes}
+use Rattle.slots.specs.Steps.{told_in, told_by}
 use Rattle.selection_b.specs.declared.Held.{Held}
 use Rattle.reader_b.specs.declared.ReaderB.{ReaderB}
 use Rattle.reader_b.specs.declared.TurnB.{TurnB}
@@ -24,71 +24,71 @@ pub record Front (h : List ℕ) (n : ℕ) (row : List ℕ) : Type 0 where
   pub fits : n ≤ length row
   pub bits : take n row ≡ h
 
-pub front_of : (d h : List ℕ) (n : ℕ) (row : List ℕ) → n ≡ length h → row ≡ overlay d 0 h → Front h n row
-front_of d h n row e o =
+pub front_of_law : (d h : List ℕ) (n : ℕ) (row : List ℕ) → n ≡ length h → row ≡ overlay d 0 h → Front h n row
+front_of_law d h n row e o =
     record {
       fits = omega (arith, front_fits d h (length row) (ap length (sym o)));
-      bits = rw (e, o) (overlay-front d h);
+      bits = rw (e, o) (overlay_front d h);
     }
 
 -- ---- the frame
 
-pub out-request : (wake : Bool) (b : ℕ) (r : ReaderB) → r.slot ≡ 1 → request wake r.slots b ≡ outFrame wake b r
-unfolding outFrame
-out-request wake b r e = rw (eq-eqb r.slot 1 e)
+pub out_request : (wake : Bool) (b : ℕ) (r : ReaderB) → r.slot ≡ 1 → request wake r.slots b ≡ out_frame wake b r
+unfolding out_frame
+out_request wake b r e = rw (eq-eqb r.slot 1 e)
 
-pub out-marker : (wake : Bool) (b : ℕ) (r : ReaderB) → (r.slot ≡ 1 → ⊥) → next r ≡ outFrame wake b r
-unfolding outFrame
-out-marker wake b r e = rw (ne_eqb r.slot 1 e)
+pub out_marker : (wake : Bool) (b : ℕ) (r : ReaderB) → (r.slot ≡ 1 → ⊥) → next r ≡ out_frame wake b r
+unfolding out_frame
+out_marker wake b r e = rw (ne_eqb r.slot 1 e)
 
 -- ---- an entry of the list
 
-pub entry-put : (d : List ℕ) (at : ℕ) (k : Held) (atqb : List ℕ) → at + (1 + length atqb) ≤ length d
-    → overlay (overlay d at (heldNumber k ∷ [])) (at + 1) atqb ≡ overlay d at (entry k atqb)
+pub entry_put : (d : List ℕ) (at : ℕ) (k : Held) (atqb : List ℕ) → at + (1 + length atqb) ≤ length d
+    → overlay (overlay d at (held_number k ∷ [])) (at + 1) atqb ≡ overlay d at (entry k atqb)
 unfolding entry
-entry-put d at k atqb h = overlay-next d at (heldNumber k ∷ []) atqb (omega arith)
+entry_put d at k atqb h = overlay_next d at (held_number k ∷ []) atqb (omega arith)
 
 -- what a turn tells, by its answer
 pub record Puts (t : TurnB) (n : ℕ) (d d' : List ℕ) (at : ℕ) : Type 0 where
-  pub count : n ≡ length (toldBy t)
-  pub row : d' ≡ overlay d at (listBytes (toldBy t))
-  pub size : length (listBytes (toldBy t)) ≡ 13 * length (toldBy t)
+  pub count : n ≡ length (told_by t)
+  pub row : d' ≡ overlay d at (list_bytes (told_by t))
+  pub size : length (list_bytes (told_by t)) ≡ 13 * length (told_by t)
 
 module _ (t : TurnB) (d : List ℕ) (at : ℕ) where
-  puts_none : toldBy t ≡ [] → Puts t 0 d d at
-  unfolding listBytes
-  puts_none e = record { count = rw e; row = rw e (sym (overlay-nil d at)); size = rw e refl }
+  puts_none : told_by t ≡ [] → Puts t 0 d d at
+  unfolding list_bytes
+  puts_none e = record { count = rw e; row = rw e (sym (overlay_nil d at)); size = rw e refl }
 
-  puts_one : (k : Held) (d' : List ℕ) → toldBy t ≡ (k, t.atqb) ∷ [] → length t.atqb ≡ 12 → d' ≡ overlay d at (entry k t.atqb) → Puts t 1 d d' at
-  unfolding listBytes entry
+  puts_one : (k : Held) (d' : List ℕ) → told_by t ≡ (k, t.atqb) ∷ [] → length t.atqb ≡ 12 → d' ≡ overlay d at (entry k t.atqb) → Puts t 1 d d' at
+  unfolding list_bytes entry
   puts_one k d' e l o =
       record {
         count = rw e;
-        row = rw e (o ∙ ap (overlay d at) (sym (append-nil (entry k t.atqb))));
+        row = rw e (o ∙ ap (overlay d at) (sym (append_nil (entry k t.atqb))));
         size = rw e (rw length-append (omega arith));
       }
     where
-      append-nil : (l : List ℕ) → l ++ [] ≡ l
-      append-nil [] = refl
-      append-nil (x ∷ l) = ap (λ r. x ∷ r) (append-nil l)
+      append_nil : (l : List ℕ) → l ++ [] ≡ l
+      append_nil [] = refl
+      append_nil (x ∷ l) = ap (λ r. x ∷ r) (append_nil l)
 
   module _ (a : AnswerB) (e : t.answer ≡ a) where
-    told-by : toldBy t ≡ toldIn a t.atqb
-    unfolding toldBy
-    told-by = ap (λ x. toldIn x t.atqb) e
+    told_by_law : told_by t ≡ told_in a t.atqb
+    unfolding told_by
+    told_by_law = ap (λ x. told_in x t.atqb) e
 
-    pub puts-quiet : toldIn a t.atqb ≡ [] → Puts t 0 d d at
-    puts-quiet h = puts_none (told-by ∙ h)
+    pub puts_quiet : told_in a t.atqb ≡ [] → Puts t 0 d d at
+    puts_quiet h = puts_none (told_by_law ∙ h)
 
-    pub puts-told : (k : Held) (d' : List ℕ) → toldIn a t.atqb ≡ (k, t.atqb) ∷ [] → length t.atqb ≡ 12 → d' ≡ overlay d at (entry k t.atqb) → Puts t 1 d d' at
-    puts-told k d' h l o = puts_one k d' (told-by ∙ h) l o
+    pub puts_told : (k : Held) (d' : List ℕ) → told_in a t.atqb ≡ (k, t.atqb) ∷ [] → length t.atqb ≡ 12 → d' ≡ overlay d at (entry k t.atqb) → Puts t 1 d d' at
+    puts_told k d' h l o = puts_one k d' (told_by_law ∙ h) l o
 
 -- at most one
-pub told-most : (t : TurnB) → length (toldBy t) ≤ 1
-unfolding toldBy
-told-most t = go t.answer
+pub told_most : (t : TurnB) → length (told_by t) ≤ 1
+unfolding told_by
+told_most t = go t.answer
   where
-    go : (a : AnswerB) → length (toldIn a t.atqb) ≤ 1
+    go : (a : AnswerB) → length (told_in a t.atqb) ≤ 1
     go (Sends n) = omega arith
     go (Marks k) = omega arith
     go (Ends k) = omega arith

@@ -4,8 +4,8 @@ use Rattle.std.specs.Prelude.{refl, ℕ, true, List, [], ◌∷◌, replicate}
 use Rattle.std.proofs.Common.{arith}
 use Rattle.std.proofs.lemmas.List.{length-replicate}
 use Rattle.rows.specs.Rows.{any, same}
-use Rattle.frame_b.specs.LimitsB.{listRoomB}
-use Rattle.selection_b.specs.TypeB.{isSlots}
+use Rattle.frame_b.specs.LimitsB.{list_room_b}
+use Rattle.selection_b.specs.TypeB.{is_slots}
 use Rattle.selection_b.specs.TakenB.{admits}
 use Rattle.reader_b.specs.ReaderB.{blank}
 use Rattle.slots_rules.specs.Claim.{Terms}
@@ -24,9 +24,9 @@ card first number = record {
 abbrev two : List Drawn
 two = card 0x11 1 ∷ card 0x99 2 ∷ []
 
-pub terms-met : Terms 2 0x20 two
-unfolding isSlots admits apart any same
-terms-met = record {
+pub terms_met : Terms 2 0x20 two
+unfolding is_slots admits apart any same
+terms_met = record {
   slots = refl;
   all = (
     record { idle = refl; admitted = refl; marked = refl; least = omega arith; most = omega arith },
@@ -35,5 +35,5 @@ terms-met = record {
   different = refl;
 }
 
-pub call-terms-met : promise.Terms (blank Ready) 2 0x20 two 2 (replicate listRoomB 0)
-call-terms-met = record { ready = refl; room = omega (arith, length-replicate {A = ℕ} listRoomB 0); few = omega arith; field = terms-met }
+pub call_terms_met : promise.Terms (blank Ready) 2 0x20 two 2 (replicate list_room_b 0)
+call_terms_met = record { ready = refl; room = omega (arith, length-replicate {A = ℕ} list_room_b 0); few = omega arith; field = terms_met }

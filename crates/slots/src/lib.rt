@@ -3,7 +3,7 @@ mod terms;
 pub mod within;
 
 ghost use Rattle.std.specs.Prelude.{◌≡◌};
-ghost use Rattle.slots.specs.Inquiry.{call, refused, inquiryOf};
+ghost use Rattle.slots.specs.Inquiry.{call, refused, inquiry_of};
 ghost use Rattle.slots.specs.Promise.{Inquires};
 
 use field_b::Drawn;
@@ -45,7 +45,7 @@ pub fn inquire(
     count: usize,
     list: &mut [u8],
 ) -> Inquired
-    ensures list_after { call result list.new ≡ inquiryOf r wake n afi cards count list.old }
+    ensures list_after { call result list.new ≡ inquiry_of r wake n afi cards count list.old }
     ensures inquires { Inquires r wake n afi cards count list.old result list.new }
 {
     let phase = r.phase;

@@ -1,17 +1,17 @@
 // Is a field one that a request takes? `inquire` declines any other with 6.
 ghost use Rattle.std.specs.Prelude.{◌≡◌, true, not, ◌≤◌, take, drop};
-ghost use Rattle.limits.specs.Limits.{mostCards};
+ghost use Rattle.limits.specs.Limits.{most_cards};
 ghost use Rattle.rows.specs.Rows.{All, any, same};
-ghost use Rattle.selection_b.specs.TypeB.{isSlots};
+ghost use Rattle.selection_b.specs.TypeB.{is_slots};
 ghost use Rattle.slots_rules.specs.Claim.{Typed};
-ghost use Rattle.slots_rules.specs.TermsB.{idleOrHalted, cardFits, allFit, apart, within};
+ghost use Rattle.slots_rules.specs.TermsB.{idle_or_halted, card_fits, all_fit, apart, within};
 
 use card_b::StateB;
 use field_b::Drawn;
 use limits::MOST_CARDS;
 
 fn is_idle_or_halted(s: StateB) -> bool
-    ensures { result ≡ idleOrHalted s }
+    ensures { result ≡ idle_or_halted s }
 {
     match s {
         StateB::Off => false,
@@ -25,7 +25,7 @@ fn is_idle_or_halted(s: StateB) -> bool
 
 // Idle or halted, and a slot number from 1 to n.
 pub fn card_fits(n: u8, d: Drawn) -> bool
-    ensures value { result ≡ cardFits n d }
+    ensures value { result ≡ card_fits n d }
     ensures typed { Typed d }
 {
     let c = d.card;
@@ -37,8 +37,8 @@ pub fn card_fits(n: u8, d: Drawn) -> bool
 }
 
 fn all_fit(n: u8, cards: [Drawn; MOST_CARDS], count: usize) -> bool
-    requires { count ≤ mostCards }
-    ensures value { result ≡ allFit n (take count cards) }
+    requires { count ≤ most_cards }
+    ensures value { result ≡ all_fit n (take count cards) }
     ensures all { result ≡ true → All Typed (take count cards) }
 {
     for i in 0..count {
@@ -61,7 +61,7 @@ pub fn is_pupi(pupi: [u8; 4], d: Drawn) -> bool
 
 // Has none of the cards from one place to another this PUPI?
 fn is_alone(pupi: [u8; 4], cards: [Drawn; MOST_CARDS], start: usize, count: usize) -> bool
-    requires { (start ≤ count) × (count ≤ mostCards) }
+    requires { (start ≤ count) × (count ≤ most_cards) }
     ensures { result ≡ not (any (λ k. same pupi k.card.pupi) (drop start (take count cards))) }
 {
     for i in start..count {
@@ -75,7 +75,7 @@ fn is_alone(pupi: [u8; 4], cards: [Drawn; MOST_CARDS], start: usize, count: usiz
 
 // Is no PUPI there twice?
 fn is_apart(cards: [Drawn; MOST_CARDS], count: usize) -> bool
-    requires { count ≤ mostCards }
+    requires { count ≤ most_cards }
     ensures { result ≡ apart (take count cards) }
 {
     for i in 0..count {
@@ -91,9 +91,9 @@ fn is_apart(cards: [Drawn; MOST_CARDS], count: usize) -> bool
 
 // Are the first cards such a field?
 pub fn is_within(n: u8, cards: [Drawn; MOST_CARDS], count: usize) -> bool
-    requires { count ≤ mostCards }
+    requires { count ≤ most_cards }
     ensures value { result ≡ within n (take count cards) }
-    ensures all { result ≡ true → (All Typed (take count cards) × (isSlots n ≡ true)) }
+    ensures all { result ≡ true → (All Typed (take count cards) × (is_slots n ≡ true)) }
 {
     if !selection_b::sent::is_slots(n) {
         return false;

@@ -1,11 +1,11 @@
 // The loop over a request's slots. Called by our own crates only, which lend the room.
 ghost use Rattle.std.specs.Prelude.{◌≡◌, ◌+◌, ◌*◌, ◌≤◌, ◌<◌, length, take};
-ghost use Rattle.limits.specs.Limits.{mostCards};
-ghost use Rattle.frame_b.specs.LimitsB.{mostSlots, listRoomB};
+ghost use Rattle.limits.specs.Limits.{most_cards};
+ghost use Rattle.frame_b.specs.LimitsB.{most_slots, list_room_b};
 ghost use Rattle.rows.specs.Rows.{overlay};
-ghost use Rattle.selection_b.specs.HeardB.{heldNumber, entry};
-ghost use Rattle.slots_rules.specs.RunB.{outFrame, inquiry, listBytes};
-ghost use Rattle.slots.specs.Steps.{toldBy, exchanged, stepped, goesOn, ends};
+ghost use Rattle.selection_b.specs.HeardB.{held_number, entry};
+ghost use Rattle.slots_rules.specs.RunB.{out_frame, inquiry, list_bytes};
+ghost use Rattle.slots.specs.Steps.{told_by, exchanged, stepped, goes_on, ends};
 
 use field_b::Drawn;
 use limits::MOST_CARDS;
@@ -30,7 +30,7 @@ pub struct ProgressB {
 
 // A frame, taken by the first cards, and the reader's turn on what it heard.
 fn exchange(r: ReaderB, cards: [Drawn; MOST_CARDS], count: usize, frame: &[u8]) -> ExchangedB
-    requires { count ≤ mostCards }
+    requires { count ≤ most_cards }
     ensures { result ≡ exchanged r cards count frame.now }
 {
     let mut heard = [0u8; frame_b::ANSWER_ROOM];
@@ -46,8 +46,8 @@ fn exchange(r: ReaderB, cards: [Drawn; MOST_CARDS], count: usize, frame: &[u8]) 
 
 // The frame of a slot: in slot 1 the request, in each other its marker.
 fn send(r: ReaderB, wake: bool, afi: u8, cards: [Drawn; MOST_CARDS], count: usize) -> ExchangedB
-    requires { count ≤ mostCards }
-    ensures { result ≡ exchanged r cards count (outFrame wake afi r) }
+    requires { count ≤ most_cards }
+    ensures { result ≡ exchanged r cards count (out_frame wake afi r) }
 {
     if r.slot == 1 {
         let request = selection_b::sent::request(wake, r.slots, afi);
@@ -59,7 +59,7 @@ fn send(r: ReaderB, wake: bool, afi: u8, cards: [Drawn; MOST_CARDS], count: usiz
 
 // "0, 1 or 2 for none, one, more".
 fn held_number(k: Held) -> u8
-    ensures { result ≡ heldNumber k }
+    ensures { result ≡ held_number k }
 {
     match k {
         Held::None => 0,
@@ -81,9 +81,9 @@ pub fn put_entry(k: Held, atqb: [u8; 12], list: &mut [u8], at: usize)
 // What a turn tells of its slot goes into the list. The answer is how many slots it tells of, one or none.
 pub fn put_told(t: TurnB, list: &mut [u8], at: usize) -> usize
     requires { at + 13 ≤ length list.old }
-    ensures value { result ≡ length (toldBy t) }
-    ensures list_after { list.new ≡ overlay list.old at (listBytes (toldBy t)) }
-    ensures t_len { length (listBytes (toldBy t)) ≡ 13 * length (toldBy t) }
+    ensures value { result ≡ length (told_by t) }
+    ensures list_after { list.new ≡ overlay list.old at (list_bytes (told_by t)) }
+    ensures t_len { length (list_bytes (told_by t)) ≡ 13 * length (told_by t) }
 {
     let a = t.answer;
     let atqb = t.atqb;
@@ -105,10 +105,10 @@ pub fn put_told(t: TurnB, list: &mut [u8], at: usize) -> usize
 
 // One slot more.
 fn step(p: ProgressB, wake: bool, afi: u8, count: usize, list: &mut [u8]) -> ProgressB
-    requires { (count ≤ mostCards) × (p.slots ≤ p.frames) × (p.frames < mostSlots) × (listRoomB ≤ length list.old) }
+    requires { (count ≤ most_cards) × (p.slots ≤ p.frames) × (p.frames < most_slots) × (list_room_b ≤ length list.old) }
     ensures value { result ≡ stepped p wake afi count }
-    ensures list_after { list.new ≡ overlay list.old (13 * p.slots) (listBytes (toldBy result.turn)) }
-    ensures turn_len { length (listBytes (toldBy result.turn)) ≡ 13 * length (toldBy result.turn) }
+    ensures list_after { list.new ≡ overlay list.old (13 * p.slots) (list_bytes (told_by result.turn)) }
+    ensures turn_len { length (list_bytes (told_by result.turn)) ≡ 13 * length (told_by result.turn) }
 {
     let t = p.turn;
     let r = t.reader;
@@ -127,7 +127,7 @@ fn step(p: ProgressB, wake: bool, afi: u8, count: usize, list: &mut [u8]) -> Pro
 
 // Is a frame out, and has the request a slot left?
 fn goes_on(p: ProgressB, n: u8) -> bool
-    ensures { result ≡ goesOn p n }
+    ensures { result ≡ goes_on p n }
 {
     if p.frames < n as usize {
         let t = p.turn;
@@ -146,11 +146,11 @@ pub fn run(
     count: usize,
     list: &mut [u8],
 ) -> ProgressB
-    requires { (count ≤ mostCards) × (n ≤ mostSlots) × (listRoomB ≤ length list.old) }
+    requires { (count ≤ most_cards) × (n ≤ most_slots) × (list_room_b ≤ length list.old) }
     ensures turn_value { result.turn ≡ (inquiry wake n afi (take count cards)).last }
     ensures cards_value { result.cards ≡ ends cards count (inquiry wake n afi (take count cards)) }
     ensures slots_value { result.slots ≡ length (inquiry wake n afi (take count cards)).slots }
-    ensures list_after { list.new ≡ overlay list.old 0 (listBytes (inquiry wake n afi (take count cards)).slots) }
+    ensures list_after { list.new ≡ overlay list.old 0 (list_bytes (inquiry wake n afi (take count cards)).slots) }
 {
     let opening = ReaderB {
         phase: reader_b::PhaseB::Slot,

@@ -1,8 +1,8 @@
 -- Document 02, T-05 over a lent row: how far the call is, and what each step of it leaves. The cards are fetched one by one from the first on, the request
 -- is made over them as values, and they are stored one by one. What a request is stands in crate slots.
 use Rattle.std.specs.Prelude.{ℕ, ◌+◌, Bool, true, false, List, [], ◌≡◌, length, set, replicate}
-use Rattle.limits.specs.Limits.{mostCards}
-use Rattle.slots.specs.Inquiry.{call, inquiryOf}
+use Rattle.limits.specs.Limits.{most_cards}
+use Rattle.slots.specs.Inquiry.{call, inquiry_of}
 use Rattle.slots.specs.Promise.{Inquires}
 use Rattle.slots.specs.declared.Inquired.{Inquired}
 use Rattle.card_b.specs.declared.StateB.TheVariants.{Off}
@@ -15,40 +15,40 @@ use Rattle.slots_row.specs.declared.request.Request.{Request}
 use Rattle.slots_row.specs.declared.pass.Progress.{Progress}
 
 -- what the call over values gives, of a row that holds these cards afterwards
-abbrev pub inquiredRow : RowInquired → List Drawn → Inquired
-inquiredRow s cards = record { reader = s.reader; answer = s.answer; cards = cards; slots = s.slots }
+abbrev pub inquired_row : RowInquired → List Drawn → Inquired
+inquired_row s cards = record { reader = s.reader; answer = s.answer; cards = cards; slots = s.slots }
 
 abbrev pub row_of : Inquired → RowInquired
 row_of s = record { reader = s.reader; answer = s.answer; slots = s.slots }
 
-abbrev pub requestOf : ReaderB → Bool → ℕ → ℕ → Request
-requestOf r wake n afi = record { reader = r; wake = wake; slots = n; afi = afi }
+abbrev pub request_of : ReaderB → Bool → ℕ → ℕ → Request
+request_of r wake n afi = record { reader = r; wake = wake; slots = n; afi = afi }
 
 -- what crate slots says of a request k over the first cards, with a list, that gave s and list₁
 abbrev pub Promises : Request → List Drawn → ℕ → List ℕ → Inquired → List ℕ → Type 0
 Promises k cards count list s list₁ =
-    (call s list₁ ≡ inquiryOf k.reader k.wake k.slots k.afi cards count list)
+    (call s list₁ ≡ inquiry_of k.reader k.wake k.slots k.afi cards count list)
     × Inquires k.reader k.wake k.slots k.afi cards count list s list₁
 
 -- what stands where no card was fetched
-abbrev pub noCard : Drawn
-noCard =
+abbrev pub no_card : Drawn
+no_card =
     record {
       card = record { pupi = replicate 4 0; afi = 0; markers = false; application = replicate 4 0; protocol = replicate 3 0; state = Off };
       number = 0;
     }
 
-abbrev pub noCards : List Drawn
-noCards = replicate mostCards noCard
+abbrev pub no_cards : List Drawn
+no_cards = replicate most_cards no_card
 
 -- what would be read past the end of an array
-abbrev pub blankCard : Drawn
-blankCard = record { card = record { pupi = []; afi = 0; markers = false; application = []; protocol = []; state = Off }; number = 0 }
+abbrev pub blank_card : Drawn
+blank_card = record { card = record { pupi = []; afi = 0; markers = false; application = []; protocol = []; state = Off }; number = 0 }
 
 -- ---- how far it is
 
 abbrev pub stopped : Request → RowInquired → Progress
-stopped k s = record { going = false; at = 0; inquired = s; fetching = false; cards = 0; request = k; held = noCards }
+stopped k s = record { going = false; at = 0; inquired = s; fetching = false; cards = 0; request = k; held = no_cards }
 
 -- the first of the cards is asked for
 abbrev pub fetches : Request → ℕ → Progress
@@ -60,28 +60,28 @@ fetches k count =
       fetching = true;
       cards = count;
       request = k;
-      held = noCards;
+      held = no_cards;
     }
 
 -- the cards that were fetched, and one more
-abbrev pub heldWith : Progress → Drawn → List Drawn
-heldWith p c = set p.held p.at c
+abbrev pub held_with : Progress → Drawn → List Drawn
+held_with p c = set p.held p.at c
 
-abbrev pub fetchedOne : Progress → Drawn → Progress
-fetchedOne p c =
-    record { going = true; at = p.at + 1; inquired = p.inquired; fetching = true; cards = p.cards; request = p.request; held = heldWith p c }
+abbrev pub fetched_one : Progress → Drawn → Progress
+fetched_one p c =
+    record { going = true; at = p.at + 1; inquired = p.inquired; fetching = true; cards = p.cards; request = p.request; held = held_with p c }
 
 -- a request was made that gave s and these cards: the first is to be stored
 abbrev pub stores : Progress → RowInquired → List Drawn → Progress
 stores p s cards =
     record { going = true; at = 0; inquired = s; fetching = false; cards = p.cards; request = p.request; held = cards }
 
-abbrev pub storedOne : Progress → Progress
-storedOne p =
+abbrev pub stored_one : Progress → Progress
+stored_one p =
     record { going = true; at = p.at + 1; inquired = p.inquired; fetching = false; cards = p.cards; request = p.request; held = p.held }
 
 -- the last card is fetched, and the request is made over all of them
 pub record Called (p : Progress) (c : Drawn) (list : List ℕ) (q : Progress) (list₁ : List ℕ) : Type 0 where
   pub is : q ≡ stores p q.inquired q.held
-  pub long : length q.held ≡ mostCards
-  pub promised : Promises p.request (heldWith p c) p.cards list (inquiredRow q.inquired q.held) list₁
+  pub long : length q.held ≡ most_cards
+  pub promised : Promises p.request (held_with p c) p.cards list (inquired_row q.inquired q.held) list₁

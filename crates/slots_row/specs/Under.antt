@@ -1,20 +1,20 @@
 -- The invariant of the call over a lent row, and the two steps that hold to it: how it begins, and one card's turn.
 use Rattle.std.specs.Prelude.{ℕ, ◌+◌, ◌-◌, ◌≤◌, ◌<◌, Bool, true, false, cond, List, ◌++◌, ◌≡◌, length, take, drop, get_or, set}
-use Rattle.limits.specs.Limits.{mostCards}
+use Rattle.limits.specs.Limits.{most_cards}
 use Rattle.field_b.specs.declared.Drawn.{Drawn}
 use Rattle.slots_row.specs.declared.request.Request.{Request}
 use Rattle.slots_row.specs.declared.pass.Progress.{Progress}
 use Rattle.slots_row.specs.declared.pass.Turned.{Turned}
-use Rattle.slots_row.specs.Row.{inquiredRow, Promises, blankCard}
+use Rattle.slots_row.specs.Row.{inquired_row, Promises, blank_card}
 
 -- the cards before the place are fetched, and row and list are as they were
 pub record Fetching (k : Request) (cards₀ : List Drawn) (list₀ : List ℕ) (p : Progress) (cards : List Drawn) (list : List ℕ) : Type 0 where
   pub row : cards ≡ cards₀
-  pub list-row : list ≡ list₀
+  pub list_row : list ≡ list₀
   pub count : p.cards ≡ length cards₀
   pub at : p.at < length cards₀
-  pub few : length cards₀ ≤ mostCards
-  pub long : length p.held ≡ mostCards
+  pub few : length cards₀ ≤ most_cards
+  pub long : length p.held ≡ most_cards
   pub same : take p.at p.held ≡ take p.at cards₀
   pub request : p.request ≡ k
 
@@ -23,13 +23,13 @@ pub record Storing (k : Request) (cards₀ : List Drawn) (list₀ : List ℕ) (p
   pub row : cards ≡ take p.at p.held ++ drop p.at cards₀
   pub count : p.cards ≡ length cards₀
   pub at : p.at < length cards₀
-  pub few : length cards₀ ≤ mostCards
-  pub long : length p.held ≡ mostCards
-  pub promised : Promises k cards₀ (length cards₀) list₀ (inquiredRow p.inquired (take (length cards₀) p.held)) list
+  pub few : length cards₀ ≤ most_cards
+  pub long : length p.held ≡ most_cards
+  pub promised : Promises k cards₀ (length cards₀) list₀ (inquired_row p.inquired (take (length cards₀) p.held)) list
 
 -- going and fetching say which
 abbrev pub UnderIf : Bool → Bool → Request → List Drawn → List ℕ → Progress → List Drawn → List ℕ → Type 0
-UnderIf false f k cards₀ list₀ p cards list = Promises k cards₀ (length cards₀) list₀ (inquiredRow p.inquired cards) list
+UnderIf false f k cards₀ list₀ p cards list = Promises k cards₀ (length cards₀) list₀ (inquired_row p.inquired cards) list
 UnderIf true true k cards₀ list₀ p cards list = Fetching k cards₀ list₀ p cards list
 UnderIf true false k cards₀ list₀ p cards list = Storing k cards₀ list₀ p cards list
 
@@ -38,7 +38,7 @@ Under k cards₀ list₀ p cards list = UnderIf p.going p.fetching k cards₀ li
 
 -- the turns to come are fewer after each
 abbrev pub measure : Progress → ℕ
-measure p = cond p.going (cond p.fetching (1 + mostCards + (mostCards - p.at)) (mostCards - p.at)) 0
+measure p = cond p.going (cond p.fetching (1 + most_cards + (most_cards - p.at)) (most_cards - p.at)) 0
 
 -- the call over any row of so many cards begins
 pub record Opened (k : Request) (count : ℕ) (list₀ : List ℕ) (p : Progress) (list : List ℕ) : Type 0 where
@@ -48,10 +48,10 @@ pub record Opened (k : Request) (count : ℕ) (list₀ : List ℕ) (p : Progress
 pub record Ready (p : Progress) : Type 0 where
   pub going : p.going ≡ true
   pub at : p.at < p.cards
-  pub few : p.cards ≤ mostCards
+  pub few : p.cards ≤ most_cards
 
 -- the turn of the card c, of any row that has it at the place
 pub record Turns (p : Progress) (c : Drawn) (list : List ℕ) (t : Turned) (list₁ : List ℕ) : Type 0 where
   pub fewer : measure t.next < measure p
-  pub under : (k : Request) (cards₀ : List Drawn) (list₀ : List ℕ) (cards : List Drawn) → get_or cards p.at blankCard ≡ c → Under k cards₀ list₀ p cards list
+  pub under : (k : Request) (cards₀ : List Drawn) (list₀ : List ℕ) (cards : List Drawn) → get_or cards p.at blank_card ≡ c → Under k cards₀ list₀ p cards list
       → Under k cards₀ list₀ t.next (set cards p.at t.card) list₁

@@ -1,8 +1,8 @@
 // Document 02, T-05: one request with all its markers over a lent row of Type B cards; the row's cards are changed in place.
 ghost use Rattle.std.specs.Prelude.{◌≡◌, length};
-ghost use Rattle.slots.specs.Inquiry.{call, inquiryOf};
+ghost use Rattle.slots.specs.Inquiry.{call, inquiry_of};
 ghost use Rattle.slots.specs.Promise.{Inquires};
-ghost use Rattle.slots_row.specs.Row.{inquiredRow};
+ghost use Rattle.slots_row.specs.Row.{inquired_row};
 
 use field_b::Drawn;
 use reader_b::{AnswerB, ReaderB};
@@ -31,7 +31,7 @@ pub fn inquire_row(
     cards: &mut [Drawn],
     list: &mut [u8],
 ) -> RowInquired
-    ensures { (call (inquiredRow result cards.new) list.new ≡ inquiryOf r wake n afi cards.old (length cards.old) list.old) × Inquires r wake n afi cards.old (length cards.old) list.old (inquiredRow result cards.new) list.new }
+    ensures { (call (inquired_row result cards.new) list.new ≡ inquiry_of r wake n afi cards.old (length cards.old) list.old) × Inquires r wake n afi cards.old (length cards.old) list.old (inquired_row result cards.new) list.new }
 {
     let mut p = pass::opening(r, wake, n, afi, cards.len(), list);
     while p.going {

@@ -1,8 +1,8 @@
 // How far the call over a row is, and one card's turn. The row's cards are read one by one, the request is made over them as values, and they are stored
 // one by one. All that branches is here, on values: the row is only read and stored.
 ghost use Rattle.std.specs.Prelude.{◌≡◌, ◌≤◌, ◌<◌};
-ghost use Rattle.limits.specs.Limits.{mostCards};
-ghost use Rattle.slots_row.specs.Row.{requestOf, stopped, fetches, fetchedOne, storedOne, Called};
+ghost use Rattle.limits.specs.Limits.{most_cards};
+ghost use Rattle.slots_row.specs.Row.{request_of, stopped, fetches, fetched_one, stored_one, Called};
 ghost use Rattle.slots_row.specs.Under.{Ready, Turns, Opened};
 
 use crate::RowInquired;
@@ -72,8 +72,8 @@ fn fetches(k: Request, count: usize) -> Progress
 
 // A card is fetched, and another is asked for.
 fn fetched(p: Progress, c: Drawn) -> Progress
-    requires { (p.at < p.cards) × (p.cards ≤ mostCards) }
-    ensures { result ≡ fetchedOne p c }
+    requires { (p.at < p.cards) × (p.cards ≤ most_cards) }
+    ensures { result ≡ fetched_one p c }
 {
     let at = p.at;
     let mut held = p.held;
@@ -93,7 +93,7 @@ fn fetched(p: Progress, c: Drawn) -> Progress
 
 // The last card is fetched: the request is made, and its cards are to be stored.
 fn called(p: Progress, c: Drawn, list: &mut [u8]) -> Progress
-    requires { (p.at < p.cards) × (p.cards ≤ mostCards) }
+    requires { (p.at < p.cards) × (p.cards ≤ most_cards) }
     ensures { Called p c list.old result list.new }
 {
     let at = p.at;
@@ -116,8 +116,8 @@ fn called(p: Progress, c: Drawn, list: &mut [u8]) -> Progress
 
 // A card is stored, and the next is to be.
 fn stored(p: Progress) -> Progress
-    requires { (p.at < p.cards) × (p.cards ≤ mostCards) }
-    ensures { result ≡ storedOne p }
+    requires { (p.at < p.cards) × (p.cards ≤ most_cards) }
+    ensures { result ≡ stored_one p }
 {
     let s = p.inquired;
     let k = p.request;
@@ -161,7 +161,7 @@ pub fn turn(p: Progress, c: Drawn, list: &mut [u8]) -> Turned
 
 // The request where no card is to be fetched: there is none, or there are too many.
 fn at_once(k: Request, count: usize, list: &mut [u8]) -> Progress
-    requires { count ≤ mostCards → count ≡ 0 }
+    requires { count ≤ most_cards → count ≡ 0 }
     ensures { Opened k count list.old result list.new }
 {
     let held = crate::request::no_cards();
@@ -172,7 +172,7 @@ fn at_once(k: Request, count: usize, list: &mut [u8]) -> Progress
 
 // The call over a row of so many cards begins.
 pub fn opening(r: ReaderB, wake: bool, n: u8, afi: u8, count: usize, list: &mut [u8]) -> Progress
-    ensures { Opened (requestOf r wake n afi) count list.old result list.new }
+    ensures { Opened (request_of r wake n afi) count list.old result list.new }
 {
     let k = Request {
         reader: r,

@@ -1,7 +1,7 @@
 // The request that is to be made, and the call that makes it over an array of cards, as values.
 ghost use Rattle.std.specs.Prelude.{◌≡◌, length};
-ghost use Rattle.limits.specs.Limits.{mostCards};
-ghost use Rattle.slots_row.specs.Row.{row_of, noCards, Promises};
+ghost use Rattle.limits.specs.Limits.{most_cards};
+ghost use Rattle.slots_row.specs.Row.{row_of, no_cards, Promises};
 
 use crate::RowInquired;
 use card_b::{CardB, StateB};
@@ -21,7 +21,7 @@ pub struct Request {
 
 // Cards that stand where none was fetched yet.
 pub fn no_cards() -> [Drawn; MOST_CARDS]
-    ensures { result ≡ noCards }
+    ensures { result ≡ no_cards }
 {
     let c = CardB {
         pupi: [0u8; 4],
@@ -38,7 +38,7 @@ pub fn no_cards() -> [Drawn; MOST_CARDS]
 // The request over the first cards of an array.
 pub fn make(k: Request, cards: [Drawn; MOST_CARDS], count: usize, list: &mut [u8]) -> Inquired
     ensures promises { Promises k cards count list.old result list.new }
-    ensures cards_len { length result.cards ≡ mostCards }
+    ensures cards_len { length result.cards ≡ most_cards }
 {
     let r = k.reader;
     slots::inquire(r, k.wake, k.slots, k.afi, cards, count, list)

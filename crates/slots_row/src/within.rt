@@ -1,9 +1,9 @@
 // The request over a lent row, for our own crates that have their cards in an array.
 ghost use Rattle.std.specs.Prelude.{◌≡◌, ◌≤◌};
-ghost use Rattle.limits.specs.Limits.{mostCards};
-ghost use Rattle.slots.specs.Inquiry.{call, inquiryOf};
+ghost use Rattle.limits.specs.Limits.{most_cards};
+ghost use Rattle.slots.specs.Inquiry.{call, inquiry_of};
 ghost use Rattle.slots.specs.Promise.{Inquires};
-ghost use Rattle.slots_row.specs.Row.{inquiredRow, requestOf, Promises};
+ghost use Rattle.slots_row.specs.Row.{inquired_row, request_of, Promises};
 
 use crate::RowInquired;
 use field_b::Drawn;
@@ -28,8 +28,8 @@ pub fn inquire_array(
     count: usize,
     list: &mut [u8],
 ) -> ArrayInquired
-    requires { count ≤ mostCards }
-    ensures { Promises (requestOf r wake n afi) cards count list.old (inquiredRow result.inquired result.cards) list.new }
+    requires { count ≤ most_cards }
+    ensures { Promises (request_of r wake n afi) cards count list.old (inquired_row result.inquired result.cards) list.new }
 {
     let s = crate::inquire_row(r, wake, n, afi, &mut cards[..count], list);
     ArrayInquired {
@@ -48,7 +48,7 @@ pub fn inquire_by_row(
     count: usize,
     list: &mut [u8],
 ) -> Inquired
-    ensures list_after { call result list.new ≡ inquiryOf r wake n afi cards count list.old }
+    ensures list_after { call result list.new ≡ inquiry_of r wake n afi cards count list.old }
     ensures inquires { Inquires r wake n afi cards count list.old result list.new }
 {
     if count > MOST_CARDS {

@@ -4,7 +4,7 @@ use Rattle.std.specs.Prelude.{ℕ, zero, suc, Bool, cond, List, [], ◌∷◌, �
 use Rattle.selection_b.specs.TypeB.{request}
 use Rattle.selection_b.specs.HeardB.{entry}
 use Rattle.reader_b.specs.ReaderB.{opens, next, hear}
-use Rattle.field_b.specs.FieldB.{allTake, heardFrom}
+use Rattle.field_b.specs.FieldB.{all_take, heard_from}
 use Rattle.selection_b.specs.declared.Held.{Held}
 use Rattle.reader_b.specs.declared.ReaderB.{ReaderB}
 use Rattle.reader_b.specs.declared.AnswerB.{AnswerB}
@@ -38,16 +38,16 @@ follow Halted t ds o = ended [] ds t
 follow (Declines e) t ds o = ended [] ds t
 
 -- the frame that is out: in slot 1 the request, in each other slot its marker
-unfoldable pub outFrame : Bool → ℕ → ReaderB → List ℕ
-outFrame wake afi r = cond (eqb r.slot 1) (request wake r.slots afi) (next r)
+unfoldable pub out_frame : Bool → ℕ → ReaderB → List ℕ
+out_frame wake afi r = cond (eqb r.slot 1) (request wake r.slots afi) (next r)
 
 -- a turn of the reader, whose frame is out, and the field: what comes of it in so many frames
 unfoldable pub run : Bool → ℕ → ℕ → TurnB → List Drawn → Out
 run wake afi zero t ds = ended [] ds t
 run wake afi (suc fuel) t ds =
-    let f : List ℕ = outFrame wake afi t.reader in
-    let t' : TurnB = hear t.reader (heardFrom f ds) in
-    let ds' : List Drawn = allTake f ds in
+    let f : List ℕ = out_frame wake afi t.reader in
+    let t' : TurnB = hear t.reader (heard_from f ds) in
+    let ds' : List Drawn = all_take f ds in
     follow t'.answer t' ds' (run wake afi fuel t' ds')
 
 -- the request with n slots and all its markers: n frames
@@ -55,6 +55,6 @@ unfoldable pub inquiry : Bool → ℕ → ℕ → List Drawn → Out
 inquiry wake n afi ds = run wake afi n (opens n) ds
 
 -- "The list .. has 13 a slot"
-unfoldable pub listBytes : List Told → List ℕ
-listBytes [] = []
-listBytes (s ∷ l) = entry s.0 s.1 ++ listBytes l
+unfoldable pub list_bytes : List Told → List ℕ
+list_bytes [] = []
+list_bytes (s ∷ l) = entry s.0 s.1 ++ list_bytes l

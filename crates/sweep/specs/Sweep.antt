@@ -2,9 +2,9 @@
 -- the first n are the field. What a sweep is stands in crate sweep_rules.
 use Rattle.std.specs.Prelude.{ℕ, not, cond, ◌||◌, List, ◌++◌, length, take, drop, ltb}
 use Rattle.rows.specs.Rows.{overlay}
-use Rattle.reader.specs.Reader.{isNew}
-use Rattle.log.specs.Log.{logBytes, listBytes}
-use Rattle.limits.specs.Limits.{mostCards, logRoom, listRoom}
+use Rattle.reader.specs.Reader.{is_new}
+use Rattle.log.specs.Log.{log_bytes, list_bytes}
+use Rattle.limits.specs.Limits.{most_cards, log_room, list_room}
 use Rattle.sweep_rules.specs.Run.{Out, sweep}
 use Rattle.sweep_rules.specs.Terms.{within}
 use Rattle.card.specs.declared.Card.{Card}
@@ -37,21 +37,21 @@ done t cards n log list o =
         answer = o.last.answer;
         cards = o.cards ++ drop n cards;
         frames = length o.exchanges;
-        logged = length (logBytes t o.exchanges);
+        logged = length (log_bytes t o.exchanges);
         found = length o.found;
       };
-      log = overlay log 0 (logBytes t o.exchanges);
-      list = overlay list 0 (listBytes o.found);
+      log = overlay log 0 (log_bytes t o.exchanges);
+      list = overlay list 0 (list_bytes o.found);
     }
 
 -- the call of a sweep, W being its run over a field: 11, 1 and 6 are tested in this order
 unfoldable pub call_of : (List Card → Out) → Start → List Card → ℕ → List ℕ → List ℕ → Call
 call_of W s cards n log list =
-    cond (not (isNew s.reader.phase)) (call (refused s.reader cards NotDue) log list)
-    (cond (ltb (length log) logRoom || ltb (length list) listRoom) (call (refused s.reader cards Room) log list)
-    (cond (ltb mostCards n || not (within (take n cards))) (call (refused s.reader cards Argument) log list)
+    cond (not (is_new s.reader.phase)) (call (refused s.reader cards NotDue) log list)
+    (cond (ltb (length log) log_room || ltb (length list) list_room) (call (refused s.reader cards Room) log list)
+    (cond (ltb most_cards n || not (within (take n cards))) (call (refused s.reader cards Argument) log list)
     (done s.tick cards n log list (W (take n cards)))))
 
 -- the plain sweep's
-abbrev pub sweepOf : Start → List Card → ℕ → List ℕ → List ℕ → Call
-sweepOf s cards n log list = call_of sweep s cards n log list
+abbrev pub sweep_of : Start → List Card → ℕ → List ℕ → List ℕ → Call
+sweep_of s cards n log list = call_of sweep s cards n log list

@@ -3,7 +3,7 @@
 pub mod within;
 
 ghost use Rattle.std.specs.Prelude.{◌≡◌};
-ghost use Rattle.sweep.specs.Sweep.{call, sweepOf};
+ghost use Rattle.sweep.specs.Sweep.{call, sweep_of};
 ghost use Rattle.sweep.specs.Promise.{Sweeps};
 
 use card::Card;
@@ -39,7 +39,7 @@ pub fn sweep(
     log: &mut [u8],
     list: &mut [u8],
 ) -> Swept
-    ensures list_after { call result log.new list.new ≡ sweepOf start cards n log.old list.old }
+    ensures list_after { call result log.new list.new ≡ sweep_of start cards n log.old list.old }
     ensures sweeps { Sweeps start cards n log.old list.old result log.new list.new }
 {
     within::call(false, start, cards, n, log, list)

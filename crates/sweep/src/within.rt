@@ -2,7 +2,7 @@
 ghost use Rattle.std.specs.Prelude.{◌≡◌, take};
 ghost use Rattle.rows.specs.Rows.{All};
 ghost use Rattle.sweep_rules.specs.Demand.{Typed};
-ghost use Rattle.sweep_steps.specs.Loop.{sweptIf};
+ghost use Rattle.sweep_steps.specs.Loop.{swept_if};
 ghost use Rattle.sweep.specs.Sweep.{call, refused, call_of};
 ghost use Rattle.sweep.specs.Promise.{Terms};
 ghost use Rattle.sweep.specs.Shared.{FitsRoom};
@@ -36,8 +36,8 @@ pub fn call(
     log: &mut [u8],
     list: &mut [u8],
 ) -> Swept
-    requires { FitsRoom (sweptIf remembers) (take n cards) }
-    ensures list_after { call result log.new list.new ≡ call_of (sweptIf remembers) start cards n log.old list.old }
+    requires { FitsRoom (swept_if remembers) (take n cards) }
+    ensures list_after { call result log.new list.new ≡ call_of (swept_if remembers) start cards n log.old list.old }
     ensures all { Terms start cards n log.old list.old → All Typed (take n cards) }
 {
     let r = start.reader;

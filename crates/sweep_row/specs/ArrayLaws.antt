@@ -4,20 +4,20 @@ use Rattle.std.proofs.Common.{ap, sym, subst, ◌∙◌, append-nil, take-append
 use Rattle.std.proofs.Math.Bool.{not}
 use Rattle.std.proofs.Math.Seq.{take-length}
 use Rattle.std.proofs.Math.Dec.{ltb}
-use Rattle.limits.specs.Limits.{mostCards, logRoom, listRoom}
-use Rattle.reader.specs.Reader.{isNew}
+use Rattle.limits.specs.Limits.{most_cards, log_room, list_room}
+use Rattle.reader.specs.Reader.{is_new}
 use Rattle.sweep_rules.specs.Demand.{Demand3}
 use Rattle.sweep_rules.specs.Run.{Out, sweep}
 use Rattle.sweep_rules.specs.Terms.{within}
-use Rattle.sweep.specs.CallLaws.{Promised, promised-by}
+use Rattle.sweep.specs.CallLaws.{Promised, promised_by}
 use Rattle.sweep.specs.Promise.{Terms}
 use Rattle.sweep.specs.Sweep.{Call, call, refused, done, call_of}
 use Rattle.card.specs.declared.Card.{Card}
 use Rattle.sweep.specs.declared.Start.{Start}
 use Rattle.refusal.specs.declared.Refusal.TheVariants.{Room, Argument, NotDue}
 use Rattle.sweep_row.specs.declared.RowSwept.{RowSwept}
-use Rattle.sweep_row.specs.PadLaws.{take_row, drop-row}
-use Rattle.sweep_row.specs.Row.{sweptRow}
+use Rattle.sweep_row.specs.PadLaws.{take_row, drop_row}
+use Rattle.sweep_row.specs.Row.{swept_row}
 
 -- the same call, over a row that more cards follow
 abbrev with : List Card → Call → Call
@@ -50,7 +50,7 @@ module _ (start : Start) (cards : List Card) (n : ℕ) (log list : List ℕ) (lo
 
   runs_on : (o : Out) → with rest (done start.tick front n log list o) ≡ done start.tick cards n log list o
   unfolding done
-  runs_on o = rw (drop-row n front long, append-nil)
+  runs_on o = rw (drop_row n front long, append-nil)
 
   -- the call's three tests, over the cards k
   abbrev tests : Bool → Bool → Bool → List Card → Call → Call
@@ -64,25 +64,25 @@ module _ (start : Start) (cards : List Card) (n : ℕ) (log list : List ℕ) (lo
 
   -- of any sweep: W is its run
   module _ (W : List Card → Out) where
-    same-call : with rest (call_of W start front n log list) ≡ call_of W start cards n log list
+    same_call : with rest (call_of W start front n log list) ≡ call_of W start cards n log list
     unfolding call_of
-    same-call =
-        rw again (same_tests (not (isNew start.reader.phase)) (ltb (length log) logRoom || ltb (length list) listRoom) (ltb mostCards n || not (within front))
+    same_call =
+        rw again (same_tests (not (is_new start.reader.phase)) (ltb (length log) log_room || ltb (length list) list_room) (ltb most_cards n || not (within front))
         (done start.tick front n log list (W front)) (done start.tick cards n log list (W front)) (runs_on (W front)))
 
-    pub array-call : (s : RowSwept) (after : List Card) (log₁ list₁ : List ℕ) → call (sweptRow s after) log₁ list₁ ≡ call_of W start front (length front) log list
-        → call (sweptRow s (after ++ rest)) log₁ list₁ ≡ call_of W start cards n log list
-    array-call s after log₁ list₁ e = ap (with rest) (e ∙ ap (λ m. call_of W start front m log list) long) ∙ same-call
+    pub array_call : (s : RowSwept) (after : List Card) (log₁ list₁ : List ℕ) → call (swept_row s after) log₁ list₁ ≡ call_of W start front (length front) log list
+        → call (swept_row s (after ++ rest)) log₁ list₁ ≡ call_of W start cards n log list
+    array_call s after log₁ list₁ e = ap (with rest) (e ∙ ap (λ m. call_of W start front m log list) long) ∙ same_call
 
   -- and what is known of the run over the row, by its terms
-  pub array-claim : (C : List Card → Type 0) → (Terms start front (length front) log list → C (take (length front) front)) → Terms start cards n log list → C front
-  array-claim C k t =
+  pub array_claim : (C : List Card → Type 0) → (Terms start front (length front) log list → C (take (length front) front)) → Terms start cards n log list → C front
+  array_claim C k t =
       let e : take (length front) front ≡ front = take-length front in
-      let few : Terms start front (length front) log list = record { new = t.new; log-room = t.log-room; list-room = t.list-room; few = subst (λ m. m ≤ mostCards) (sym long) t.few; field = ap within e ∙ t.field } in
+      let few : Terms start front (length front) log list = record { new = t.new; log_has_room = t.log_has_room; list_has_room = t.list_has_room; few = subst (λ m. m ≤ most_cards) (sym long) t.few; field = ap within e ∙ t.field } in
       subst C e (k few)
 
   -- of the plain one
-  pub array-promised : (s : RowSwept) (after : List Card) (log₁ list₁ : List ℕ) → Promised start front (length front) log list (sweptRow s after) log₁ list₁
-      → Promised start cards n log list (sweptRow s (after ++ rest)) log₁ list₁
-  array-promised s after log₁ list₁ p =
-      promised-by start cards n log list (sweptRow s (after ++ rest)) log₁ list₁ (array-call sweep s after log₁ list₁ p.0) (array-claim (λ k. Demand3 k (sweep k)) p.1.demand3)
+  pub array_promised : (s : RowSwept) (after : List Card) (log₁ list₁ : List ℕ) → Promised start front (length front) log list (swept_row s after) log₁ list₁
+      → Promised start cards n log list (swept_row s (after ++ rest)) log₁ list₁
+  array_promised s after log₁ list₁ p =
+      promised_by start cards n log list (swept_row s (after ++ rest)) log₁ list₁ (array_call sweep s after log₁ list₁ p.0) (array_claim (λ k. Demand3 k (sweep k)) p.1.demand3)

@@ -5,13 +5,13 @@ use Rattle.std.proofs.Math.ListN.{length-take, length-set}
 use Rattle.std.proofs.Math.Seq.{drop-cons}
 use Rattle.rows.specs.ListLaws.{both}
 use Rattle.rows.specs.Rows.{All, any, same}
-use Rattle.uid.specs.Uid.{uidBytes}
-use Rattle.limits.specs.Limits.{mostCards}
+use Rattle.uid.specs.Uid.{uid_bytes}
+use Rattle.limits.specs.Limits.{most_cards}
 use Rattle.sweep_rules.specs.Demand.{Typed}
-use Rattle.sweep_rules.specs.Terms.{cardFits, allFit, apart, within}
+use Rattle.sweep_rules.specs.Terms.{card_fits, all_fit, apart, within}
 use Rattle.card.specs.declared.Card.{Card}
 use Rattle.sweep_row.specs.declared.seen.Seen.{Seen}
-use Rattle.sweep_row.specs.Row.{noCard, noneSeen, seenWith}
+use Rattle.sweep_row.specs.Row.{no_card, none_seen, seen_with}
 
 -- ---- a test on the elements from i on, the first n being those that count
 module _ {A : Type 0} (t : A → Bool) (l : List A) (n : ℕ) (h : n ≤ length l) (i : ℕ) where
@@ -27,33 +27,33 @@ module _ {A : Type 0} (t : A → Bool) (l : List A) (n : ℕ) (h : n ≤ length 
     unfolding any
     any_here e = rw (one_more, e)
 
-  pub any-done : n ≤ i → any t (drop i (take n l)) ≡ false
+  pub any_done : n ≤ i → any t (drop i (take n l)) ≡ false
   unfolding any
-  any-done k = rw (drop_of_length-le (take n l) {i = i} (rw length-take (omega arith)))
+  any_done k = rw (drop_of_length-le (take n l) {i = i} (rw length-take (omega arith)))
 
 -- ---- a field of one card
-pub alone-fits : (c : Card) → within (take 1 (replicate mostCards c)) ≡ cardFits c
-unfolding within allFit apart any
-alone-fits c = go (cardFits c) refl
+pub alone_fits : (c : Card) → within (take 1 (replicate most_cards c)) ≡ card_fits c
+unfolding within all_fit apart any
+alone_fits c = go (card_fits c) refl
   where
-    go : (b : Bool) → cardFits c ≡ b → within (take 1 (replicate mostCards c)) ≡ b
+    go : (b : Bool) → card_fits c ≡ b → within (take 1 (replicate most_cards c)) ≡ b
     go true e = rw e
     go false e = rw e
 
-pub alone-typed : (c : Card) → All Typed (take 1 (replicate mostCards c)) → Typed c
-alone-typed c h = h.0
+pub alone_typed : (c : Card) → All Typed (take 1 (replicate most_cards c)) → Typed c
+alone_typed c h = h.0
 
 -- ---- one card more
-seen-uids : {A : Type 0} (i n : ℕ) (l : List A) (x : A) → i < n → i < length l → drop i (take n (set l i x)) ≡ x ∷ drop (suc i) (take n l)
-seen-uids i zero l x h k = absurd (not-suc-le-zero h)
-seen-uids i (suc n) [] x h k = absurd (not-suc-le-zero k)
-seen-uids zero (suc n) (y ∷ l) x h k = refl
-seen-uids (suc i) (suc n) (y ∷ l) x h k = seen-uids i n l x (omega arith) (omega arith)
+seen_uids : {A : Type 0} (i n : ℕ) (l : List A) (x : A) → i < n → i < length l → drop i (take n (set l i x)) ≡ x ∷ drop (suc i) (take n l)
+seen_uids i zero l x h k = absurd (not-suc-le-zero h)
+seen_uids i (suc n) [] x h k = absurd (not-suc-le-zero k)
+seen_uids zero (suc n) (y ∷ l) x h k = refl
+seen_uids (suc i) (suc n) (y ∷ l) x h k = seen_uids i n l x (omega arith) (omega arith)
 
-any-map : {A B : Type 0} (t : B → Bool) (f : A → B) (l : List A) → any t (map f l) ≡ any (λ x. t (f x)) l
+any_map : {A B : Type 0} (t : B → Bool) (f : A → B) (l : List A) → any t (map f l) ≡ any (λ x. t (f x)) l
 unfolding any
-any-map t f [] = refl
-any-map t f (x ∷ l) = ap (λ b. t (f x) || b) (any-map t f l)
+any_map t f [] = refl
+any_map t f (x ∷ l) = ap (λ b. t (f x) || b) (any_map t f l)
 
 -- the tests of a card and of those behind it, in either order
 shuffle : (f p c n : Bool) → ((f && p) && c && n) ≡ ((c && f) && (n && p))
@@ -68,45 +68,45 @@ shuffle true true true false = refl
 
 -- the cards from a place on are such a field, and their UIDs are kept
 pub record SeenFrom (cards : List Card) (i : ℕ) (s : Seen) : Type 0 where
-  pub full : length s.uids ≡ mostCards
+  pub full : length s.uids ≡ most_cards
   pub uids : drop i (take (length cards) s.uids) ≡ map (λ k. k.uid) (drop i cards)
-  pub fits : s.fits ≡ (allFit (drop i cards) && apart (drop i cards))
+  pub fits : s.fits ≡ (all_fit (drop i cards) && apart (drop i cards))
   pub typed : s.fits ≡ true → All Typed (drop i cards)
 
-pub seen_none : (cards : List Card) → length cards ≤ mostCards → SeenFrom cards (length cards) noneSeen
-unfolding allFit apart
+pub seen_none : (cards : List Card) → length cards ≤ most_cards → SeenFrom cards (length cards) none_seen
+unfolding all_fit apart
 seen_none cards few =
     let e : drop (length cards) cards ≡ [] = drop_of_length-le cards {i = length cards} (omega arith) in
-    let k : drop (length cards) (take (length cards) noneSeen.uids) ≡ [] = drop_of_length-le (take (length cards) noneSeen.uids) {i = length cards} (rw length-take (omega arith)) in
+    let k : drop (length cards) (take (length cards) none_seen.uids) ≡ [] = drop_of_length-le (take (length cards) none_seen.uids) {i = length cards} (rw length-take (omega arith)) in
     record { full = refl; uids = k ∙ rw e; fits = rw e; typed = λ f. rw e tt }
 
-module _ (cards : List Card) (few : length cards ≤ mostCards) (at : ℕ) (h : at < length cards) (s : Seen) (v : SeenFrom cards (suc at) s) where
+module _ (cards : List Card) (few : length cards ≤ most_cards) (at : ℕ) (h : at < length cards) (s : Seen) (v : SeenFrom cards (suc at) s) where
   abbrev here : Card
-  here = get_or cards at noCard
+  here = get_or cards at no_card
 
   rest : List Card
   rest = drop (suc at) cards
 
   next : drop at cards ≡ here ∷ rest
   unfolding rest
-  next = drop-cons cards at noCard h
+  next = drop-cons cards at no_card h
 
-  alone : any (λ u. same (uidBytes here.uid) (uidBytes u)) (drop (at + 1) (take (length cards) s.uids)) ≡ any (λ k. same (uidBytes here.uid) (uidBytes k.uid)) rest
+  alone : any (λ u. same (uid_bytes here.uid) (uid_bytes u)) (drop (at + 1) (take (length cards) s.uids)) ≡ any (λ k. same (uid_bytes here.uid) (uid_bytes k.uid)) rest
   unfolding rest
-  alone = rw (add-one at, v.uids) (any-map (λ u. same (uidBytes here.uid) (uidBytes u)) (λ k. k.uid) rest)
+  alone = rw (add-one at, v.uids) (any_map (λ u. same (uid_bytes here.uid) (uid_bytes u)) (λ k. k.uid) rest)
 
-  fits-here : (seenWith s at (length cards) here).fits ≡ (allFit (drop at cards) && apart (drop at cards))
-  unfolding seenWith allFit apart rest
-  fits-here = rw (next, alone, v.fits) (shuffle (allFit rest) (apart rest) (cardFits here) (not (any (λ k. same (uidBytes here.uid) (uidBytes k.uid)) rest)))
+  fits_here : (seen_with s at (length cards) here).fits ≡ (all_fit (drop at cards) && apart (drop at cards))
+  unfolding seen_with all_fit apart rest
+  fits_here = rw (next, alone, v.fits) (shuffle (all_fit rest) (apart rest) (card_fits here) (not (any (λ k. same (uid_bytes here.uid) (uid_bytes k.uid)) rest)))
 
-  pub seen_next : ((seenWith s at (length cards) here).fits ≡ true → Typed here) → SeenFrom cards at (seenWith s at (length cards) here)
-  unfolding seenWith rest
+  pub seen_next : ((seen_with s at (length cards) here).fits ≡ true → Typed here) → SeenFrom cards at (seen_with s at (length cards) here)
+  unfolding seen_with rest
   seen_next t =
       record {
         full = length-set s.uids at here.uid ∙ v.full;
-        uids = seen-uids at (length cards) s.uids here.uid h (omega (arith, v.full)) ∙ rw (v.uids, next);
-        fits = fits-here;
-        typed = λ f. rw next (t f, v.typed (both s.fits (cardFits here) (both (s.fits && cardFits here) _ f).0).0);
+        uids = seen_uids at (length cards) s.uids here.uid h (omega (arith, v.full)) ∙ rw (v.uids, next);
+        fits = fits_here;
+        typed = λ f. rw next (t f, v.typed (both s.fits (card_fits here) (both (s.fits && card_fits here) _ f).0).0);
       }
 
 -- a card that is only looked at stays

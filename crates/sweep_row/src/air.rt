@@ -1,6 +1,6 @@
 // What is heard of the cards that have taken a frame, and one card more.
 ghost use Rattle.std.specs.Prelude.{◌≡◌, ◌≤◌, length};
-ghost use Rattle.sweep_row.specs.Row.{silence, heardCard};
+ghost use Rattle.sweep_row.specs.Row.{silence, heard_card};
 
 use card::Card;
 use reader::Reader;
@@ -31,7 +31,7 @@ pub fn silence() -> Air
 // The card takes the reader's frame.
 pub fn hear_card(a: Air, r: Reader, c: Card) -> HeardCard
     requires { a.bits ≤ length a.heard }
-    ensures { result ≡ heardCard a r c }
+    ensures { result ≡ heard_card a r c }
 {
     let mut frame = [0u8; 81];
     reader::within::put_frame(r, &mut frame);

@@ -1,9 +1,9 @@
 // What a sweep over a row is before its first frame, and the whole of it where the row is empty.
 ghost use Rattle.std.specs.Prelude.{◌≡◌, [], ◌≤◌, length};
 ghost use Rattle.rows.specs.Rows.{overlay};
-ghost use Rattle.log.specs.Log.{logBytes, logSize, listBytes};
-ghost use Rattle.sweep_steps.specs.Loop.{sweptIf};
-ghost use Rattle.sweep_row.specs.Row.{refusedRow, noPath, firstRow, endRow};
+ghost use Rattle.log.specs.Log.{log_bytes, log_size, list_bytes};
+ghost use Rattle.sweep_steps.specs.Loop.{swept_if};
+ghost use Rattle.sweep_row.specs.Row.{refused_row, no_path, first_row, end_row};
 
 use crate::RowSwept;
 use crate::finish::RowReached;
@@ -16,7 +16,7 @@ use uid::{Uid, UidSize};
 
 // Declined before a frame is sent.
 pub fn refused(r: Reader, e: Refusal) -> RowSwept
-    ensures { result ≡ refusedRow r e }
+    ensures { result ≡ refused_row r e }
 {
     RowSwept {
         reader: r,
@@ -29,7 +29,7 @@ pub fn refused(r: Reader, e: Refusal) -> RowSwept
 
 // Nothing is known.
 pub fn no_path() -> Path
-    ensures { result ≡ noPath }
+    ensures { result ≡ no_path }
 {
     Path {
         row: [0u8; 120],
@@ -39,7 +39,7 @@ pub fn no_path() -> Path
 
 // REQA is out.
 pub fn first() -> RowReached
-    ensures { result ≡ firstRow }
+    ensures { result ≡ first_row }
 {
     let t = reader::within::sends(reader::within::blank(Phase::ReqaSent, true));
     let r = t.reader;
@@ -57,10 +57,10 @@ pub fn first() -> RowReached
 
 // The sweep over an empty row: REQA and silence.
 pub fn empty(remembers: bool, tick: u32, log: &mut [u8], list: &mut [u8]) -> RowSwept
-    requires { (logSize (sweptIf remembers []).exchanges ≤ length log.old) × (length (listBytes (sweptIf remembers []).found) ≤ length list.old) }
-    ensures value { result ≡ endRow (sweptIf remembers []) }
-    ensures log_after { log.new ≡ overlay log.old 0 (logBytes tick (sweptIf remembers []).exchanges) }
-    ensures list_after { list.new ≡ overlay list.old 0 (listBytes (sweptIf remembers []).found) }
+    requires { (log_size (swept_if remembers []).exchanges ≤ length log.old) × (length (list_bytes (swept_if remembers []).found) ≤ length list.old) }
+    ensures value { result ≡ end_row (swept_if remembers []) }
+    ensures log_after { log.new ≡ overlay log.old 0 (log_bytes tick (swept_if remembers []).exchanges) }
+    ensures list_after { list.new ≡ overlay list.old 0 (list_bytes (swept_if remembers []).found) }
 {
     let u = Uid {
         size: UidSize::Single,

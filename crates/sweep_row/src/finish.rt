@@ -1,9 +1,9 @@
 // The end of an exchange: every card has taken the reader's frame.
 ghost use Rattle.std.specs.Prelude.{◌≡◌, ◌+◌, ◌*◌, ◌≤◌, ◌<◌, length};
 ghost use Rattle.rows.specs.Rows.{overlay};
-ghost use Rattle.log.specs.Log.{exchangeBytes, exchangeSize, listBytes};
-ghost use Rattle.sweep_steps.specs.Steps.{foundBy, tickBound};
-ghost use Rattle.sweep_row.specs.Row.{goesOn, exchangedWith, finished, Roomy, exchangeWith, heardBy, rowTick};
+ghost use Rattle.log.specs.Log.{exchange_bytes, exchange_size, list_bytes};
+ghost use Rattle.sweep_steps.specs.Steps.{found_by, tick_bound};
+ghost use Rattle.sweep_row.specs.Row.{goes_on, exchanged_with, finished, Roomy, exchange_with, heard_by, row_tick};
 
 use crate::RowSwept;
 use crate::air::Air;
@@ -35,9 +35,9 @@ fn exchange(
     at: usize,
     tick: usize,
 ) -> Exchanged
-    requires { (a.bits ≤ length a.heard) × (at + exchangeSize (exchangeWith r a) ≤ length log.old) × (tick < tickBound) }
-    ensures value { result ≡ exchangedWith remembers r path a }
-    ensures log_after { log.new ≡ overlay log.old at (exchangeBytes tick (exchangeWith r a)) }
+    requires { (a.bits ≤ length a.heard) × (at + exchange_size (exchange_with r a) ≤ length log.old) × (tick < tick_bound) }
+    ensures value { result ≡ exchanged_with remembers r path a }
+    ensures log_after { log.new ≡ overlay log.old at (exchange_bytes tick (exchange_with r a)) }
 {
     let mut frame = [0u8; 81];
     reader::within::put_frame(r, &mut frame);
@@ -56,8 +56,8 @@ fn exchange(
 pub fn finish(p: Progress, a: Air, log: &mut [u8], list: &mut [u8]) -> RowReached
     requires { Roomy p a log.old list.old }
     ensures value { result ≡ finished p a }
-    ensures log_after { log.new ≡ overlay log.old p.swept.logged (exchangeBytes (rowTick p) (exchangeWith p.swept.reader a)) }
-    ensures list_after { list.new ≡ overlay list.old (11 * p.swept.found) (listBytes (foundBy (heardBy p a).turn)) }
+    ensures log_after { log.new ≡ overlay log.old p.swept.logged (exchange_bytes (row_tick p) (exchange_with p.swept.reader a)) }
+    ensures list_after { list.new ≡ overlay list.old (11 * p.swept.found) (list_bytes (found_by (heard_by p a).turn)) }
 {
     let s = p.swept;
     let r = s.reader;
@@ -86,7 +86,7 @@ pub fn finish(p: Progress, a: Air, log: &mut [u8], list: &mut [u8]) -> RowReache
 
 // Does the reader have a frame out, and may it send one more?
 pub fn goes_on(s: RowSwept) -> bool
-    ensures { result ≡ goesOn s }
+    ensures { result ≡ goes_on s }
 {
     if s.frames < limits::MOST_FRAMES {
         let a = s.answer;

@@ -1,8 +1,8 @@
 // Document 01, "The reader and the sweep": the sweep over a lent row of cards, each changed in place. The row is not copied.
 ghost use Rattle.std.specs.Prelude.{◌≡◌, length};
-ghost use Rattle.sweep.specs.Sweep.{call, sweepOf};
+ghost use Rattle.sweep.specs.Sweep.{call, sweep_of};
 ghost use Rattle.sweep.specs.Promise.{Sweeps};
-ghost use Rattle.sweep_row.specs.Row.{sweptRow};
+ghost use Rattle.sweep_row.specs.Row.{swept_row};
 
 use card::Card;
 use reader::{Answer, Reader};
@@ -30,8 +30,8 @@ pub struct RowSwept {
 // the lent list, from their fronts on. Declined, with all unchanged: 11, the reader is not new; 1, log or list is too short; 6, the row has more
 // cards than the limit or is not a field that a sweep takes.
 pub fn sweep_row(start: Start, cards: &mut [Card], log: &mut [u8], list: &mut [u8]) -> RowSwept
-    ensures list_after { call (sweptRow result cards.new) log.new list.new ≡ sweepOf start cards.old (length cards.old) log.old list.old }
-    ensures sweeps { Sweeps start cards.old (length cards.old) log.old list.old (sweptRow result cards.new) log.new list.new }
+    ensures list_after { call (swept_row result cards.new) log.new list.new ≡ sweep_of start cards.old (length cards.old) log.old list.old }
+    ensures sweeps { Sweeps start cards.old (length cards.old) log.old list.old (swept_row result cards.new) log.new list.new }
 {
     let mut p = within::opening(false, start, cards.len(), log, list);
     while p.going {

@@ -1,8 +1,8 @@
 // How far a sweep over a row is, from one card to the next, on values: the row is only read and stored.
 ghost use Rattle.std.specs.Prelude.{◌≡◌, true, ◌≤◌, ◌<◌};
-ghost use Rattle.limits.specs.Limits.{mostCards};
+ghost use Rattle.limits.specs.Limits.{most_cards};
 ghost use Rattle.sweep_rules.specs.Demand.{Typed};
-ghost use Rattle.sweep_row.specs.Row.{stopped, looks, again, onward, back, decided, looked, seenWith};
+ghost use Rattle.sweep_row.specs.Row.{stopped, looks, again, onward, back, decided, looked, seen_with};
 
 use crate::RowSwept;
 use crate::air::Air;
@@ -140,9 +140,9 @@ fn decide(p: Progress, s: Seen) -> Progress
 
 // A card of the first pass is looked at.
 pub fn look(p: Progress, c: Card) -> Progress
-    requires { (p.at < p.cards) × (p.cards ≤ mostCards) }
+    requires { (p.at < p.cards) × (p.cards ≤ most_cards) }
     ensures value { result ≡ looked p c }
-    ensures typed { (seenWith p.seen p.at p.cards c).fits ≡ true → Typed c }
+    ensures typed { (seen_with p.seen p.at p.cards c).fits ≡ true → Typed c }
 {
     let seen = p.seen;
     let s = crate::seen::see_card(seen, p.at, p.cards, c);

@@ -1,11 +1,11 @@
 // Is the row a field that a sweep takes? Its cards are looked at one by one, the last first; of each only the UID is kept.
 ghost use Rattle.std.specs.Prelude.{◌≡◌, true, not, ◌+◌, ◌≤◌, ◌<◌, take, drop};
-ghost use Rattle.limits.specs.Limits.{mostCards};
+ghost use Rattle.limits.specs.Limits.{most_cards};
 ghost use Rattle.rows.specs.Rows.{any, same};
-ghost use Rattle.uid.specs.Uid.{uidBytes};
-ghost use Rattle.sweep_rules.specs.Terms.{cardFits};
+ghost use Rattle.uid.specs.Uid.{uid_bytes};
+ghost use Rattle.sweep_rules.specs.Terms.{card_fits};
 ghost use Rattle.sweep_rules.specs.Demand.{Typed};
-ghost use Rattle.sweep_row.specs.Row.{noneSeen, seenWith};
+ghost use Rattle.sweep_row.specs.Row.{none_seen, seen_with};
 
 use card::Card;
 use limits::MOST_CARDS;
@@ -19,7 +19,7 @@ pub struct Seen {
 }
 
 pub fn none() -> Seen
-    ensures { result ≡ noneSeen }
+    ensures { result ≡ none_seen }
 {
     let u = Uid {
         size: UidSize::Single,
@@ -33,7 +33,7 @@ pub fn none() -> Seen
 
 // A field of this card alone is one that a sweep takes.
 fn card_fits(c: Card) -> bool
-    ensures value { result ≡ cardFits c }
+    ensures value { result ≡ card_fits c }
     ensures typed { result ≡ true → Typed c }
 {
     sweep_steps::within::is_within([c; MOST_CARDS], 1)
@@ -41,8 +41,8 @@ fn card_fits(c: Card) -> bool
 
 // Is the UID none of those from one place to another?
 fn is_alone(u: Uid, uids: [Uid; MOST_CARDS], start: usize, n: usize) -> bool
-    requires { (start ≤ n) × (n ≤ mostCards) }
-    ensures { result ≡ not (any (λ v. same (uidBytes u) (uidBytes v)) (drop start (take n uids))) }
+    requires { (start ≤ n) × (n ≤ most_cards) }
+    ensures { result ≡ not (any (λ v. same (uid_bytes u) (uid_bytes v)) (drop start (take n uids))) }
 {
     for i in start..n {
         let v = uids[i];
@@ -54,8 +54,8 @@ fn is_alone(u: Uid, uids: [Uid; MOST_CARDS], start: usize, n: usize) -> bool
 }
 
 fn fits_too(s: Seen, at: usize, n: usize, c: Card) -> bool
-    requires { (at < n) × (n ≤ mostCards) }
-    ensures value { result ≡ (seenWith s at n c).fits }
+    requires { (at < n) × (n ≤ most_cards) }
+    ensures value { result ≡ (seen_with s at n c).fits }
     ensures typed { result ≡ true → Typed c }
 {
     if !s.fits {
@@ -71,8 +71,8 @@ fn fits_too(s: Seen, at: usize, n: usize, c: Card) -> bool
 
 // The card at a place is seen, after those behind it.
 pub fn see_card(s: Seen, at: usize, n: usize, c: Card) -> Seen
-    requires { (at < n) × (n ≤ mostCards) }
-    ensures value { result ≡ seenWith s at n c }
+    requires { (at < n) × (n ≤ most_cards) }
+    ensures value { result ≡ seen_with s at n c }
     ensures typed { result.fits ≡ true → Typed c }
 {
     let fits = fits_too(s, at, n, c);

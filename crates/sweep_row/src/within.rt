@@ -1,10 +1,10 @@
 // The sweep over a lent row, plain or one that remembers (T-14), card by card: all that branches is on values. And the plain sweep of our own crates
 // that have their cards in an array. Called by our own crates only.
 ghost use Rattle.std.specs.Prelude.{◌≡◌, ◌≤◌};
-ghost use Rattle.limits.specs.Limits.{mostCards};
-ghost use Rattle.sweep.specs.Sweep.{call, sweepOf};
+ghost use Rattle.limits.specs.Limits.{most_cards};
+ghost use Rattle.sweep.specs.Sweep.{call, sweep_of};
 ghost use Rattle.sweep.specs.Promise.{Sweeps};
-ghost use Rattle.sweep_row.specs.Row.{sweptRow, Ready, Turns};
+ghost use Rattle.sweep_row.specs.Row.{swept_row, Ready, Turns};
 ghost use Rattle.sweep_row.specs.Under.{Opened};
 
 use crate::RowSwept;
@@ -104,8 +104,8 @@ pub fn sweep_array(
     log: &mut [u8],
     list: &mut [u8],
 ) -> ArraySwept
-    requires { n ≤ mostCards }
-    ensures { (call (sweptRow result.swept result.cards) log.new list.new ≡ sweepOf start cards n log.old list.old) × Sweeps start cards n log.old list.old (sweptRow result.swept result.cards) log.new list.new }
+    requires { n ≤ most_cards }
+    ensures { (call (swept_row result.swept result.cards) log.new list.new ≡ sweep_of start cards n log.old list.old) × Sweeps start cards n log.old list.old (swept_row result.swept result.cards) log.new list.new }
 {
     let s = crate::sweep_row(start, &mut cards[..n], log, list);
     ArraySwept {
@@ -122,7 +122,7 @@ pub fn sweep_by_row(
     log: &mut [u8],
     list: &mut [u8],
 ) -> Swept
-    ensures list_after { call result log.new list.new ≡ sweepOf start cards n log.old list.old }
+    ensures list_after { call result log.new list.new ≡ sweep_of start cards n log.old list.old }
     ensures sweeps { Sweeps start cards n log.old list.old result log.new list.new }
 {
     if n > MOST_CARDS {

@@ -5,9 +5,9 @@ use Prim.Native.Nat.{ℕ, zero, suc, ◌+◌, ◌-◌, ◌*◌, ◌/◌}
 use mathlib.Core.Bool.{true, cond}
 use mathlib.Core.List.{List, [], ◌∷◌, ◌++◌, map}
 use lib.ListN.{length, take}
-use Rattle.rows.specs.Rows.{clean, next, isNil, any, All}
+use Rattle.rows.specs.Rows.{clean, next, is_nil, any, All}
 use Rattle.uid.specs.LevelLaws.{wide}
-use Rattle.uid.specs.Order.{insertOn, sortOn, Diff, on, off, diff, above, parts}
+use Rattle.uid.specs.Order.{insert_on, sort_on, Diff, on, off, diff, above, parts}
 use Rattle.uid.specs.OrderLaws.{Off}
 use Rattle.field.specs.Merge.{merge}
 
@@ -64,7 +64,7 @@ select (suc L) T =
     let T' : List (List ℕ) = strips q.0 T in
     let s : List ℕ × ℕ = select L T' in
     let more : List ℕ × ℕ = (q.0 ++ s.0, 2 + q.1 + s.1) in
-    cond (any isNil T') (q.0, 2 + q.1) more
+    cond (any is_nil T') (q.0, 2 + q.1) more
 
 -- the sweep: the rows found, and the number of reader frames. n bounds the cards.
 unfoldable pub sweep : ℕ → List (List ℕ) → List (List ℕ) × ℕ
@@ -78,10 +78,10 @@ sweep (suc n) (r ∷ S) =
 -- ---- falling order of rows
 
 abbrev pub insert : List ℕ → List (List ℕ) → List (List ℕ)
-insert r l = insertOn (λ s. s) r l
+insert r l = insert_on (λ s. s) r l
 
 abbrev pub sort : List (List ℕ) → List (List ℕ)
-sort S = sortOn (λ s. s) S
+sort S = sort_on (λ s. s) S
 
 unfoldable pub levels : List ℕ → ℕ
 levels r = length r / wide

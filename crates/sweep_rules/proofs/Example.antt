@@ -6,10 +6,10 @@ use mathlib.Core.Bool.{Bool, true, false}
 use mathlib.Core.List.{List, [], ◌∷◌}
 use native.Mathlib.Omega.{arith}
 use Rattle.rows.specs.Rows.{All, any, same}
-use Rattle.uid.specs.Uid.{valid, uidBytes}
+use Rattle.uid.specs.Uid.{valid, uid_bytes}
 use Rattle.sweep_rules.specs.Demand.{Typed, Demand3}
 use Rattle.sweep_rules.specs.Run.{sweep}
-use Rattle.sweep_rules.specs.Terms.{cardFits, allFit, apart, within}
+use Rattle.sweep_rules.specs.Terms.{card_fits, all_fit, apart, within}
 use Rattle.sweep_rules.proofs.Demand3.{demand3}
 use Rattle.uid.specs.declared.UidSize.{UidSize}
 use Rattle.uid.specs.declared.UidSize.TheVariants.{Single, Double, Triple}
@@ -41,7 +41,7 @@ typed = (
 )
 
 pub meets : within field ≡ true
-unfolding within allFit cardFits apart any same valid uidBytes
+unfolding within all_fit card_fits apart any same valid uid_bytes
 meets = refl
 
 pub swept : Demand3 field (sweep field)

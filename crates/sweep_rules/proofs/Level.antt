@@ -7,23 +7,23 @@ use mathlib.Core.Option.{Option, none, some}
 use mathlib.Core.List.{List, [], ◌∷◌, ◌++◌}
 use lib.ListN.{length, length-append}
 use native.Mathlib.Omega.{arith}
-use Rattle.rows.specs.EachLaws.{bits-right}
+use Rattle.rows.specs.EachLaws.{bits_right}
 use Rattle.rows.specs.Rows.{clean, next, All, Bits}
 use Rattle.uid.specs.Order.{Diff, on, off, later, diff, one, parts}
-use Rattle.uid.specs.OrderLaws.{lead, from, diff-on, diff-cons}
-use Rattle.uid.specs.PartsLaws.{parts-nil}
+use Rattle.uid.specs.OrderLaws.{lead, from, diff_on, diff_cons}
+use Rattle.uid.specs.PartsLaws.{parts_nil}
 use Rattle.sweep_rules.proofs.Abstract.{keep, strips, heard, Up, Top, level}
-use Rattle.sweep_rules.proofs.First.{strips-nil, strips-append, parts-append}
-use Rattle.sweep_rules.proofs.Step.{Step, step, up-later, top-nil}
+use Rattle.sweep_rules.proofs.First.{strips_nil, strips_append, parts_append}
+use Rattle.sweep_rules.proofs.Step.{Step, step, up_later, top_nil}
 
 -- what holds of a row holds, in another form, of what it has left
-pub all-strips : (F G : List ℕ → Type 0) (P : List ℕ) (S : List (List ℕ)) → ((t : List ℕ) → F (P ++ t) → G t) → All F S → All G (strips P S)
+pub all_strips : (F G : List ℕ → Type 0) (P : List ℕ) (S : List (List ℕ)) → ((t : List ℕ) → F (P ++ t) → G t) → All F S → All G (strips P S)
 unfolding strips keep
-all-strips F G P [] g h = tt
-all-strips F G P (r ∷ S) g h = go (diff P r) refl (all-strips F G P S g h.1)
+all_strips F G P [] g h = tt
+all_strips F G P (r ∷ S) g h = go (diff P r) refl (all_strips F G P S g h.1)
   where
     go : (D : Diff) → diff P r ≡ D → All G (strips P S) → All G (keep D (strips P S))
-    go (on t) e ih = (g t (rw (diff-on P r t e) at h.0), ih)
+    go (on t) e ih = (g t (rw (diff_on P r t e) at h.0), ih)
     go (off p x) e ih = ih
 
 -- ---- first P, then Q
@@ -32,33 +32,33 @@ OnUp : Diff → List ℕ → Type 0
 OnUp (on t) Q = Up (diff Q t)
 OnUp (off p x) Q = Unit {0}
 
-onup-later : (D : Diff) (Q : List ℕ) → OnUp (later D) Q → OnUp D Q
+onup_later : (D : Diff) (Q : List ℕ) → OnUp (later D) Q → OnUp D Q
 unfolding OnUp later
-onup-later (on t) Q h = h
-onup-later (off p x) Q h = tt
+onup_later (on t) Q h = h
+onup_later (off p x) Q h = tt
 
-pub up-unlater : (D : Diff) → Up (later D) → Up D
+pub up_unlater : (D : Diff) → Up (later D) → Up D
 unfolding later
-up-unlater (on t) u = tt
-up-unlater (off p x) u = u
+up_unlater (on t) u = tt
+up_unlater (off p x) u = u
 
-up-append : (P Q r : List ℕ) → Up (diff P r) → OnUp (diff P r) Q → Up (diff (P ++ Q) r)
+up_append : (P Q r : List ℕ) → Up (diff P r) → OnUp (diff P r) Q → Up (diff (P ++ Q) r)
 unfolding diff OnUp from
-up-append [] Q r u o = o
-up-append (x ∷ P) Q r u o = rw (diff-cons x (P ++ Q) r) (go (lead x r) (rw diff-cons at u) (rw diff-cons at o) (up-append P Q))
+up_append [] Q r u o = o
+up_append (x ∷ P) Q r u o = rw (diff_cons x (P ++ Q) r) (go (lead x r) (rw diff_cons at u) (rw diff_cons at o) (up_append P Q))
   where
     go : (d : Option (List ℕ)) → Up (from x P d) → OnUp (from x P d) Q → ((s : List ℕ) → Up (diff P s) → OnUp (diff P s) Q → Up (diff (P ++ Q) s)) → Up (from x (P ++ Q) d)
-    go (some s) u o ih = up-later (diff (P ++ Q) s) (ih s (up-unlater (diff P s) u) (onup-later (diff P s) Q o))
+    go (some s) u o ih = up_later (diff (P ++ Q) s) (ih s (up_unlater (diff P s) u) (onup_later (diff P s) Q o))
     go none u o ih = u
 
-pub top-append : (P Q : List ℕ) (S : List (List ℕ)) → Top P S → Top Q (strips P S) → Top (P ++ Q) S
+pub top_append : (P Q : List ℕ) (S : List (List ℕ)) → Top P S → Top Q (strips P S) → Top (P ++ Q) S
 unfolding strips OnUp keep
-top-append P Q [] t h = tt
-top-append P Q (r ∷ S) t h = go (diff P r) refl h (top-append P Q S t.1)
+top_append P Q [] t h = tt
+top_append P Q (r ∷ S) t h = go (diff P r) refl h (top_append P Q S t.1)
   where
     go : (D : Diff) → diff P r ≡ D → Top Q (keep D (strips P S)) → (Top Q (strips P S) → Top (P ++ Q) S) → Top (P ++ Q) (r ∷ S)
-    go (on s) e h ih = (up-append P Q r t.0 (rw e h.0), ih h.1)
-    go (off p x) e h ih = (up-append P Q r t.0 (rw e tt), ih h)
+    go (on s) e h ih = (up_append P Q r t.0 (rw e h.0), ih h.1)
+    go (off p x) e h ih = (up_append P Q r t.0 (rw e tt), ih h)
 
 -- ---- a level
 
@@ -70,12 +70,12 @@ pub record Level (n : ℕ) (T : List (List ℕ)) (q : List ℕ × ℕ) : Type 0 
 
 pub level_holds : (f n : ℕ) (T : List (List ℕ)) → n ≤ f → 1 ≤ length T → All (λ r. n ≤ length r) T → All Bits T → Level n T (level f n T)
 unfolding level one
-level_holds zero n T k h l b = record { full = omega arith; cost = parts-nil T; top = top-nil T; left = rw strips-nil h }
+level_holds zero n T k h l b = record { full = omega arith; cost = parts_nil T; top = top_nil T; left = rw strips_nil h }
 level_holds (suc f) n T k h l b =
     go (clean (heard n T)) (step n T h l b)
     (λ p m. level_holds f (n - length R) (strips R T) (omega arith) m
-    (all-strips (λ r. n ≤ length r) (λ t. n - length R ≤ length t) R T (λ t e. omega (arith, length-append R t)) l)
-    (all-strips Bits Bits R T (bits-right R) b))
+    (all_strips (λ r. n ≤ length r) (λ t. n - length R ≤ length t) R T (λ t e. omega (arith, length-append R t)) l)
+    (all_strips Bits Bits R T (bits_right R) b))
   where
     R : List ℕ
     R = next (heard n T)
@@ -87,7 +87,7 @@ level_holds (suc f) n T k h l b =
     go true s ih = record { full = s.fit; cost = s.cost; top = s.top; left = s.left }
     go false s ih = let i : Level (n - length R) (strips R T) q = ih s.fit.0 s.left in record {
       full = rw length-append (omega arith);
-      cost = rw parts-append (omega arith);
-      top = top-append R q.0 T s.top i.top;
-      left = rw strips-append i.left;
+      cost = rw parts_append (omega arith);
+      top = top_append R q.0 T s.top i.top;
+      left = rw strips_append i.left;
     }

@@ -7,10 +7,10 @@ use mathlib.Core.List.{List, [], ◌∷◌, ◌++◌, append-nil, cons≢nil, he
 use lib.ListN.{length}
 use native.Mathlib.Omega.{arith}
 use Rattle.rows.specs.Rows.{any, All}
-use Rattle.uid.specs.Order.{insertOn, sortOn, Diff, on, off, diff, parts_at, parts, isUp, above}
-use Rattle.uid.specs.OrderLaws.{Off, diff-on}
-use Rattle.uid.specs.PartsLaws.{count-cong}
-use Rattle.uid.specs.SortLaws.{all-sort, above-asym}
+use Rattle.uid.specs.Order.{insert_on, sort_on, Diff, on, off, diff, parts_at, parts, is_up, above}
+use Rattle.uid.specs.OrderLaws.{Off, diff_on}
+use Rattle.uid.specs.PartsLaws.{count_cong}
+use Rattle.uid.specs.SortLaws.{all_sort, above_asym}
 use Rattle.sweep_rules.proofs.Abstract.{keep, strips, leave, rest, Up, Top, insert, sort, Apart}
 
 -- ---- sorting keeps the positions of first difference
@@ -20,23 +20,23 @@ or_swap true true c = refl
 or_swap true false c = refl
 or_swap false b c = refl
 
-any-insert : {A : Type 0} (key : A → List ℕ) (f : A → Bool) (r : A) (l : List A) → any f (insertOn key r l) ≡ (f r || any f l)
-unfolding insertOn any
-any-insert key f r [] = refl
-any-insert key f r (s ∷ l) = go (above (key r) (key s)) (any-insert key f r l)
+any_insert : {A : Type 0} (key : A → List ℕ) (f : A → Bool) (r : A) (l : List A) → any f (insert_on key r l) ≡ (f r || any f l)
+unfolding insert_on any
+any_insert key f r [] = refl
+any_insert key f r (s ∷ l) = go (above (key r) (key s)) (any_insert key f r l)
   where
-    go : (b : Bool) → any f (insertOn key r l) ≡ (f r || any f l) → any f (cond b (r ∷ s ∷ l) (s ∷ insertOn key r l)) ≡ (f r || (f s || any f l))
+    go : (b : Bool) → any f (insert_on key r l) ≡ (f r || any f l) → any f (cond b (r ∷ s ∷ l) (s ∷ insert_on key r l)) ≡ (f r || (f s || any f l))
     go true ih = refl
     go false ih = ap (◌||◌ (f s)) ih ∙ or_swap (f s) (f r) (any f l)
 
-pub any-sort : {A : Type 0} (key : A → List ℕ) (f : A → Bool) (S : List A) → any f (sortOn key S) ≡ any f S
-unfolding sortOn any
-any-sort key f [] = refl
-any-sort key f (r ∷ S) = any-insert key f r (sortOn key S) ∙ ap (◌||◌ (f r)) (any-sort key f S)
+pub any_sort : {A : Type 0} (key : A → List ℕ) (f : A → Bool) (S : List A) → any f (sort_on key S) ≡ any f S
+unfolding sort_on any
+any_sort key f [] = refl
+any_sort key f (r ∷ S) = any_insert key f r (sort_on key S) ∙ ap (◌||◌ (f r)) (any_sort key f S)
 
-pub parts-sort : (P : List ℕ) (S : List (List ℕ)) → parts P (sort S) ≡ parts P S
+pub parts_sort : (P : List ℕ) (S : List (List ℕ)) → parts P (sort S) ≡ parts P S
 unfolding parts
-parts-sort P S = count-cong (length P) (λ q l. any-sort (λ s. s) (λ r. parts_at q (diff P r)) S)
+parts_sort P S = count_cong (length P) (λ q l. any_sort (λ s. s) (λ r. parts_at q (diff P r)) S)
 
 -- ---- the rows that are left
 
@@ -49,10 +49,10 @@ all_rest F P (r ∷ S) h = go (diff P r) (all_rest F P S h.1)
     go (on t) ih = ih
     go (off p x) ih = (h.0, ih)
 
-pub apart-rest : (P : List ℕ) (S : List (List ℕ)) → Apart S → Apart (rest P S)
+pub apart_rest : (P : List ℕ) (S : List (List ℕ)) → Apart S → Apart (rest P S)
 unfolding rest leave
-apart-rest P [] h = tt
-apart-rest P (r ∷ S) h = go (diff P r) (apart-rest P S h.1)
+apart_rest P [] h = tt
+apart_rest P (r ∷ S) h = go (diff P r) (apart_rest P S h.1)
   where
     go : (D : Diff) → Apart (rest P S) → Apart (leave D r (rest P S))
     go (on t) ih = ih
@@ -69,33 +69,33 @@ length_rest P (r ∷ S) = go (diff P r) (length_rest P S)
 
 -- ---- the first of the sort
 
-insert-top : (r : List ℕ) (l : List (List ℕ)) → All (λ s. above r s ≡ true) l → insert r l ≡ r ∷ l
-unfolding insertOn
-insert-top r [] h = refl
-insert-top r (s ∷ l) h = rw h.0
+insert_top : (r : List ℕ) (l : List (List ℕ)) → All (λ s. above r s ≡ true) l → insert r l ≡ r ∷ l
+unfolding insert_on
+insert_top r [] h = refl
+insert_top r (s ∷ l) h = rw h.0
 
 -- none of S begins with P
 others : (P : List ℕ) (S : List (List ℕ)) → Top P S → strips P S ≡ [] → All (λ s. above P s ≡ true) S × (rest P S ≡ S)
-unfolding strips keep rest leave above isUp
+unfolding strips keep rest leave above is_up
 others P [] t e = (tt, refl)
 others P (r ∷ S) t e = go (diff P r) t.0 e (others P S t.1)
   where
     go : (D : Diff) → Up D → keep D (strips P S) ≡ [] → (strips P S ≡ [] → All (λ s. above P s ≡ true) S × (rest P S ≡ S))
-        → ((isUp D ≡ true) × All (λ s. above P s ≡ true) S) × (leave D r (rest P S) ≡ r ∷ S)
+        → ((is_up D ≡ true) × All (λ s. above P s ≡ true) S) × (leave D r (rest P S) ≡ r ∷ S)
     go (on u) t e ih = absurd (cons≢nil e)
     go (off p x) t e ih = ((rw t, (ih e).0), ap (λ l. r ∷ l) (ih e).1)
 
-pub sort-first : (P : List ℕ) (S : List (List ℕ)) → Top P S → strips P S ≡ [] ∷ [] → sort S ≡ P ∷ sort (rest P S)
-unfolding strips keep rest leave sortOn insertOn above isUp
-sort-first P [] t e = cc
-sort-first P (r ∷ S) t e = go (diff P r) refl t.0 e (sort-first P S t.1)
+pub sort_first : (P : List ℕ) (S : List (List ℕ)) → Top P S → strips P S ≡ [] ∷ [] → sort S ≡ P ∷ sort (rest P S)
+unfolding strips keep rest leave sort_on insert_on above is_up
+sort_first P [] t e = cc
+sort_first P (r ∷ S) t e = go (diff P r) refl t.0 e (sort_first P S t.1)
   where
     go : (D : Diff) → diff P r ≡ D → Up D → keep D (strips P S) ≡ [] ∷ [] → (strips P S ≡ [] ∷ [] → sort S ≡ P ∷ sort (rest P S))
         → insert r (sort S) ≡ P ∷ sort (leave D r (rest P S))
     go (on u) d t' e' ih =
         let o : All (λ s. above P s ≡ true) S × (rest P S ≡ S) = others P S t.1 (tail-eq_of_cons-eq e') in
-        let r≡P : r ≡ P = diff-on P r u d ∙ ap (λ l. P ++ l) (head-eq_of_cons-eq e') ∙ append-nil P in
-        rw (o.1, r≡P) (insert-top P (sort S) (all-sort (λ s. s) (λ s. above P s ≡ true) S o.0))
+        let r≡P : r ≡ P = diff_on P r u d ∙ ap (λ l. P ++ l) (head-eq_of_cons-eq e') ∙ append-nil P in
+        rw (o.1, r≡P) (insert_top P (sort S) (all_sort (λ s. s) (λ s. above P s ≡ true) S o.0))
     go (off p x) d t' e' ih =
         let up : above P r ≡ true = rw (d, t') in
-        rw (ih e', above-asym P r up)
+        rw (ih e', above_asym P r up)

@@ -11,19 +11,19 @@ use Rattle.field.specs.Merge.{join, merge}
 use Rattle.sweep_rules.proofs.Abstract.{keep, strips}
 use Rattle.sweep_rules.proofs.First.{put}
 
-pub strips-put : (W r : List ℕ) (S : List (List ℕ)) → strips W (r ∷ S) ≡ put (strip W r) (strips W S)
+pub strips_put : (W r : List ℕ) (S : List (List ℕ)) → strips W (r ∷ S) ≡ put (strip W r) (strips W S)
 unfolding strips strip shape keep put
-strips-put W r S = go (diff W r)
+strips_put W r S = go (diff W r)
   where
     go : (D : Diff) → keep D (strips W S) ≡ put (shape D) (strips W S)
     go (on t) = refl
     go (off p x) = refl
 
 -- rows that do not begin with W are silent
-pub merge-strips : (O : Option (List ℕ) → List ℕ) (W : List ℕ) (S : List (List ℕ)) → O none ≡ [] → merge (map (λ r. O (strip W r)) S) ≡ merge (map (λ v. O (some v)) (strips W S))
+pub merge_strips : (O : Option (List ℕ) → List ℕ) (W : List ℕ) (S : List (List ℕ)) → O none ≡ [] → merge (map (λ r. O (strip W r)) S) ≡ merge (map (λ v. O (some v)) (strips W S))
 unfolding merge join put
-merge-strips O W [] h = unfold strips in refl
-merge-strips O W (r ∷ S) h = rw strips-put (go (strip W r) (merge-strips O W S h))
+merge_strips O W [] h = unfold strips in refl
+merge_strips O W (r ∷ S) h = rw strips_put (go (strip W r) (merge_strips O W S h))
   where
     go : (o : Option (List ℕ)) → merge (map (λ r. O (strip W r)) S) ≡ merge (map (λ v. O (some v)) (strips W S))
         → join (O o) (merge (map (λ r. O (strip W r)) S)) ≡ merge (map (λ v. O (some v)) (put o (strips W S)))
@@ -31,10 +31,10 @@ merge-strips O W (r ∷ S) h = rw strips-put (go (strip W r) (merge-strips O W S
     go none e = rw h e
 
 -- what holds of all that is left holds of what each row has left
-pub all-unstrips : (G : List ℕ → Type 0) (W : List ℕ) (S : List (List ℕ)) → All G (strips W S) → All (λ r. (v : List ℕ) → strip W r ≡ some v → G v) S
+pub all_unstrips : (G : List ℕ → Type 0) (W : List ℕ) (S : List (List ℕ)) → All G (strips W S) → All (λ r. (v : List ℕ) → strip W r ≡ some v → G v) S
 unfolding put
-all-unstrips G W [] h = tt
-all-unstrips G W (r ∷ S) h = go (strip W r) (rw strips-put at h) (all-unstrips G W S)
+all_unstrips G W [] h = tt
+all_unstrips G W (r ∷ S) h = go (strip W r) (rw strips_put at h) (all_unstrips G W S)
   where
     go : (o : Option (List ℕ)) → All G (put o (strips W S)) → (All G (strips W S) → All (λ r. (v : List ℕ) → strip W r ≡ some v → G v) S)
         → ((v : List ℕ) → o ≡ some v → G v) × All (λ r. (v : List ℕ) → strip W r ≡ some v → G v) S

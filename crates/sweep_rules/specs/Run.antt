@@ -1,11 +1,11 @@
 -- Document 01, "How tight the contracts are": a whole sweep, over the state rules. "Each reader frame follows by the reader's rules from
 -- what was heard before it, every card of the field takes it by the card's rules, and the reader hears their merged bits."
 use Rattle.std.specs.Prelude.{ℕ, zero, suc, true, List, [], ◌∷◌, ◌++◌}
-use Rattle.uid.specs.Uid.{uidBytes}
+use Rattle.uid.specs.Uid.{uid_bytes}
 use Rattle.reader.specs.Reader.{blank, sends, frame, hear}
-use Rattle.field.specs.Field.{allTake, heardFrom}
-use Rattle.log.specs.Log.{Exchange, sentHeard}
-use Rattle.limits.specs.Limits.{mostFrames}
+use Rattle.field.specs.Field.{all_take, heard_from}
+use Rattle.log.specs.Log.{Exchange, sent_heard}
+use Rattle.limits.specs.Limits.{most_frames}
 use Rattle.card.specs.declared.Card.{Card}
 use Rattle.reader.specs.declared.Reader.{Reader}
 use Rattle.reader.specs.declared.Turn.{Turn}
@@ -35,7 +35,7 @@ ended cs t = record { exchanges = []; found = []; cards = cs; last = t }
 -- the run goes on while the reader sends
 abbrev pub follow : Answer → Turn → List Card → Out → Out
 follow (Sends n) t cs o = o
-follow (Finds n) t cs o = finding (uidBytes t.reader.uid) o
+follow (Finds n) t cs o = finding (uid_bytes t.reader.uid) o
 follow Selects t cs o = ended cs t
 follow Finishes t cs o = ended cs t
 follow (Declines e) t cs o = ended cs t
@@ -50,10 +50,10 @@ unfoldable pub run_of : {S : Type 0} → Runner S → ℕ → S → List Card �
 run_of R zero s cs = ended cs (R.turn s)
 run_of R (suc fuel) s cs =
     let f : List ℕ = frame (R.turn s).reader in
-    let h : List ℕ = heardFrom f cs in
-    let cs' : List Card = allTake f cs in
+    let h : List ℕ = heard_from f cs in
+    let cs' : List Card = all_take f cs in
     let s' = R.hears s h in
-    before (sentHeard f h) (follow (R.turn s').answer (R.turn s') cs' (run_of R fuel s' cs'))
+    before (sent_heard f h) (follow (R.turn s').answer (R.turn s') cs' (run_of R fuel s' cs'))
 
 -- the reader of document 01: its turn is all of its state
 abbrev pub plain : Runner Turn
@@ -64,4 +64,4 @@ run fuel t cs = run_of plain fuel t cs
 
 -- a sweep
 unfoldable pub sweep : List Card → Out
-sweep cs = run mostFrames (sends (blank ReqaSent true)) cs
+sweep cs = run most_frames (sends (blank ReqaSent true)) cs

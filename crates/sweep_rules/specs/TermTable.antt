@@ -1,9 +1,9 @@
 -- Document 01, "When the core declines", row 6: which fields a sweep takes, one case for each of its words. A table of theorems on the definition.
 use Rattle.std.specs.Prelude.{◌≡◌, refl, ℕ, zero, suc, true, false, List, [], ◌∷◌}
-use Rattle.limits.specs.Limits.{mostCards}
+use Rattle.limits.specs.Limits.{most_cards}
 use Rattle.rows.specs.Rows.{any, same}
-use Rattle.uid.specs.Uid.{valid, uidBytes}
-use Rattle.sweep_rules.specs.Terms.{cardFits, allFit, apart, within}
+use Rattle.uid.specs.Uid.{valid, uid_bytes}
+use Rattle.sweep_rules.specs.Terms.{card_fits, all_fit, apart, within}
 use Rattle.uid.specs.declared.Level.TheVariants.{One}
 use Rattle.uid.specs.declared.UidSize.{UidSize}
 use Rattle.uid.specs.declared.UidSize.TheVariants.{Single, Double, Triple}
@@ -34,44 +34,44 @@ pub record TermTable : Type 0 where
   pub ready : within (of (Ready One) 8 ∷ []) ≡ false
   pub active : within (of Active 8 ∷ []) ≡ false
   -- T-03: the second states are neither
-  pub ready-star : within (of (ReadyStar One) 8 ∷ []) ≡ false
-  pub active-star : within (of ActiveStar 8 ∷ []) ≡ false
+  pub ready_star : within (of (ReadyStar One) 8 ∷ []) ≡ false
+  pub active_star : within (of ActiveStar 8 ∷ []) ≡ false
   pub protocol : within (of (Protocol 8) 8 ∷ []) ≡ false
   -- "index over 8 (a card's in the field too)", of a halted one as well
-  pub index-9 : within (of Idle 9 ∷ []) ≡ false
-  pub index-9-halted : within (of Halt 9 ∷ []) ≡ false
+  pub index_9 : within (of Idle 9 ∷ []) ≡ false
+  pub index_9_halted : within (of Halt 9 ∷ []) ≡ false
   -- "invalid .. UID": u0 of 4 bytes, u3 of 7; other 88s are good
-  pub u0-of-4 : within (card Single 0x88 4 8 Idle ∷ []) ≡ false
-  pub u3-of-7 : within (card Double 1 0x88 8 Idle ∷ []) ≡ false
-  pub u0-of-7 : within (card Double 0x88 4 8 Idle ∷ []) ≡ true
-  pub u0-and-u3-of-10 : within (card Triple 0x88 0x88 8 Idle ∷ []) ≡ true
+  pub u0_of_4 : within (card Single 0x88 4 8 Idle ∷ []) ≡ false
+  pub u3_of_7 : within (card Double 1 0x88 8 Idle ∷ []) ≡ false
+  pub u0_of_7 : within (card Double 0x88 4 8 Idle ∷ []) ≡ true
+  pub u0_and_u3_of_10 : within (card Triple 0x88 0x88 8 Idle ∷ []) ≡ true
   -- "repeated UID", also where one of them is halted; the same bytes in another length are another UID
   pub repeated : within (of Idle 8 ∷ of Halt 8 ∷ []) ≡ false
-  pub another-length : within (of Idle 8 ∷ card Double 1 4 8 Idle ∷ []) ≡ true
+  pub another_length : within (of Idle 8 ∷ card Double 1 4 8 Idle ∷ []) ≡ true
   -- as many cards as the limit, and one more
-  pub full : within (many mostCards) ≡ true
-  pub over : within (many (suc mostCards)) ≡ false
+  pub full : within (many most_cards) ≡ true
+  pub over : within (many (suc most_cards)) ≡ false
 
-pub term-table : TermTable
-unfolding within allFit cardFits apart any same valid uidBytes many
-term-table = record {
+pub term_table : TermTable
+unfolding within all_fit card_fits apart any same valid uid_bytes many
+term_table = record {
   none = refl;
   idle = refl;
   halted = refl;
   off = refl;
   ready = refl;
   active = refl;
-  ready-star = refl;
-  active-star = refl;
+  ready_star = refl;
+  active_star = refl;
   protocol = refl;
-  index-9 = refl;
-  index-9-halted = refl;
-  u0-of-4 = refl;
-  u3-of-7 = refl;
-  u0-of-7 = refl;
-  u0-and-u3-of-10 = refl;
+  index_9 = refl;
+  index_9_halted = refl;
+  u0_of_4 = refl;
+  u3_of_7 = refl;
+  u0_of_7 = refl;
+  u0_and_u3_of_10 = refl;
   repeated = refl;
-  another-length = refl;
+  another_length = refl;
   full = refl;
   over = refl;
 }

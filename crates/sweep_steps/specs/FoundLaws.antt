@@ -2,29 +2,29 @@
 use Rattle.std.specs.Prelude.{◌≡◌, refl, ℕ, suc, ◌+◌, ◌-◌, ◌*◌, ◌≤◌, List, [], ◌∷◌, ◌++◌, length, take}
 use Rattle.std.proofs.Common.{sym, ap, ◌∙◌, arith, append-nil, length-take}
 use Rattle.rows.specs.Rows.{overlay, fill}
-use Rattle.rows.specs.RowLaws.{overlay-nil}
-use Rattle.rows.specs.EachLaws.{length-fill}
-use Rattle.uid.specs.Uid.{byte_count, uidBytes}
+use Rattle.rows.specs.RowLaws.{overlay_nil}
+use Rattle.rows.specs.EachLaws.{length_fill}
+use Rattle.uid.specs.Uid.{byte_count, uid_bytes}
 use Rattle.uid.specs.declared.Uid.{Uid}
-use Rattle.log.specs.Log.{listBytes, entryBytes}
+use Rattle.log.specs.Log.{list_bytes, entry_bytes}
 
 -- the found list grows by the UIDs us: their number, the list afterwards, and the bytes that they take
 abbrev pub Grows : List (List ℕ) → ℕ → List ℕ → ℕ → List ℕ → Type 0
-Grows us n list at list' = (n ≡ length us) × ((list' ≡ overlay list at (listBytes us)) × (length (listBytes us) ≡ 11 * length us))
+Grows us n list at list' = (n ≡ length us) × ((list' ≡ overlay list at (list_bytes us)) × (length (list_bytes us) ≡ 11 * length us))
 
 pub grows_none : (us : List (List ℕ)) (list : List ℕ) (at : ℕ) → us ≡ [] → Grows us 0 list at list
-unfolding listBytes
-grows_none us list at e = rw e (refl, (sym (overlay-nil list at), refl))
+unfolding list_bytes
+grows_none us list at e = rw e (refl, (sym (overlay_nil list at), refl))
 
-length-uid : (u : Uid) → length u.bytes ≡ 10 → length (uidBytes u) ≤ 10
-unfolding uidBytes
-length-uid u l = rw length-take (omega arith)
+length_uid : (u : Uid) → length u.bytes ≡ 10 → length (uid_bytes u) ≤ 10
+unfolding uid_bytes
+length_uid u l = rw length-take (omega arith)
 
-length-entry : (u : Uid) → length u.bytes ≡ 10 → length (entryBytes (uidBytes u)) ≡ 11
-unfolding entryBytes
-length-entry u l = ap suc (length-fill 10 (uidBytes u) (length-uid u l))
+length_entry : (u : Uid) → length u.bytes ≡ 10 → length (entry_bytes (uid_bytes u)) ≡ 11
+unfolding entry_bytes
+length_entry u l = ap suc (length_fill 10 (uid_bytes u) (length_uid u l))
 
-pub grows_one : (us : List (List ℕ)) (u : Uid) (list : List ℕ) (at : ℕ) (list' : List ℕ) → us ≡ uidBytes u ∷ [] → length u.bytes ≡ 10
-    → list' ≡ overlay list at (entryBytes (uidBytes u)) → Grows us 1 list at list'
-unfolding listBytes
-grows_one us u list at list' e l o = rw (e, append-nil) (refl, (o, length-entry u l))
+pub grows_one : (us : List (List ℕ)) (u : Uid) (list : List ℕ) (at : ℕ) (list' : List ℕ) → us ≡ uid_bytes u ∷ [] → length u.bytes ≡ 10
+    → list' ≡ overlay list at (entry_bytes (uid_bytes u)) → Grows us 1 list at list'
+unfolding list_bytes
+grows_one us u list at list' e l o = rw (e, append-nil) (refl, (o, length_entry u l))

@@ -1,9 +1,9 @@
 // Is a field one that a sweep takes? `sweep` declines any other with 6.
 ghost use Rattle.std.specs.Prelude.{◌≡◌, true, not, ◌||◌, ◌≤◌, take, drop};
-ghost use Rattle.limits.specs.Limits.{mostCards};
+ghost use Rattle.limits.specs.Limits.{most_cards};
 ghost use Rattle.rows.specs.Rows.{All, any, same};
-ghost use Rattle.uid.specs.Uid.{uidBytes};
-ghost use Rattle.sweep_rules.specs.Terms.{isIdle, isHalt, cardFits, allFit, apart, within};
+ghost use Rattle.uid.specs.Uid.{uid_bytes};
+ghost use Rattle.sweep_rules.specs.Terms.{is_idle, is_halt, card_fits, all_fit, apart, within};
 ghost use Rattle.sweep_rules.specs.Demand.{Typed};
 
 use card::{Card, CardState};
@@ -11,7 +11,7 @@ use limits::MOST_CARDS;
 use uid::Uid;
 
 fn is_idle_or_halt(s: CardState) -> bool
-    ensures { result ≡ (isIdle s || isHalt s) }
+    ensures { result ≡ (is_idle s || is_halt s) }
 {
     match s {
         CardState::Off => false,
@@ -27,7 +27,7 @@ fn is_idle_or_halt(s: CardState) -> bool
 
 // A valid UID, an index up to 8, Idle or Halt.
 fn card_fits(c: Card) -> bool
-    ensures value { result ≡ cardFits c }
+    ensures value { result ≡ card_fits c }
     ensures typed { Typed c }
 {
     let u = c.uid;
@@ -42,8 +42,8 @@ fn card_fits(c: Card) -> bool
 }
 
 fn all_fit(cards: [Card; MOST_CARDS], n: usize) -> bool
-    requires { n ≤ mostCards }
-    ensures value { result ≡ allFit (take n cards) }
+    requires { n ≤ most_cards }
+    ensures value { result ≡ all_fit (take n cards) }
     ensures all { result ≡ true → All Typed (take n cards) }
 {
     for i in 0..n {
@@ -57,8 +57,8 @@ fn all_fit(cards: [Card; MOST_CARDS], n: usize) -> bool
 
 // Has none of the cards from one place to another this UID?
 fn is_alone(u: Uid, cards: [Card; MOST_CARDS], start: usize, n: usize) -> bool
-    requires { (start ≤ n) × (n ≤ mostCards) }
-    ensures { result ≡ not (any (λ k. same (uidBytes u) (uidBytes k.uid)) (drop start (take n cards))) }
+    requires { (start ≤ n) × (n ≤ most_cards) }
+    ensures { result ≡ not (any (λ k. same (uid_bytes u) (uid_bytes k.uid)) (drop start (take n cards))) }
 {
     for i in start..n {
         let c = cards[i];
@@ -72,7 +72,7 @@ fn is_alone(u: Uid, cards: [Card; MOST_CARDS], start: usize, n: usize) -> bool
 
 // Is no UID there twice?
 fn is_apart(cards: [Card; MOST_CARDS], n: usize) -> bool
-    requires { n ≤ mostCards }
+    requires { n ≤ most_cards }
     ensures { result ≡ apart (take n cards) }
 {
     for i in 0..n {
@@ -87,7 +87,7 @@ fn is_apart(cards: [Card; MOST_CARDS], n: usize) -> bool
 
 // Are the first n cards such a field?
 pub fn is_within(cards: [Card; MOST_CARDS], n: usize) -> bool
-    requires { n ≤ mostCards }
+    requires { n ≤ most_cards }
     ensures value { result ≡ within (take n cards) }
     ensures all { result ≡ true → All Typed (take n cards) }
 {

@@ -1,13 +1,13 @@
 // The sweep's loop: an exchange is a reader frame and what is heard after it. Called by our own crates only, which lend the room.
 ghost use Rattle.std.specs.Prelude.{◌≡◌, true, ◌+◌, ◌*◌, ◌≤◌, ◌<◌, length, take};
 ghost use Rattle.rows.specs.Rows.{All, overlay, clean};
-ghost use Rattle.log.specs.Log.{sentHeard, exchangeBytes, exchangeSize, logBytes, logSize, listBytes};
-ghost use Rattle.log.specs.Calls.{mostBits};
-ghost use Rattle.limits.specs.Limits.{mostCards};
+ghost use Rattle.log.specs.Log.{sent_heard, exchange_bytes, exchange_size, log_bytes, log_size, list_bytes};
+ghost use Rattle.log.specs.Calls.{most_bits};
+ghost use Rattle.limits.specs.Limits.{most_cards};
 ghost use Rattle.sweep_rules.specs.Terms.{within};
 ghost use Rattle.sweep_rules.specs.Demand.{Typed};
-ghost use Rattle.sweep_steps.specs.Steps.{goes, foundBy, exchangeOf, aired, goesOn, ends, tickBound, Roomy, Written};
-ghost use Rattle.sweep_steps.specs.Loop.{sweptIf, reachedAt, exchanged, stepped, nextTurn};
+ghost use Rattle.sweep_steps.specs.Steps.{goes, found_by, exchange_of, aired, goes_on, ends, tick_bound, Roomy, Written};
+ghost use Rattle.sweep_steps.specs.Loop.{swept_if, reached_at, exchanged, stepped, next_turn};
 
 use card::Card;
 use limits::MOST_CARDS;
@@ -16,7 +16,7 @@ use reader::{Answer, Reader, Turn};
 
 // Are the first n cards a field that a sweep takes?
 pub fn is_within(cards: [Card; MOST_CARDS], n: usize) -> bool
-    requires { n ≤ mostCards }
+    requires { n ≤ most_cards }
     ensures value { result ≡ within (take n cards) }
     ensures all { result ≡ true → All Typed (take n cards) }
 {
@@ -53,9 +53,9 @@ pub struct Progress {
 
 // The records of a reader frame, with a tick, and of what was heard after it, with the next. The answer is their number of bytes.
 pub fn put_exchange(log: &mut [u8], at: usize, tick: usize, frame: &[u8], heard: &[u8]) -> usize
-    requires { (clean frame.now ≡ true) × (length frame.now ≤ mostBits) × (length heard.now ≤ mostBits) × (at + exchangeSize (sentHeard frame.now heard.now) ≤ length log.old) × (tick < tickBound) }
-    ensures value { result ≡ exchangeSize (sentHeard frame.now heard.now) }
-    ensures log_after { log.new ≡ overlay log.old at (exchangeBytes tick (sentHeard frame.now heard.now)) }
+    requires { (clean frame.now ≡ true) × (length frame.now ≤ most_bits) × (length heard.now ≤ most_bits) × (at + exchange_size (sent_heard frame.now heard.now) ≤ length log.old) × (tick < tick_bound) }
+    ensures value { result ≡ exchange_size (sent_heard frame.now heard.now) }
+    ensures log_after { log.new ≡ overlay log.old at (exchange_bytes tick (sent_heard frame.now heard.now)) }
 {
     let first = log::within::put_sent(log, at, tick, frame);
     let second = log::within::put_heard(log, at + first, tick + 1, heard);
@@ -71,9 +71,9 @@ pub fn air(
     at: usize,
     tick: usize,
 ) -> Aired
-    requires { (n ≤ mostCards) × (at + exchangeSize (exchangeOf r (take n cards)) ≤ length log.old) × (tick < tickBound) }
+    requires { (n ≤ most_cards) × (at + exchange_size (exchange_of r (take n cards)) ≤ length log.old) × (tick < tick_bound) }
     ensures value { result ≡ aired r cards n }
-    ensures log_after { log.new ≡ overlay log.old at (exchangeBytes tick (exchangeOf r (take n cards))) }
+    ensures log_after { log.new ≡ overlay log.old at (exchange_bytes tick (exchange_of r (take n cards))) }
 {
     let mut frame = [0u8; 81];
     reader::within::put_frame(r, &mut frame);
@@ -102,9 +102,9 @@ fn exchange(
     at: usize,
     tick: usize,
 ) -> Exchanged
-    requires { (n ≤ mostCards) × (at + exchangeSize (exchangeOf r (take n cards)) ≤ length log.old) × (tick < tickBound) }
+    requires { (n ≤ most_cards) × (at + exchange_size (exchange_of r (take n cards)) ≤ length log.old) × (tick < tick_bound) }
     ensures value { result ≡ exchanged remembers r path cards n }
-    ensures log_after { log.new ≡ overlay log.old at (exchangeBytes tick (exchangeOf r (take n cards))) }
+    ensures log_after { log.new ≡ overlay log.old at (exchange_bytes tick (exchange_of r (take n cards))) }
 {
     let a = air(r, cards, n, log, at, tick);
     let heard = a.heard;
@@ -120,10 +120,10 @@ fn exchange(
 
 // The UID that a turn has found goes into the list. The answer is how many it found.
 pub fn put_found(t: Turn, list: &mut [u8], at: usize) -> usize
-    requires { at + 11 * length (foundBy t) ≤ length list.old }
-    ensures value { result ≡ length (foundBy t) }
-    ensures list_after { list.new ≡ overlay list.old at (listBytes (foundBy t)) }
-    ensures t_len { length (listBytes (foundBy t)) ≡ 11 * length (foundBy t) }
+    requires { at + 11 * length (found_by t) ≤ length list.old }
+    ensures value { result ≡ length (found_by t) }
+    ensures list_after { list.new ≡ overlay list.old at (list_bytes (found_by t)) }
+    ensures t_len { length (list_bytes (found_by t)) ≡ 11 * length (found_by t) }
 {
     let a = t.answer;
     let r = t.reader;
@@ -149,9 +149,9 @@ fn step(
     log: &mut [u8],
     list: &mut [u8],
 ) -> Progress
-    requires { Roomy (reachedAt p) n (nextTurn remembers p n) log.old list.old }
+    requires { Roomy (reached_at p) n (next_turn remembers p n) log.old list.old }
     ensures value { result ≡ stepped remembers p n }
-    ensures written { Written start (reachedAt p) n (nextTurn remembers p n) log.old list.old log.new list.new }
+    ensures written { Written start (reached_at p) n (next_turn remembers p n) log.old list.old log.new list.new }
 {
     let m = p.memory;
     let t = m.turn;
@@ -189,7 +189,7 @@ pub fn goes(a: Answer) -> bool
 
 // Is a frame out, and may the reader send one more?
 fn goes_on(p: Progress) -> bool
-    ensures { result ≡ goesOn (reachedAt p) }
+    ensures { result ≡ goes_on (reached_at p) }
 {
     if p.frames < limits::MOST_FRAMES {
         let m = p.memory;
@@ -210,10 +210,10 @@ pub fn run(
     log: &mut [u8],
     list: &mut [u8],
 ) -> Progress
-    requires { (n ≤ mostCards) × (logSize (sweptIf remembers (take n cards)).exchanges ≤ length log.old) × (length (listBytes (sweptIf remembers (take n cards)).found) ≤ length list.old) }
-    ensures result_value { reachedAt result ≡ ends cards n (sweptIf remembers (take n cards)) }
-    ensures log_after { log.new ≡ overlay log.old 0 (logBytes start (sweptIf remembers (take n cards)).exchanges) }
-    ensures list_after { list.new ≡ overlay list.old 0 (listBytes (sweptIf remembers (take n cards)).found) }
+    requires { (n ≤ most_cards) × (log_size (swept_if remembers (take n cards)).exchanges ≤ length log.old) × (length (list_bytes (swept_if remembers (take n cards)).found) ≤ length list.old) }
+    ensures result_value { reached_at result ≡ ends cards n (swept_if remembers (take n cards)) }
+    ensures log_after { log.new ≡ overlay log.old 0 (log_bytes start (swept_if remembers (take n cards)).exchanges) }
+    ensures list_after { list.new ≡ overlay list.old 0 (list_bytes (swept_if remembers (take n cards)).found) }
 {
     let m = memory::within::fresh();
     let mut p = Progress {

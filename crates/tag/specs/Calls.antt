@@ -4,8 +4,8 @@ use Rattle.rows.specs.Rows.{overlay}
 use Rattle.request_v.specs.Request.{deed_of}
 use Rattle.request_v.specs.declared.Tag.{Tag}
 use Rattle.tag.specs.Memory.{geometry}
-use Rattle.tag.specs.Tag.{takes, answers, memoryAfter, locksAfter, takesEof, answersEof}
-use Rattle.refusal.specs.Refusal.{Said, giving, refusalSays, declineIf}
+use Rattle.tag.specs.Tag.{takes, answers, memory_after, locks_after, takes_eof, answers_eof}
+use Rattle.refusal.specs.Refusal.{Said, giving, refusal_says, decline_if}
 use Rattle.refusal.specs.declared.Refusal.{Refusal}
 use Rattle.refusal.specs.declared.Refusal.TheVariants.{Room, Argument}
 use Rattle.tag.specs.declared.AnswerV.{AnswerV}
@@ -17,8 +17,8 @@ unfoldable pub room_for : Tag → ℕ
 room_for t = max 96 (8 * (3 + t.blocks * (t.size + 1)))
 
 -- the lent memory and locks are as long as the tag's geometry says, and the room is what its longest answer takes
-unfoldable pub isShort : Tag → ℕ → ℕ → ℕ → Bool
-isShort t memory locks room = ltb memory (t.blocks * t.size) || (ltb locks t.blocks || ltb room (room_for t))
+unfoldable pub is_short : Tag → ℕ → ℕ → ℕ → Bool
+is_short t memory locks room = ltb memory (t.blocks * t.size) || (ltb locks t.blocks || ltb room (room_for t))
 
 -- so many bits at the front of the lent row
 abbrev pub answer_of : ℕ → AnswerV
@@ -33,42 +33,42 @@ refused t e = record { tag = t; answer = NotTaken e }
 -- 1: lent memory, locks or room shorter than asked; 6: "up to 256 blocks of up to 32 bytes"; both change nothing
 abbrev pub tested {ℓ} : {A : Type ℓ} → Tag → List ℕ → List ℕ → List ℕ → A → A → A → A
 tested t memory locks out short wrong good =
-    cond (isShort t (length memory) (length locks) (length out)) short (cond (not (geometry t.blocks t.size)) wrong good)
+    cond (is_short t (length memory) (length locks) (length out)) short (cond (not (geometry t.blocks t.size)) wrong good)
 
-unfoldable pub takeCall : Tag → List ℕ → List ℕ → List ℕ → List ℕ → TakenV
-takeCall t f memory locks out =
+unfoldable pub take_call : Tag → List ℕ → List ℕ → List ℕ → List ℕ → TakenV
+take_call t f memory locks out =
     tested t memory locks out (refused t Room) (refused t Argument) (taken (takes t locks f) (answers t memory locks f))
 
 -- the lent memory, locks and row afterwards
-unfoldable pub takeMemory : Tag → List ℕ → List ℕ → List ℕ → List ℕ → List ℕ
-takeMemory t f memory locks out = tested t memory locks out memory memory (memoryAfter t.size f (deed_of t locks f) memory)
+unfoldable pub take_memory : Tag → List ℕ → List ℕ → List ℕ → List ℕ → List ℕ
+take_memory t f memory locks out = tested t memory locks out memory memory (memory_after t.size f (deed_of t locks f) memory)
 
-unfoldable pub takeLocks : Tag → List ℕ → List ℕ → List ℕ → List ℕ → List ℕ
-takeLocks t f memory locks out = tested t memory locks out locks locks (locksAfter (deed_of t locks f) locks)
+unfoldable pub take_locks : Tag → List ℕ → List ℕ → List ℕ → List ℕ → List ℕ
+take_locks t f memory locks out = tested t memory locks out locks locks (locks_after (deed_of t locks f) locks)
 
 unfoldable pub take_row : Tag → List ℕ → List ℕ → List ℕ → List ℕ → List ℕ
 take_row t f memory locks out = tested t memory locks out out out (overlay out 0 (answers t memory locks f))
 
 -- an EOF asks for the room of an answer to an inventory
-unfoldable pub eofCall : Tag → ℕ → TakenV
-eofCall t room = cond (ltb room 96) (refused t Room) (taken (takesEof t) (answersEof t))
+unfoldable pub eof_call : Tag → ℕ → TakenV
+eof_call t room = cond (ltb room 96) (refused t Room) (taken (takes_eof t) (answers_eof t))
 
-unfoldable pub eofRow : Tag → List ℕ → List ℕ
-eofRow t out = cond (ltb (length out) 96) out (overlay out 0 (answersEof t))
+unfoldable pub eof_row : Tag → List ℕ → List ℕ
+eof_row t out = cond (ltb (length out) 96) out (overlay out 0 (answers_eof t))
 
 -- ---- what an answer says, in the table's numbers: the bits that the tag sends, if any
 
-abbrev pub answerSays : AnswerV → Said
-answerSays (Sends n) = giving (n ∷ [])
-answerSays Silent = giving []
-answerSays (NotTaken e) = refusalSays e
+abbrev pub answer_says : AnswerV → Said
+answer_says (Sends n) = giving (n ∷ [])
+answer_says Silent = giving []
+answer_says (NotTaken e) = refusal_says e
 
 -- "A call tests .. 1, 6"
-abbrev pub takeSays : Tag → List ℕ → List ℕ → List ℕ → List ℕ → Said
-takeSays t f memory locks out =
-    declineIf (isShort t (length memory) (length locks) (length out)) 1
-    (declineIf (not (geometry t.blocks t.size)) 6
-    (answerSays (answer_of (length (answers t memory locks f)))))
+abbrev pub take_says : Tag → List ℕ → List ℕ → List ℕ → List ℕ → Said
+take_says t f memory locks out =
+    decline_if (is_short t (length memory) (length locks) (length out)) 1
+    (decline_if (not (geometry t.blocks t.size)) 6
+    (answer_says (answer_of (length (answers t memory locks f)))))
 
-abbrev pub eofSays : Tag → ℕ → Said
-eofSays t room = declineIf (ltb room 96) 1 (answerSays (answer_of (length (answersEof t))))
+abbrev pub eof_says : Tag → ℕ → Said
+eof_says t room = decline_if (ltb room 96) 1 (answer_says (answer_of (length (answers_eof t))))

@@ -10,14 +10,14 @@ unfoldable pub block_of : ℕ → List ℕ → ℕ → List ℕ
 block_of size memory b = take size (drop (size * b) memory)
 
 -- its status: b1 tells that it is locked
-abbrev pub statusOf : ℕ → ℕ
-statusOf l = cond (eqb l 0) 0x00 0x01
+abbrev pub status_of : ℕ → ℕ
+status_of l = cond (eqb l 0) 0x00 0x01
 
 -- what a read shows of block b: its bytes, and with the Option flag its status ahead of them
 unfoldable pub shown : Bool → ℕ → List ℕ → List ℕ → ℕ → List ℕ
-shown status size memory locks b = cond status (statusOf (get_or locks b 0) ∷ block_of size memory b) (block_of size memory b)
+shown status size memory locks b = cond status (status_of (get_or locks b 0) ∷ block_of size memory b) (block_of size memory b)
 
 -- .. of count blocks from b on
-unfoldable pub shownFrom : Bool → ℕ → List ℕ → List ℕ → ℕ → ℕ → List ℕ
-shownFrom status size memory locks b zero = []
-shownFrom status size memory locks b (suc count) = shown status size memory locks b ++ shownFrom status size memory locks (b + 1) count
+unfoldable pub shown_from : Bool → ℕ → List ℕ → List ℕ → ℕ → ℕ → List ℕ
+shown_from status size memory locks b zero = []
+shown_from status size memory locks b (suc count) = shown status size memory locks b ++ shown_from status size memory locks (b + 1) count

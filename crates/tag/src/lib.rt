@@ -2,8 +2,8 @@
 pub mod within;
 
 ghost use Rattle.std.specs.Prelude.{◌≡◌, length};
-ghost use Rattle.tag.specs.Tag.{powerOn, powerOff};
-ghost use Rattle.tag.specs.Calls.{takeCall, takeMemory, takeLocks, take_row, takeSays, eofCall, eofRow, eofSays, answerSays};
+ghost use Rattle.tag.specs.Tag.{power_on, power_off};
+ghost use Rattle.tag.specs.Calls.{take_call, take_memory, take_locks, take_row, take_says, eof_call, eof_row, eof_says, answer_says};
 
 use refusal::Refusal;
 use request_v::{StateV, Tag};
@@ -25,7 +25,7 @@ pub struct TakenV {
 
 // Power comes: a tag that was Off is Ready.
 pub fn power_on(t: Tag) -> Tag
-    ensures { result ≡ powerOn t }
+    ensures { result ≡ power_on t }
 {
     let y = t.state;
     within::with_state(t, within::powered(y))
@@ -33,7 +33,7 @@ pub fn power_on(t: Tag) -> Tag
 
 // Power is lost: Off from anywhere.
 pub fn power_off(t: Tag) -> Tag
-    ensures { result ≡ powerOff t }
+    ensures { result ≡ power_off t }
 {
     within::with_state(t, StateV::Off)
 }
@@ -41,11 +41,11 @@ pub fn power_off(t: Tag) -> Tag
 // The tag takes a row, any bits of any number. Its answer stands at the front of `out`. 1: memory, locks or `out` are shorter than the tag's
 // geometry asks for; 6: the geometry is none.
 pub fn take(t: Tag, row: &[u8], memory: &mut [u8], locks: &mut [u8], out: &mut [u8]) -> TakenV
-    ensures value { result ≡ takeCall t row.now memory.old locks.old out.old }
-    ensures memory_after { memory.new ≡ takeMemory t row.now memory.old locks.old out.old }
-    ensures locks_after { locks.new ≡ takeLocks t row.now memory.old locks.old out.old }
+    ensures value { result ≡ take_call t row.now memory.old locks.old out.old }
+    ensures memory_after { memory.new ≡ take_memory t row.now memory.old locks.old out.old }
+    ensures locks_after { locks.new ≡ take_locks t row.now memory.old locks.old out.old }
     ensures out_after { out.new ≡ take_row t row.now memory.old locks.old out.old }
-    ensures answer_value { answerSays result.answer ≡ takeSays t row.now memory.old locks.old out.old }
+    ensures answer_value { answer_says result.answer ≡ take_says t row.now memory.old locks.old out.old }
 {
     if within::is_short(t, memory.len(), locks.len(), out.len()) {
         return TakenV {
@@ -64,9 +64,9 @@ pub fn take(t: Tag, row: &[u8], memory: &mut [u8], locks: &mut [u8], out: &mut [
 
 // An EOF begins the next slot of a round. 1: `out` has no room for 96 bits.
 pub fn eof(t: Tag, out: &mut [u8]) -> TakenV
-    ensures value { result ≡ eofCall t (length out.old) }
-    ensures out_after { out.new ≡ eofRow t out.old }
-    ensures answer_value { answerSays result.answer ≡ eofSays t (length out.old) }
+    ensures value { result ≡ eof_call t (length out.old) }
+    ensures out_after { out.new ≡ eof_row t out.old }
+    ensures answer_value { answer_says result.answer ≡ eof_says t (length out.old) }
 {
     if out.len() < 96 {
         return TakenV {

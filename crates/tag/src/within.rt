@@ -1,13 +1,13 @@
 // The tag's rules. Called by our own crates only: firmware calls those of the crate itself.
 ghost use Rattle.std.specs.Prelude.{◌≡◌, true, false, ◌+◌, ◌*◌, ◌≤◌, ◌<◌, length, drop, [], ◌∷◌};
 ghost use Rattle.rows.specs.Rows.{overlay};
-ghost use Rattle.frame.specs.Frame.{airBits, bytesOf};
-ghost use Rattle.frame_b.specs.FrameB.{frameB};
-ghost use Rattle.frame_v.specs.FrameV.{bytesIn, sound};
-ghost use Rattle.tag.specs.Memory.{geometry, statusOf, shown, shownFrom};
-ghost use Rattle.tag.specs.Tag.{withState, waiting, stateAfter, row_of, memoryAfter, locksAfter, told, waits, powered, takes, answers, takesEof, answersEof};
+ghost use Rattle.frame.specs.Frame.{air_bits, bytes_of};
+ghost use Rattle.frame_b.specs.FrameB.{frame_b};
+ghost use Rattle.frame_v.specs.FrameV.{bytes_in, sound};
+ghost use Rattle.tag.specs.Memory.{geometry, status_of, shown, shown_from};
+ghost use Rattle.tag.specs.Tag.{with_state, waiting, state_after, row_of, memory_after, locks_after, told, waits, powered, takes, answers, takes_eof, answers_eof};
 ghost use Rattle.request_v.specs.Request.{deed_of};
-ghost use Rattle.tag.specs.Calls.{room_for, isShort, answer_of, taken};
+ghost use Rattle.tag.specs.Calls.{room_for, is_short, answer_of, taken};
 ghost use Rattle.tag.specs.Safe.{Safe};
 
 use crate::{AnswerV, TakenV};
@@ -16,7 +16,7 @@ use request_v::{Deed, StateV, Tag};
 // ---- states
 
 pub fn with_state(t: Tag, y: StateV) -> Tag
-    ensures { result ≡ withState t y }
+    ensures { result ≡ with_state t y }
 {
     let uid = t.uid;
     Tag {
@@ -53,7 +53,7 @@ pub fn waits(y: StateV) -> u8
 }
 
 pub fn state_after(d: Deed, y: StateV) -> StateV
-    ensures { result ≡ stateAfter d y }
+    ensures { result ≡ state_after d y }
 {
     match d {
         Deed::Nothing => waiting(0, y),
@@ -81,7 +81,7 @@ pub fn state_after(d: Deed, y: StateV) -> StateV
 // ---- what a read shows
 
 fn status_of(l: u8) -> u8
-    ensures { result ≡ statusOf l }
+    ensures { result ≡ status_of l }
 {
     if l == 0 {
         return 0x00;
@@ -102,7 +102,7 @@ fn put_block(
     requires { (size * b + size ≤ length memory.now) × (b < length locks.now) × (8 * (at + size + 1) ≤ length out.old) }
     ensures value { result ≡ length (shown status size memory.now locks.now b) }
     ensures upper_bound { result ≤ size + 1 }
-    ensures out_after { out.new ≡ overlay out.old (8 * at) (airBits (shown status size memory.now locks.now b)) }
+    ensures out_after { out.new ≡ overlay out.old (8 * at) (air_bits (shown status size memory.now locks.now b)) }
 {
     let from = size * b;
     let to = from + size;
@@ -127,9 +127,9 @@ fn put_shown(
     out: &mut [u8],
 ) -> usize
     requires { ((first + count) * size ≤ length memory.now) × (first + count ≤ length locks.now) × (8 * (1 + count * (size + 1)) ≤ length out.old) × (size ≤ 255) }
-    ensures value { result ≡ 1 + length (shownFrom status size memory.now locks.now first count) }
+    ensures value { result ≡ 1 + length (shown_from status size memory.now locks.now first count) }
     ensures upper_bound { result ≤ 1 + count * (size + 1) }
-    ensures out_after { out.new ≡ overlay out.old 8 (airBits (shownFrom status size memory.now locks.now first count)) }
+    ensures out_after { out.new ≡ overlay out.old 8 (air_bits (shown_from status size memory.now locks.now first count)) }
 {
     let mut at: usize = 1;
     for i in 0..count {
@@ -150,8 +150,8 @@ fn put_read(
     out: &mut [u8],
 ) -> usize
     requires { ((first + count) * size ≤ length memory.now) × (first + count ≤ length locks.now) × (8 * (3 + count * (size + 1)) ≤ length out.old) × (size ≤ 255) }
-    ensures value { result ≡ length (frameB (0x00 ∷ shownFrom status size memory.now locks.now first count)) }
-    ensures out_after { out.new ≡ overlay out.old 0 (frameB (0x00 ∷ shownFrom status size memory.now locks.now first count)) }
+    ensures value { result ≡ length (frame_b (0x00 ∷ shown_from status size memory.now locks.now first count)) }
+    ensures out_after { out.new ≡ overlay out.old 0 (frame_b (0x00 ∷ shown_from status size memory.now locks.now first count)) }
 {
     let good = [0x00u8];
     frame_b::within::put_bits(out, 0, &good);
@@ -163,8 +163,8 @@ fn put_read(
 // An answer of one byte, of two, and to an inventory.
 fn put_good(out: &mut [u8]) -> usize
     requires { 96 ≤ length out.old }
-    ensures value { result ≡ length (frameB (0x00 ∷ [])) }
-    ensures out_after { out.new ≡ overlay out.old 0 (frameB (0x00 ∷ [])) }
+    ensures value { result ≡ length (frame_b (0x00 ∷ [])) }
+    ensures out_after { out.new ≡ overlay out.old 0 (frame_b (0x00 ∷ [])) }
 {
     let bytes = [0x00u8];
     frame_b::within::put_frame(out, &bytes);
@@ -173,8 +173,8 @@ fn put_good(out: &mut [u8]) -> usize
 
 fn put_error(e: u8, out: &mut [u8]) -> usize
     requires { 96 ≤ length out.old }
-    ensures value { result ≡ length (frameB (0x01 ∷ e ∷ [])) }
-    ensures out_after { out.new ≡ overlay out.old 0 (frameB (0x01 ∷ e ∷ [])) }
+    ensures value { result ≡ length (frame_b (0x01 ∷ e ∷ [])) }
+    ensures out_after { out.new ≡ overlay out.old 0 (frame_b (0x01 ∷ e ∷ [])) }
 {
     let bytes = [0x01, e];
     frame_b::within::put_frame(out, &bytes);
@@ -193,8 +193,8 @@ fn told(t: Tag) -> [u8; 10]
 
 pub fn put_told(t: Tag, out: &mut [u8]) -> usize
     requires { 96 ≤ length out.old }
-    ensures value { result ≡ length (frameB (told t)) }
-    ensures out_after { out.new ≡ overlay out.old 0 (frameB (told t)) }
+    ensures value { result ≡ length (frame_b (told t)) }
+    ensures out_after { out.new ≡ overlay out.old 0 (frame_b (told t)) }
 {
     let bytes = told(t);
     frame_b::within::put_frame(out, &bytes);
@@ -232,8 +232,8 @@ pub fn put_answer(t: Tag, d: Deed, row: &[u8], memory: &[u8], locks: &[u8], out:
 
 // The sent bytes of n blocks, from byte p of the row on, become those from block a on.
 fn write_blocks(row: &[u8], p: usize, n: usize, size: usize, a: usize, memory: &mut [u8])
-    requires { (sound row.now ≡ true) × (p + n * size ≤ bytesIn row.now) × (size * a + size * n ≤ length memory.old) }
-    ensures { memory.new ≡ overlay memory.old (size * a) (bytesOf (size * n) (drop (8 * p) row.now)) }
+    requires { (sound row.now ≡ true) × (p + n * size ≤ bytes_in row.now) × (size * a + size * n ≤ length memory.old) }
+    ensures { memory.new ≡ overlay memory.old (size * a) (bytes_of (size * n) (drop (8 * p) row.now)) }
 {
     let from = 8 * p;
     let at = size * a;
@@ -243,7 +243,7 @@ fn write_blocks(row: &[u8], p: usize, n: usize, size: usize, a: usize, memory: &
 // What a deed makes of the memory.
 pub fn write_memory(t: Tag, d: Deed, row: &[u8], memory: &mut [u8])
     requires { Safe t row.now d × (t.blocks * t.size ≤ length memory.old) }
-    ensures { memory.new ≡ memoryAfter t.size row.now d memory.old }
+    ensures { memory.new ≡ memory_after t.size row.now d memory.old }
 {
     match d {
         Deed::Nothing => {},
@@ -274,7 +274,7 @@ pub fn write_memory(t: Tag, d: Deed, row: &[u8], memory: &mut [u8])
 // .. and of the locks.
 pub fn write_locks(t: Tag, d: Deed, row: &[u8], locks: &mut [u8])
     requires { Safe t row.now d × (t.blocks ≤ length locks.old) }
-    ensures { locks.new ≡ locksAfter d locks.old }
+    ensures { locks.new ≡ locks_after d locks.old }
 {
     match d {
         Deed::Nothing => {},
@@ -329,7 +329,7 @@ fn room_for(t: Tag) -> usize
 }
 
 pub fn is_short(t: Tag, memory: usize, locks: usize, room: usize) -> bool
-    ensures { result ≡ isShort t memory locks room }
+    ensures { result ≡ is_short t memory locks room }
 {
     if memory < (t.blocks as usize) * (t.size as usize) {
         return true;
@@ -364,10 +364,10 @@ pub fn powered(y: StateV) -> StateV
 
 // A row, by the tag's rules: the answer is made ahead of what changes, since no request both reads and writes.
 pub fn take_rules(t: Tag, row: &[u8], memory: &mut [u8], locks: &mut [u8], out: &mut [u8]) -> TakenV
-    requires { isShort t (length memory.old) (length locks.old) (length out.old) ≡ false }
+    requires { is_short t (length memory.old) (length locks.old) (length out.old) ≡ false }
     ensures value { result ≡ taken (takes t locks.old row.now) (answers t memory.old locks.old row.now) }
-    ensures memory_after { memory.new ≡ memoryAfter t.size row.now (deed_of t locks.old row.now) memory.old }
-    ensures locks_after { locks.new ≡ locksAfter (deed_of t locks.old row.now) locks.old }
+    ensures memory_after { memory.new ≡ memory_after t.size row.now (deed_of t locks.old row.now) memory.old }
+    ensures locks_after { locks.new ≡ locks_after (deed_of t locks.old row.now) locks.old }
     ensures out_after { out.new ≡ overlay out.old 0 (answers t memory.old locks.old row.now) }
 {
     let d = request_v::within::deed(t, locks, row);
@@ -385,8 +385,8 @@ pub fn take_rules(t: Tag, row: &[u8], memory: &mut [u8], locks: &mut [u8], out: 
 // An EOF, by the tag's rules.
 pub fn eof_rules(t: Tag, out: &mut [u8]) -> TakenV
     requires { 96 ≤ length out.old }
-    ensures value { result ≡ taken (takesEof t) (answersEof t) }
-    ensures out_after { out.new ≡ overlay out.old 0 (answersEof t) }
+    ensures value { result ≡ taken (takes_eof t) (answers_eof t) }
+    ensures out_after { out.new ≡ overlay out.old 0 (answers_eof t) }
 {
     let y = t.state;
     let w = waits(y);

@@ -1,13 +1,13 @@
 -- The two loops of the trace checker: over the records, and over the frames of the sweep over the listed cards (T-12).
 use Rattle.std.specs.Prelude.{ℕ, ◌+◌, Bool, true, false, cond, ◌&&◌, List, length, take, leb, ltb}
-use Rattle.limits.specs.Limits.{mostFrames}
+use Rattle.limits.specs.Limits.{most_frames}
 use Rattle.reader.specs.Reader.{frame, hear}
-use Rattle.field.specs.Field.{heardFrom}
-use Rattle.field.specs.Calls.{cardsAfter}
-use Rattle.log.specs.Log.{sentHeard}
+use Rattle.field.specs.Field.{heard_from}
+use Rattle.field.specs.Calls.{cards_after}
+use Rattle.log.specs.Log.{sent_heard}
 use Rattle.sweep_steps.specs.Steps.{goes}
 use Rattle.trace_rules.specs.Trace.{checked, follow}
-use Rattle.trace_rules.specs.Check.{compared, comparedThen}
+use Rattle.trace_rules.specs.Check.{compared, compared_then}
 use Rattle.card.specs.declared.Card.{Card}
 use Rattle.reader.specs.declared.Turn.{Turn}
 use Rattle.refusal.specs.declared.Refusal.TheVariants.{Length, Forbidden}
@@ -23,14 +23,14 @@ use Rattle.trace.specs.declared.replay.Played.{Played}
 
 -- ---- over the records
 
-abbrev pub isGoing : Says → Bool
-isGoing Goes = true
-isGoing Content = false
-isGoing (Faults on e) = false
+abbrev pub is_going : Says → Bool
+is_going Goes = true
+is_going Content = false
+is_going (Faults on e) = false
 
 -- after so many turns, of at most that many
-unfoldable pub goesOn : Stepped → ℕ → ℕ → Bool
-goesOn s turn most = ltb turn most && isGoing s.says
+unfoldable pub goes_on : Stepped → ℕ → ℕ → Bool
+goes_on s turn most = ltb turn most && is_going s.says
 
 -- the last turn, before which there are i records
 abbrev pub last_of : ℕ → Stepped → Checked
@@ -42,26 +42,26 @@ last_of i s = follow i s.place (checked (Fault (i + 2) Length) s.place) s.says
 unfoldable pub played : ℕ → List ℕ → ℕ → Turn → List Card → ℕ → Played
 played w l at t cards n =
     record {
-      turn = hear t.reader (heardFrom (frame t.reader) (take n cards));
-      cards = cardsAfter cards n (frame t.reader);
-      compared = compared w l (sentHeard (frame t.reader) (heardFrom (frame t.reader) (take n cards))) at;
+      turn = hear t.reader (heard_from (frame t.reader) (take n cards));
+      cards = cards_after cards n (frame t.reader);
+      compared = compared w l (sent_heard (frame t.reader) (heard_from (frame t.reader) (take n cards))) at;
     }
 
 -- the place of the records that come next; 0 where none do
-abbrev pub nextPlace : Compared → ℕ
-nextPlace (Same at) = at
-nextPlace First = 0
-nextPlace Second = 0
+abbrev pub next_place : Compared → ℕ
+next_place (Same at) = at
+next_place First = 0
+next_place Second = 0
 
-abbrev pub isSame : Compared → Bool
-isSame (Same at) = true
-isSame First = false
-isSame Second = false
+abbrev pub is_same : Compared → Bool
+is_same (Same at) = true
+is_same First = false
+is_same Second = false
 
 -- after so many frames
-unfoldable pub playsOn : Played → ℕ → Bool
-playsOn p frames = ltb frames mostFrames && isSame p.compared && goes p.turn.answer
+unfoldable pub plays_on : Played → ℕ → Bool
+plays_on p frames = ltb frames most_frames && is_same p.compared && goes p.turn.answer
 
 -- the last frame, before whose records there are i, in a log of so many bytes
 abbrev pub finish : ℕ → ℕ → Played → Verdict
-finish i size p = comparedThen i (λ at. cond (leb size at) Clean (Fault (i + 2) Forbidden)) p.compared
+finish i size p = compared_then i (λ at. cond (leb size at) Clean (Fault (i + 2) Forbidden)) p.compared

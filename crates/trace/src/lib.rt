@@ -5,9 +5,9 @@ mod replay;
 mod walk;
 
 ghost use Rattle.std.specs.Prelude.{◌≡◌, ◌≤◌, length};
-ghost use Rattle.limits.specs.Limits.{mostCards, logRoom};
+ghost use Rattle.limits.specs.Limits.{most_cards, log_room};
 ghost use Rattle.trace_rules.specs.declared.Verdict.TheVariants.{Clean};
-ghost use Rattle.trace_rules.specs.Check.{check, refused, checkLog, judged, checkedSays, checkSays};
+ghost use Rattle.trace_rules.specs.Check.{check, refused, check_log, judged, checked_says, check_says};
 ghost use Rattle.trace_rules.specs.Promise.{Faithful};
 
 use refusal::Refusal;
@@ -47,7 +47,7 @@ fn check_input(input: &[u8]) -> Checked
 // definition.
 pub fn check(input: &[u8]) -> Checked
     ensures value { result ≡ check input.now }
-    ensures result_value { checkedSays result ≡ checkSays input.now }
+    ensures result_value { checked_says result ≡ check_says input.now }
     ensures faithful { Faithful input.now result }
 {
     check_input(input)
@@ -55,8 +55,8 @@ pub fn check(input: &[u8]) -> Checked
 
 // Checks a log whose records have stamps of so many bytes.
 fn check_log(log: &[u8], stamp: usize) -> Checked
-    requires { length log.now ≤ logRoom }
-    ensures { result ≡ checkLog stamp log.now }
+    requires { length log.now ≤ log_room }
+    ensures { result ≡ check_log stamp log.now }
 {
     let c = walk::walk(log, stamp);
     let v = c.verdict;
@@ -71,7 +71,7 @@ fn check_log(log: &[u8], stamp: usize) -> Checked
 
 // The reader is content throughout: what the plain sweep over the listed cards says.
 fn judged(log: &[u8], stamp: usize, c: Checked) -> Checked
-    requires { c.found ≤ mostCards }
+    requires { c.found ≤ most_cards }
     ensures { result ≡ judged stamp log.now c Clean }
 {
     let cards = c.cards;

@@ -1,10 +1,10 @@
 // The records of a log, against what is due there. Some functions have a condition, and their callers' proofs show that they meet it.
 ghost use Rattle.std.specs.Prelude.{◌≡◌, cond, ◌≤◌, length, eqb};
 ghost use Rattle.rows.specs.Rows.{overlay, same};
-ghost use Rattle.log.specs.Calls.{mostBits};
-ghost use Rattle.log.specs.Reading.{bitsFrom, row_at, recordAt};
-ghost use Rattle.trace_rules.specs.Trace.{marked, heardRow, sentPassed};
-ghost use Rattle.trace.specs.Reads.{heardBits, heardOf};
+ghost use Rattle.log.specs.Calls.{most_bits};
+ghost use Rattle.log.specs.Reading.{bits_from, row_at, record_at};
+ghost use Rattle.trace_rules.specs.Trace.{marked, heard_row, sent_passed};
+ghost use Rattle.trace.specs.Reads.{heard_bits, heard_of};
 
 use log::Record;
 use refusal::Refusal;
@@ -22,7 +22,7 @@ pub struct Heard {
 
 // The bits of a row that starts at a byte of the log, at the front of out.
 fn put_bits(log: &[u8], start: usize, n: usize, out: &mut [u8])
-    requires { (n ≤ length (bitsFrom log.now start)) × (n ≤ length out.old) }
+    requires { (n ≤ length (bits_from log.now start)) × (n ≤ length out.old) }
     ensures { out.new ≡ overlay out.old 0 (row_at log.now start n) }
 {
     for i in 0..n {
@@ -42,7 +42,7 @@ fn heard_bit(x: u8, mark: u8) -> u8
 
 // The same with collided bits where the row of marks has a 1.
 fn put_marked(log: &[u8], start: usize, marks: usize, n: usize, out: &mut [u8])
-    requires { (n ≤ length (bitsFrom log.now start)) × (n ≤ length (bitsFrom log.now marks)) × (n ≤ length out.old) }
+    requires { (n ≤ length (bits_from log.now start)) × (n ≤ length (bits_from log.now marks)) × (n ≤ length out.old) }
     ensures { out.new ≡ overlay out.old 0 (marked (row_at log.now start n) (row_at log.now marks n)) }
 {
     for i in 0..n {
@@ -52,7 +52,7 @@ fn put_marked(log: &[u8], start: usize, marks: usize, n: usize, out: &mut [u8])
 
 // Does the log have this row from a byte on?
 fn holds(log: &[u8], start: usize, n: usize, row: &[u8]) -> bool
-    requires { (n ≤ length (bitsFrom log.now start)) × (n ≤ mostBits) }
+    requires { (n ≤ length (bits_from log.now start)) × (n ≤ most_bits) }
     ensures { result ≡ same (row_at log.now start n) row.now }
 {
     let mut bits = [0u8; MOST_BITS];
@@ -62,7 +62,7 @@ fn holds(log: &[u8], start: usize, n: usize, row: &[u8]) -> bool
 
 // A reader's record is due, with this frame.
 pub fn sent_at(log: &[u8], stamp: usize, at: usize, frame: &[u8]) -> Passed
-    ensures { result ≡ sentPassed log.now frame.now (recordAt stamp log.now at) }
+    ensures { result ≡ sent_passed log.now frame.now (record_at stamp log.now at) }
 {
     let x = trace_reader::read_at(log, stamp, at);
     match x {
@@ -95,7 +95,7 @@ pub fn sent_at(log: &[u8], stamp: usize, at: usize, frame: &[u8]) -> Passed
 }
 
 fn heard_of(bits: usize, passed: Passed) -> Heard
-    ensures { result ≡ heardBits bits passed }
+    ensures { result ≡ heard_bits bits passed }
 {
     Heard {
         bits: bits,
@@ -105,9 +105,9 @@ fn heard_of(bits: usize, passed: Passed) -> Heard
 
 // The record of what was heard is due.
 pub fn heard_at(log: &[u8], stamp: usize, at: usize, row: &mut [u8]) -> Heard
-    requires { mostBits ≤ length row.old }
-    ensures value { result ≡ heardOf log.now (recordAt stamp log.now at) }
-    ensures row_after { row.new ≡ overlay row.old 0 (heardRow log.now (recordAt stamp log.now at)) }
+    requires { most_bits ≤ length row.old }
+    ensures value { result ≡ heard_of log.now (record_at stamp log.now at) }
+    ensures row_after { row.new ≡ overlay row.old 0 (heard_row log.now (record_at stamp log.now at)) }
 {
     let x = trace_reader::read_at(log, stamp, at);
     match x {

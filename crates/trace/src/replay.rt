@@ -1,12 +1,12 @@
 // The plain sweep over the listed cards, record by record against the log. Some functions have a condition, and their callers' proofs show that
 // they meet it.
 ghost use Rattle.std.specs.Prelude.{◌≡◌, ◌≤◌, ◌<◌, ◌^◌, take};
-ghost use Rattle.limits.specs.Limits.{mostCards};
-ghost use Rattle.log.specs.Log.{sentHeard};
-ghost use Rattle.log.specs.Reading.{recordAt};
+ghost use Rattle.limits.specs.Limits.{most_cards};
+ghost use Rattle.log.specs.Log.{sent_heard};
+ghost use Rattle.log.specs.Reading.{record_at};
 ghost use Rattle.sweep_rules.specs.Run.{sweep};
-ghost use Rattle.trace_rules.specs.Check.{heardAs, heardCompared, compared, differs};
-ghost use Rattle.trace.specs.Loops.{played, nextPlace, isSame, playsOn, finish};
+ghost use Rattle.trace_rules.specs.Check.{heard_as, heard_compared, compared, differs};
+ghost use Rattle.trace.specs.Loops.{played, next_place, is_same, plays_on, finish};
 
 use card::Card;
 use limits::MOST_CARDS;
@@ -24,7 +24,7 @@ pub struct Played {
 
 // The record of what was heard, if it is this row.
 fn heard_as(log: &[u8], stamp: usize, at: usize, heard: &[u8]) -> Compared
-    ensures { result ≡ heardCompared (heardAs log.now heard.now (recordAt stamp log.now at)) }
+    ensures { result ≡ heard_compared (heard_as log.now heard.now (record_at stamp log.now at)) }
 {
     let mut row = [0u8; 8191];
     let h = crate::reading::heard_at(log, stamp, at, &mut row);
@@ -41,7 +41,7 @@ fn heard_as(log: &[u8], stamp: usize, at: usize, heard: &[u8]) -> Compared
 
 // An exchange held to the two records at a place.
 fn compare(log: &[u8], stamp: usize, at: usize, frame: &[u8], heard: &[u8]) -> Compared
-    ensures { result ≡ compared stamp log.now (sentHeard frame.now heard.now) at }
+    ensures { result ≡ compared stamp log.now (sent_heard frame.now heard.now) at }
 {
     let passed = crate::reading::sent_at(log, stamp, at, frame);
     match passed {
@@ -52,7 +52,7 @@ fn compare(log: &[u8], stamp: usize, at: usize, frame: &[u8], heard: &[u8]) -> C
 
 // The reader's frame, taken by the first n cards, and what it does with what it heard.
 fn play(log: &[u8], stamp: usize, at: usize, t: Turn, cards: [Card; MOST_CARDS], n: usize) -> Played
-    requires { n ≤ mostCards }
+    requires { n ≤ most_cards }
     ensures { result ≡ played stamp log.now at t cards n }
 {
     let r = t.reader;
@@ -74,7 +74,7 @@ fn play(log: &[u8], stamp: usize, at: usize, t: Turn, cards: [Card; MOST_CARDS],
 
 // The place of the records that come next; 0 where none do.
 fn next_place(c: Compared) -> usize
-    ensures { result ≡ nextPlace c }
+    ensures { result ≡ next_place c }
 {
     match c {
         Compared::Same(at) => at,
@@ -84,7 +84,7 @@ fn next_place(c: Compared) -> usize
 }
 
 fn is_same(c: Compared) -> bool
-    ensures { result ≡ isSame c }
+    ensures { result ≡ is_same c }
 {
     match c {
         Compared::Same(_) => true,
@@ -95,7 +95,7 @@ fn is_same(c: Compared) -> bool
 
 // Does the sweep go on, after so many frames?
 fn goes_on(p: Played, frames: usize) -> bool
-    ensures { result ≡ playsOn p frames }
+    ensures { result ≡ plays_on p frames }
 {
     if frames < limits::MOST_FRAMES {
         let c = p.compared;
@@ -137,7 +137,7 @@ fn verdict(i: usize, p: Played, size: usize) -> Verdict
 
 // The first record in which the log differs from the plain sweep over the first n cards.
 pub fn replay(log: &[u8], stamp: usize, cards: [Card; MOST_CARDS], n: usize) -> Verdict
-    requires { n ≤ mostCards }
+    requires { n ≤ most_cards }
     ensures { result ≡ differs stamp log.now 0 (sweep (take n cards)).exchanges 0 }
 {
     let first = reader::within::sends(reader::within::blank(Phase::ReqaSent, true));

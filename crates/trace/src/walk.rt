@@ -1,9 +1,9 @@
 // A log record by record, against the reader's rules. Some functions have a condition, and their callers' proofs show that they meet it.
 ghost use Rattle.std.specs.Prelude.{◌≡◌, suc, ◌≤◌, ◌<◌, ◌^◌, length, take};
-ghost use Rattle.limits.specs.Limits.{mostCards, logRoom};
-ghost use Rattle.log.specs.Reading.{recordAt};
-ghost use Rattle.trace_rules.specs.Trace.{noCard, start, goes, faults, onward, listed, withCard, isListed, lists, ends, turned, heardThen, heardPassed, step, checked, walk};
-ghost use Rattle.trace.specs.Loops.{goesOn, last_of};
+ghost use Rattle.limits.specs.Limits.{most_cards, log_room};
+ghost use Rattle.log.specs.Reading.{record_at};
+ghost use Rattle.trace_rules.specs.Trace.{no_card, start, goes, faults, onward, listed, with_card, is_listed, lists, ends, turned, heard_then, heard_passed, step, checked, walk};
+ghost use Rattle.trace.specs.Loops.{goes_on, last_of};
 
 use card::{Card, CardState};
 use limits::MOST_CARDS;
@@ -13,7 +13,7 @@ use trace_rules::{Checked, Passed, Place, Says, Stepped, Verdict};
 use uid::{Uid, UidSize};
 
 fn no_card() -> Card
-    ensures { result ≡ noCard }
+    ensures { result ≡ no_card }
 {
     let u = Uid {
         size: UidSize::Single,
@@ -87,8 +87,8 @@ fn listed(r: Reader) -> Card
 }
 
 fn with_card(p: Place, at: usize, r: Reader) -> Place
-    requires { p.found < mostCards }
-    ensures { result ≡ withCard p at r }
+    requires { p.found < most_cards }
+    ensures { result ≡ with_card p at r }
 {
     let mut cards = p.cards;
     let n = p.found;
@@ -104,8 +104,8 @@ fn with_card(p: Place, at: usize, r: Reader) -> Place
 
 // Has one of the first n cards this UID?
 fn is_listed(u: Uid, cards: [Card; MOST_CARDS], n: usize) -> bool
-    requires { n ≤ mostCards }
-    ensures { result ≡ isListed u (take n cards) }
+    requires { n ≤ most_cards }
+    ensures { result ≡ is_listed u (take n cards) }
 {
     for i in 0..n {
         let c = cards[i];
@@ -163,7 +163,7 @@ fn turned(log: &[u8], p: Place, at: usize, t: Turn) -> Stepped
 
 // What was heard is due at a place.
 fn heard_step(log: &[u8], stamp: usize, at: usize, p: Place) -> Stepped
-    ensures { result ≡ heardThen log.now p (recordAt stamp log.now at) (heardPassed (recordAt stamp log.now at)) }
+    ensures { result ≡ heard_then log.now p (record_at stamp log.now at) (heard_passed (record_at stamp log.now at)) }
 {
     let mut row = [0u8; 8191];
     let h = crate::reading::heard_at(log, stamp, at, &mut row);
@@ -204,7 +204,7 @@ pub fn checked(v: Verdict, p: Place) -> Checked
 
 // Does the check go on, after so many turns of at most that many?
 fn goes_on(s: Stepped, turn: usize, most: usize) -> bool
-    ensures { result ≡ goesOn s turn most }
+    ensures { result ≡ goes_on s turn most }
 {
     let says = s.says;
     if turn < most {
@@ -245,7 +245,7 @@ fn verdict(i: usize, s: Stepped) -> Checked
 
 // All records.
 pub fn walk(log: &[u8], stamp: usize) -> Checked
-    requires { length log.now ≤ logRoom }
+    requires { length log.now ≤ log_room }
     ensures { result ≡ walk (suc (length log.now)) stamp log.now 0 start }
 {
     let mut s = step(log, stamp, start());

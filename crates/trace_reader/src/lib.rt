@@ -2,7 +2,7 @@
 // struct that holds a reference, so each is thin and proved by hand; the work is done by `record_at`, which takes a plain slice. `read_at` is what
 // the trace checker calls.
 ghost use Rattle.std.specs.Prelude.{◌≡◌};
-ghost use Rattle.log.specs.Reading.{recordAt};
+ghost use Rattle.log.specs.Reading.{record_at};
 
 use log::Record;
 
@@ -22,14 +22,14 @@ pub fn start_at<'a>(log: &'a [u8], at: usize) -> Trace<'a>
 
 // The record at a place of a log.
 fn record_at(log: &[u8], at: usize, stamp: usize) -> Record
-    ensures { result ≡ recordAt stamp log.now at }
+    ensures { result ≡ record_at stamp log.now at }
 {
     log::record_in(log, stamp, at)
 }
 
 // The record at the place that a trace reader has come to.
 pub fn next_record<'a>(t: Trace<'a>, stamp: usize) -> Record
-    ensures { result ≡ recordAt stamp t.entry.log.now t.entry.at }
+    ensures { result ≡ record_at stamp t.entry.log.now t.entry.at }
 {
     record_at(t.log, t.at, stamp)
 }
@@ -43,7 +43,7 @@ pub fn moved<'a>(t: Trace<'a>, at: usize) -> Trace<'a>
 
 // The record at a place of a log, by a trace reader that starts there.
 pub fn read_at(log: &[u8], stamp: usize, at: usize) -> Record
-    ensures { result ≡ recordAt stamp log.now at }
+    ensures { result ≡ record_at stamp log.now at }
 {
     next_record(start_at(log, at), stamp)
 }

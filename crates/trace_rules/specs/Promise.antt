@@ -3,14 +3,14 @@
 -- sweep_rules, and not over its code.
 use Rattle.std.specs.Prelude.{◌≡◌, ℕ, ◌≤◌, true, List, [], ◌∷◌, ◌++◌, map, length}
 use Rattle.rows.specs.Rows.{All}
-use Rattle.uid.specs.Uid.{uidBytes}
-use Rattle.log.specs.Log.{Exchange, sentRecord, heardRecord}
+use Rattle.uid.specs.Uid.{uid_bytes}
+use Rattle.log.specs.Log.{Exchange, sent_record, heard_record}
 use Rattle.sweep_rules.specs.Demand.{Typed}
 use Rattle.sweep_rules.specs.Run.{sweep}
-use Rattle.sweep_rules.specs.Terms.{isIdle, within}
+use Rattle.sweep_rules.specs.Terms.{is_idle, within}
 use Rattle.card.specs.declared.Card.{Card}
-use Rattle.trace_rules.specs.Check.{cardsOf}
-use Rattle.trace_rules.specs.Trace.{stampSize}
+use Rattle.trace_rules.specs.Check.{cards_of}
+use Rattle.trace_rules.specs.Trace.{stamp_size}
 use Rattle.trace_rules.specs.declared.Checked.{Checked}
 use Rattle.trace_rules.specs.declared.Verdict.TheVariants.{Clean}
 
@@ -18,12 +18,12 @@ use Rattle.trace_rules.specs.declared.Verdict.TheVariants.{Clean}
 
 -- its first two records are those of an exchange, each with some stamp of w bytes, and what is behind them has F
 pub record Begins (w : ℕ) (F : List ℕ → Type 0) (e : Exchange) (l : List ℕ) : Type 0 where
-  pub sent-stamp : List ℕ
-  pub heard-stamp : List ℕ
+  pub sent_stamp : List ℕ
+  pub heard_stamp : List ℕ
   pub rest : List ℕ
-  pub sent-wide : length sent-stamp ≡ w
-  pub heard-wide : length heard-stamp ≡ w
-  pub bytes : l ≡ sentRecord sent-stamp e.sent ++ (heardRecord heard-stamp e.heard ++ rest)
+  pub sent_wide : length sent_stamp ≡ w
+  pub heard_wide : length heard_stamp ≡ w
+  pub bytes : l ≡ sent_record sent_stamp e.sent ++ (heard_record heard_stamp e.heard ++ rest)
   pub behind : F rest
 
 abbrev pub LogOf : ℕ → List Exchange → List ℕ → Type 0
@@ -34,23 +34,23 @@ LogOf w (e ∷ es) l = Begins w (LogOf w es) e l
 pub record InputOf (es : List Exchange) (s : List ℕ) : Type 0 where
   pub mode : ℕ
   pub log : List ℕ
-  pub mode-ok : mode ≤ 1
+  pub mode_ok : mode ≤ 1
   pub input : s ≡ mode ∷ log
-  pub records : LogOf (stampSize mode) es log
+  pub records : LogOf (stamp_size mode) es log
 
 -- ---- a check of the input s that gave c
 
 -- it comes out clean, with the list of the sweep over cs; a card listed speaks blocks if the idle one with its UID does
 pub record ComesOut (cs : List Card) (c : Checked) : Type 0 where
   pub clean : c.verdict ≡ Clean
-  pub list : map (λ d. uidBytes d.uid) (cardsOf c) ≡ (sweep cs).found
-  pub saks : All (λ d. All (λ g. isIdle d.state ≡ true → uidBytes d.uid ≡ uidBytes g.uid → d.blocks ≡ g.blocks) (cardsOf c)) cs
+  pub list : map (λ d. uid_bytes d.uid) (cards_of c) ≡ (sweep cs).found
+  pub saks : All (λ d. All (λ g. is_idle d.state ≡ true → uid_bytes d.uid ≡ uid_bytes g.uid → d.blocks ≡ g.blocks) (cards_of c)) cs
 
 pub record Faithful (s : List ℕ) (c : Checked) : Type 0 where
   -- "A log that the plain sweep wrote must come out clean with that sweep's list": over any field within demand 3's terms, with whatever ticks, or without
-  pub from-sweep : (cs : List Card) → All Typed cs → within cs ≡ true → InputOf (sweep cs).exchanges s → ComesOut cs c
+  pub from_sweep : (cs : List Card) → All Typed cs → within cs ≡ true → InputOf (sweep cs).exchanges s → ComesOut cs c
   -- "a log called clean must be, ticks apart, the one that the plain sweep writes over the printed cards, idle, valid and within the limit": and
   -- different
-  pub is-sweep : c.verdict ≡ Clean → InputOf (sweep (cardsOf c)).exchanges s
-  pub is_field : c.verdict ≡ Clean → within (cardsOf c) ≡ true
-  pub are-idle : c.verdict ≡ Clean → All (λ d. isIdle d.state ≡ true) (cardsOf c)
+  pub is_sweep : c.verdict ≡ Clean → InputOf (sweep (cards_of c)).exchanges s
+  pub is_field : c.verdict ≡ Clean → within (cards_of c) ≡ true
+  pub are_idle : c.verdict ≡ Clean → All (λ d. is_idle d.state ≡ true) (cards_of c)

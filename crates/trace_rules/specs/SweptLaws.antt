@@ -2,16 +2,16 @@
 use Rattle.std.specs.Prelude.{◌≡◌, ℕ, ◌+◌, ◌-◌, ◌*◌, ◌/◌, ◌≤◌, ◌<◌, Bool, true, false, cond, not, ◌&&◌, List, [], ◌++◌, length, take, drop, get_or, eqb, ltb}
 use Rattle.std.proofs.Math.Path.{refl}
 use Rattle.std.proofs.Common.{arith, length-append, length-take, length-drop}
-use Rattle.rows.specs.EachLaws.{length-fill}
-use Rattle.rows.specs.Rows.{isNil, clean, next, same, fill}
-use Rattle.frame.specs.ByteLaws.{length-bytes}
-use Rattle.frame.specs.Frame.{data_of, bytesOf, faulty, standard}
+use Rattle.rows.specs.EachLaws.{length_fill}
+use Rattle.rows.specs.Rows.{is_nil, clean, next, same, fill}
+use Rattle.frame.specs.ByteLaws.{length_bytes}
+use Rattle.frame.specs.Frame.{data_of, bytes_of, faulty, standard}
 use Rattle.uid.specs.Uid.{place, level}
-use Rattle.selection.specs.Heard.{readAtqa, readRest, readSak, notRest, rest_of, restPlace}
+use Rattle.selection.specs.Heard.{read_atqa, read_rest, read_sak, not_rest, rest_of, rest_place}
 use Rattle.reader.specs.CollisionLaws.{grows}
 use Rattle.selection.specs.Selection.{cut}
-use Rattle.selection.specs.SelectionLaws.{length-reqa, length-hlta, length-anti, length-select}
-use Rattle.reader.specs.Reader.{frameIn, frame, uid, reader, blank, sends, finds, opens, longer, completes, afterAtqa, hearAtqa, afterRest, hearRest, afterSak, b3, contradicts, sakHeard, hearSak, hearSilence, hearIn, hear}
+use Rattle.selection.specs.SelectionLaws.{length_reqa, length_hlta, length_anti, length_select}
+use Rattle.reader.specs.Reader.{frame_in, frame, uid, reader, blank, sends, finds, opens, longer, completes, after_atqa, hear_atqa, after_rest, hear_rest, after_sak, b3, contradicts, sak_heard, hear_sak, hear_silence, hear_in, hear}
 use Rattle.refusal.specs.declared.Refusal.TheVariants.{Silence, Length, Parity, Check, Collision}
 use Rattle.selection.specs.declared.AtqaRead.{AtqaRead}
 use Rattle.selection.specs.declared.AtqaRead.TheVariants.{Atqa, NotAtqa}
@@ -58,7 +58,7 @@ Few WupaSent k = Unit {0}
 Few (UidSelectSent l) k = Unit {0}
 
 pub record Sweeping (r : Reader) : Type 0 where
-  pub phase-ok : InSweep r.phase
+  pub phase_ok : InSweep r.phase
   pub sweeps : r.sweeps ≡ true
   pub five : length r.five ≡ 5
   pub ten : length r.uid.bytes ≡ 10
@@ -81,11 +81,11 @@ either false t u x y = y
 
 -- ---- the level's bytes, and the UID's
 
-five-rest : (k : ℕ) (five h : List ℕ) → length (readRest k five h).five ≡ 5
-unfolding readRest rest_of
-five-rest k five h =
-    go (isNil h) (not (eqb (cut k + length h) 45)) (not (clean d) && ltb 32 (length (next d))) (faulty (5 - i) (drop (9 * i) w))
-    (clean d && not (same (bytesOf 5 d) (level (take 4 (bytesOf 5 d)))))
+five_rest : (k : ℕ) (five h : List ℕ) → length (read_rest k five h).five ≡ 5
+unfolding read_rest rest_of
+five_rest k five h =
+    go (is_nil h) (not (eqb (cut k + length h) 45)) (not (clean d) && ltb 32 (length (next d))) (faulty (5 - i) (drop (9 * i) w))
+    (clean d && not (same (bytes_of 5 d) (level (take 4 (bytes_of 5 d)))))
   where
     w : List ℕ
     w = take (cut k) (standard five) ++ h
@@ -99,101 +99,101 @@ five-rest k five h =
     x : Rest
     x = rest_of (cond (clean d) Whole Collided) (next d)
 
-    go : (a b c e f : Bool) → length (cond a (notRest Silence) (cond b (notRest Length) (cond c (notRest Collision) (cond e (notRest (Parity (restPlace k w))) (cond f (notRest Check) x))))).five ≡ 5
+    go : (a b c e f : Bool) → length (cond a (not_rest Silence) (cond b (not_rest Length) (cond c (not_rest Collision) (cond e (not_rest (Parity (rest_place k w))) (cond f (not_rest Check) x))))).five ≡ 5
     go true b c e f = refl
     go false true c e f = refl
     go false false true e f = refl
     go false false false true f = refl
     go false false false false true = refl
-    go false false false false false = length-bytes 5 (next d)
+    go false false false false false = length_bytes 5 (next d)
 
-place-small : (l : Level) → 3 * place l ≤ 6
-place-small One = omega arith
-place-small Two = omega arith
-place-small Three = omega arith
+place_small : (l : Level) → 3 * place l ≤ 6
+place_small One = omega arith
+place_small Two = omega arith
+place_small Three = omega arith
 
-ten-longer : (l : Level) (r : Reader) (n : ℕ) → length (fill 10 (longer l r n)) ≡ 10
+ten_longer : (l : Level) (r : Reader) (n : ℕ) → length (fill 10 (longer l r n)) ≡ 10
 unfolding longer
-ten-longer l r n =
-    length-fill 10 (take (3 * place l) r.uid.bytes ++ drop n (take 4 r.five)) (rw (length-append, length-take, length-drop, length-take) (omega (arith, place-small l)))
+ten_longer l r n =
+    length_fill 10 (take (3 * place l) r.uid.bytes ++ drop n (take 4 r.five)) (rw (length-append, length-take, length-drop, length-take) (omega (arith, place_small l)))
 
 -- ---- a turn
 
-opens-stays : (l : Level) (s : Bool) (u : Uid) → s ≡ true → length u.bytes ≡ 10 → Stays (opens l s u)
+opens_stays : (l : Level) (s : Bool) (u : Uid) → s ≡ true → length u.bytes ≡ 10 → Stays (opens l s u)
 unfolding opens sends
-opens-stays l s u e h = record { phase-ok = tt; sweeps = e; five = refl; ten = h; few = omega arith }
+opens_stays l s u e h = record { phase_ok = tt; sweeps = e; five = refl; ten = h; few = omega arith }
 
-completes-stays : (s : Bool) (u : Uid) (b : ℕ) → length u.bytes ≡ 10 → Stays (completes s u b)
+completes_stays : (s : Bool) (u : Uid) (b : ℕ) → length u.bytes ≡ 10 → Stays (completes s u b)
 unfolding completes finds
-completes-stays true u b h = record { phase-ok = tt; sweeps = refl; five = refl; ten = h; few = tt }
-completes-stays false u b h = tt
+completes_stays true u b h = record { phase_ok = tt; sweeps = refl; five = refl; ten = h; few = tt }
+completes_stays false u b h = tt
 
-none-ten : length (fill 10 []) ≡ 10
+none_ten : length (fill 10 []) ≡ 10
 unfolding fill
-none-ten = refl
+none_ten = refl
 
-begin-stays : Stays (sends (blank ReqaSent true))
+begin_stays : Stays (sends (blank ReqaSent true))
 unfolding sends
-begin-stays = record { phase-ok = tt; sweeps = refl; five = refl; ten = none-ten; few = tt }
+begin_stays = record { phase_ok = tt; sweeps = refl; five = refl; ten = none_ten; few = tt }
 
 module _ (r : Reader) (q : Sweeping r) (h : List ℕ) where
-  atqa-stays : (a : AtqaRead) → Stays (afterAtqa r.sweeps a)
-  atqa-stays Atqa = opens-stays One r.sweeps (uid Single []) q.sweeps none-ten
-  atqa-stays (NotAtqa e) = tt
+  atqa_stays : (a : AtqaRead) → Stays (after_atqa r.sweeps a)
+  atqa_stays Atqa = opens_stays One r.sweeps (uid Single []) q.sweeps none_ten
+  atqa_stays (NotAtqa e) = tt
 
-  rest-stays : (l : Level) (s : RestSays) → (readRest r.known r.five h).says ≡ s → Stays (afterRest l r (readRest r.known r.five h) s)
+  rest_stays : (l : Level) (s : RestSays) → (read_rest r.known r.five h).says ≡ s → Stays (after_rest l r (read_rest r.known r.five h) s)
   unfolding sends
-  rest-stays l Whole e = record { phase-ok = tt; sweeps = q.sweeps; five = five-rest r.known r.five h; ten = q.ten; few = tt }
-  rest-stays l Collided e =
-      record { phase-ok = tt; sweeps = q.sweeps; five = five-rest r.known r.five h; ten = q.ten; few = omega (arith, (grows r.known r.five h q.five e).1) }
-  rest-stays l (NotRest x) e = tt
+  rest_stays l Whole e = record { phase_ok = tt; sweeps = q.sweeps; five = five_rest r.known r.five h; ten = q.ten; few = tt }
+  rest_stays l Collided e =
+      record { phase_ok = tt; sweeps = q.sweeps; five = five_rest r.known r.five h; ten = q.ten; few = omega (arith, (grows r.known r.five h q.five e).1) }
+  rest_stays l (NotRest x) e = tt
 
-  after-stays : (l : Level) (b : ℕ) (more : Bool) → Stays (afterSak l r b more)
-  after-stays One b true = opens-stays Two r.sweeps _ q.sweeps (ten-longer One r 1)
-  after-stays Two b true = opens-stays Three r.sweeps _ q.sweeps (ten-longer Two r 1)
-  after-stays Three b true = tt
-  after-stays One b false = completes-stays r.sweeps _ b (ten-longer One r 0)
-  after-stays Two b false = completes-stays r.sweeps _ b (ten-longer Two r 0)
-  after-stays Three b false = completes-stays r.sweeps _ b (ten-longer Three r 0)
+  after_stays : (l : Level) (b : ℕ) (more : Bool) → Stays (after_sak l r b more)
+  after_stays One b true = opens_stays Two r.sweeps _ q.sweeps (ten_longer One r 1)
+  after_stays Two b true = opens_stays Three r.sweeps _ q.sweeps (ten_longer Two r 1)
+  after_stays Three b true = tt
+  after_stays One b false = completes_stays r.sweeps _ b (ten_longer One r 0)
+  after_stays Two b false = completes_stays r.sweeps _ b (ten_longer Two r 0)
+  after_stays Three b false = completes_stays r.sweeps _ b (ten_longer Three r 0)
 
-  sak-stays : (l : Level) (a : SakRead) → Stays (sakHeard l r a)
-  sak-stays l (Sak b) = either (contradicts l (b3 b) (get_or r.five 0 0)) _ _ tt (after-stays l b (b3 b))
-  sak-stays l (NotSak e) = tt
+  sak_stays : (l : Level) (a : SakRead) → Stays (sak_heard l r a)
+  sak_stays l (Sak b) = either (contradicts l (b3 b) (get_or r.five 0 0)) _ _ tt (after_stays l b (b3 b))
+  sak_stays l (NotSak e) = tt
 
-  in-stays : (p : Phase) → InSweep p → Stays (hearIn p r h)
-  unfolding hearAtqa hearRest hearSak hearSilence
+  in-stays : (p : Phase) → InSweep p → Stays (hear_in p r h)
+  unfolding hear_atqa hear_rest hear_sak hear_silence
   in-stays New x = absurd x
-  in-stays ReqaSent x = either (isNil h && r.sweeps) _ _ tt (atqa-stays (readAtqa h))
-  in-stays (AnticollisionSent l) x = rest-stays l (readRest r.known r.five h).says refl
-  in-stays (SelectSent l) x = sak-stays l (readSak h)
-  in-stays HltaSent x = either (isNil h) _ _ begin-stays tt
+  in-stays ReqaSent x = either (is_nil h && r.sweeps) _ _ tt (atqa_stays (read_atqa h))
+  in-stays (AnticollisionSent l) x = rest_stays l (read_rest r.known r.five h).says refl
+  in-stays (SelectSent l) x = sak_stays l (read_sak h)
+  in-stays HltaSent x = either (is_nil h) _ _ begin_stays tt
   in-stays Selected x = absurd x
   in-stays Finished x = absurd x
   in-stays Stopped x = absurd x
   in-stays WupaSent x = absurd x
   in-stays (UidSelectSent l) x = absurd x
 
-  pub hear-stays : Stays (hear r h)
+  pub hear_stays : Stays (hear r h)
   unfolding hear
-  hear-stays = in-stays r.phase q.phase-ok
+  hear_stays = in-stays r.phase q.phase_ok
 
-pub begin-sweeping : Sweeping (blank ReqaSent true)
-begin-sweeping = record { phase-ok = tt; sweeps = refl; five = refl; ten = none-ten; few = tt }
+pub begin_sweeping : Sweeping (blank ReqaSent true)
+begin_sweeping = record { phase_ok = tt; sweeps = refl; five = refl; ten = none_ten; few = tt }
 
 -- ---- its frame is not empty
 
-some_in : (p : Phase) (r : Reader) → InSweep p → Few p r.known → length r.five ≡ 5 → 0 < length (frameIn p r)
+some_in : (p : Phase) (r : Reader) → InSweep p → Few p r.known → length r.five ≡ 5 → 0 < length (frame_in p r)
 some_in New r x f h = absurd x
-some_in ReqaSent r x f h = rw length-reqa (omega arith)
-some_in (AnticollisionSent l) r x f h = rw (length-anti l r.known r.five h f) (omega arith)
-some_in (SelectSent l) r x f h = rw (length-select l r.five h) (omega arith)
-some_in HltaSent r x f h = rw length-hlta (omega arith)
+some_in ReqaSent r x f h = rw length_reqa (omega arith)
+some_in (AnticollisionSent l) r x f h = rw (length_anti l r.known r.five h f) (omega arith)
+some_in (SelectSent l) r x f h = rw (length_select l r.five h) (omega arith)
+some_in HltaSent r x f h = rw length_hlta (omega arith)
 some_in Selected r x f h = absurd x
 some_in Finished r x f h = absurd x
 some_in Stopped r x f h = absurd x
 some_in WupaSent r x f h = absurd x
 some_in (UidSelectSent l) r x f h = absurd x
 
-pub frame-some : (r : Reader) → Sweeping r → 0 < length (frame r)
+pub frame_some : (r : Reader) → Sweeping r → 0 < length (frame r)
 unfolding frame
-frame-some r q = some_in r.phase r q.phase-ok q.few q.five
+frame_some r q = some_in r.phase r q.phase_ok q.few q.five

@@ -4,11 +4,11 @@
 -- log that stops before the sweep's end, is 2 at that index."
 use Rattle.std.specs.Prelude.{ℕ, zero, suc, ◌+◌, Bool, true, false, cond, ◌||◌, List, [], ◌∷◌, length, take, replicate, set, eqb, leb, ltb}
 use Rattle.rows.specs.Rows.{any, same}
-use Rattle.limits.specs.Limits.{mostCards}
-use Rattle.uid.specs.Uid.{uidBytes}
+use Rattle.limits.specs.Limits.{most_cards}
+use Rattle.uid.specs.Uid.{uid_bytes}
 use Rattle.reader.specs.Reader.{uid, blank, frame, hear}
-use Rattle.log.specs.Calls.{tickSize}
-use Rattle.log.specs.Reading.{row_at, recordAt}
+use Rattle.log.specs.Calls.{tick_size}
+use Rattle.log.specs.Reading.{row_at, record_at}
 use Rattle.log.specs.declared.Record.{Record}
 use Rattle.log.specs.declared.Record.TheVariants.{Sent, Clean, Collided, Silence, End, Cut, Malformed}
 use Rattle.card.specs.declared.Card.{Card}
@@ -33,8 +33,8 @@ use Rattle.trace_rules.specs.declared.Says.TheVariants.{Goes, Content, Faults}
 use Rattle.trace_rules.specs.declared.Stepped.{Stepped}
 
 -- "The first input byte, ahead of the log, is 0 for one without ticks, 1 with": the bytes between a record's header and its rows
-abbrev pub stampSize : ℕ → ℕ
-stampSize mode = cond (eqb mode 0) 0 tickSize
+abbrev pub stamp_size : ℕ → ℕ
+stamp_size mode = cond (eqb mode 0) 0 tick_size
 
 -- ---- the records that are due
 
@@ -45,34 +45,34 @@ marked (x ∷ r) [] = x ∷ r
 marked (x ∷ r) (y ∷ m) = cond (eqb y 0) x 2 ∷ marked r m
 
 -- what was heard, by its record in the log l
-abbrev pub heardRow : List ℕ → Record → List ℕ
-heardRow l (Sent start bits next) = []
-heardRow l (Clean start bits next) = row_at l start bits
-heardRow l (Collided start marks bits next) = marked (row_at l start bits) (row_at l marks bits)
-heardRow l (Silence next) = []
-heardRow l End = []
-heardRow l Cut = []
-heardRow l Malformed = []
+abbrev pub heard_row : List ℕ → Record → List ℕ
+heard_row l (Sent start bits next) = []
+heard_row l (Clean start bits next) = row_at l start bits
+heard_row l (Collided start marks bits next) = marked (row_at l start bits) (row_at l marks bits)
+heard_row l (Silence next) = []
+heard_row l End = []
+heard_row l Cut = []
+heard_row l Malformed = []
 
 -- the reader's frame f is due
-abbrev pub sentPassed : List ℕ → List ℕ → Record → Passed
-sentPassed l f (Sent start bits next) = cond (same (row_at l start bits) f) (Behind next) (Not Forbidden)
-sentPassed l f (Clean start bits next) = Not Forbidden
-sentPassed l f (Collided start marks bits next) = Not Forbidden
-sentPassed l f (Silence next) = Not Forbidden
-sentPassed l f End = Not Length
-sentPassed l f Cut = Not Length
-sentPassed l f Malformed = Not Forbidden
+abbrev pub sent_passed : List ℕ → List ℕ → Record → Passed
+sent_passed l f (Sent start bits next) = cond (same (row_at l start bits) f) (Behind next) (Not Forbidden)
+sent_passed l f (Clean start bits next) = Not Forbidden
+sent_passed l f (Collided start marks bits next) = Not Forbidden
+sent_passed l f (Silence next) = Not Forbidden
+sent_passed l f End = Not Length
+sent_passed l f Cut = Not Length
+sent_passed l f Malformed = Not Forbidden
 
 -- what was heard is due
-abbrev pub heardPassed : Record → Passed
-heardPassed (Sent start bits next) = Not Forbidden
-heardPassed (Clean start bits next) = Behind next
-heardPassed (Collided start marks bits next) = Behind next
-heardPassed (Silence next) = Behind next
-heardPassed End = Not Length
-heardPassed Cut = Not Length
-heardPassed Malformed = Not Forbidden
+abbrev pub heard_passed : Record → Passed
+heard_passed (Sent start bits next) = Not Forbidden
+heard_passed (Clean start bits next) = Behind next
+heard_passed (Collided start marks bits next) = Behind next
+heard_passed (Silence next) = Behind next
+heard_passed End = Not Length
+heard_passed Cut = Not Length
+heard_passed Malformed = Not Forbidden
 
 -- ---- two records: the frame that the reader has sent, and what was heard
 
@@ -95,20 +95,20 @@ abbrev pub listed : Reader → Card
 listed r = record { uid = r.uid; blocks = eqb r.sak 0x20; index = 8; state = Idle }
 
 -- the reader has found one more
-abbrev pub withCard : Place → ℕ → Reader → Place
-withCard p at r = record { at = at; reader = r; cards = set p.cards p.found (listed r); found = p.found + 1 }
+abbrev pub with_card : Place → ℕ → Reader → Place
+with_card p at r = record { at = at; reader = r; cards = set p.cards p.found (listed r); found = p.found + 1 }
 
 -- the cards found so far
-abbrev pub cardsIn : Place → List Card
-cardsIn p = take p.found p.cards
+abbrev pub cards_in : Place → List Card
+cards_in p = take p.found p.cards
 
 -- one of these cards has that UID
-unfoldable pub isListed : Uid → List Card → Bool
-isListed u cs = any (λ c. same (uidBytes u) (uidBytes c.uid)) cs
+unfoldable pub is_listed : Uid → List Card → Bool
+is_listed u cs = any (λ c. same (uid_bytes u) (uid_bytes c.uid)) cs
 
 -- "a card that is repeated or past the limit is 6 at its last SAK"
 unfoldable pub lists : Place → ℕ → Reader → Stepped
-lists p at r = cond (leb mostCards p.found || isListed r.uid (cardsIn p)) (faults p 1 Argument) (goes (withCard p at r))
+lists p at r = cond (leb most_cards p.found || is_listed r.uid (cards_in p)) (faults p 1 Argument) (goes (with_card p at r))
 
 -- silence after REQA ends the sweep: "bytes after the end, cut or not, are 11"
 unfoldable pub ends : List ℕ → Place → ℕ → Reader → Stepped
@@ -126,26 +126,26 @@ unfoldable pub turned : List ℕ → Place → ℕ → Turn → Stepped
 turned l p at t = answered l p at t.reader t.answer
 
 -- what was heard stands in a record
-abbrev pub heardThen : List ℕ → Place → Record → Passed → Stepped
-heardThen l p x (Behind next) = turned l p next (hear p.reader (heardRow l x))
-heardThen l p x (Not e) = faults p 1 e
+abbrev pub heard_then : List ℕ → Place → Record → Passed → Stepped
+heard_then l p x (Behind next) = turned l p next (hear p.reader (heard_row l x))
+heard_then l p x (Not e) = faults p 1 e
 
-abbrev pub sentThen : ℕ → List ℕ → Place → Passed → Stepped
-sentThen w l p (Behind at) = heardThen l p (recordAt w l at) (heardPassed (recordAt w l at))
-sentThen w l p (Not e) = faults p 0 e
+abbrev pub sent_then : ℕ → List ℕ → Place → Passed → Stepped
+sent_then w l p (Behind at) = heard_then l p (record_at w l at) (heard_passed (record_at w l at))
+sent_then w l p (Not e) = faults p 0 e
 
 -- in a log l whose records have stamps of w bytes
 unfoldable pub step : ℕ → List ℕ → Place → Stepped
-step w l p = sentThen w l p (sentPassed l (frame p.reader) (recordAt w l p.at))
+step w l p = sent_then w l p (sent_passed l (frame p.reader) (record_at w l p.at))
 
 -- ---- all records
 
 -- before the first record: REQA is due, and no card was found
-abbrev pub noCard : Card
-noCard = record { uid = uid Single []; blocks = false; index = 0; state = Off }
+abbrev pub no_card : Card
+no_card = record { uid = uid Single []; blocks = false; index = 0; state = Off }
 
 unfoldable pub start : Place
-start = record { at = 0; reader = blank ReqaSent true; cards = replicate mostCards noCard; found = 0 }
+start = record { at = 0; reader = blank ReqaSent true; cards = replicate most_cards no_card; found = 0 }
 
 abbrev pub checked : Verdict → Place → Checked
 checked v p = record { verdict = v; cards = p.cards; found = p.found }

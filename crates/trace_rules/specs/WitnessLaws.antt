@@ -3,52 +3,52 @@
 use Rattle.std.specs.Prelude.{◌≡◌, refl, ℕ, ◌+◌, Bool, true, false, List, [], ◌∷◌, ◌++◌}
 use Rattle.std.proofs.Common.{append_assoc, arith}
 use Rattle.rows.specs.Rows.{All, any, same}
-use Rattle.uid.specs.Uid.{valid, uidBytes}
-use Rattle.log.specs.Log.{Exchange, tickBytes, sentRecord, heardRecord, exchangeBytes, logBytes}
-use Rattle.log.specs.RecordLaws.{length-tick}
+use Rattle.uid.specs.Uid.{valid, uid_bytes}
+use Rattle.log.specs.Log.{Exchange, tick_bytes, sent_record, heard_record, exchange_bytes, log_bytes}
+use Rattle.log.specs.RecordLaws.{length_tick}
 use Rattle.sweep_rules.specs.Demand.{Typed}
 use Rattle.sweep_rules.specs.Run.{sweep}
-use Rattle.sweep_rules.specs.Terms.{cardFits, allFit, apart, within}
+use Rattle.sweep_rules.specs.Terms.{card_fits, all_fit, apart, within}
 use Rattle.uid.specs.declared.UidSize.{UidSize}
 use Rattle.uid.specs.declared.UidSize.TheVariants.{Single, Double}
 use Rattle.card.specs.declared.Card.{Card}
 use Rattle.card.specs.declared.CardState.{CardState}
 use Rattle.card.specs.declared.CardState.TheVariants.{Idle, Halt}
-use Rattle.trace_rules.specs.Trace.{stampSize}
+use Rattle.trace_rules.specs.Trace.{stamp_size}
 use Rattle.trace_rules.specs.Check.{check}
-use Rattle.trace_rules.specs.FaithLaws.{comes-out}
+use Rattle.trace_rules.specs.FaithLaws.{comes_out}
 use Rattle.trace_rules.specs.Promise.{LogOf, InputOf, ComesOut}
 
 -- "A log that the plain sweep wrote": from any tick
-ticked : (t : ℕ) (es : List Exchange) → LogOf (stampSize 1) es (logBytes t es)
-unfolding logBytes exchangeBytes
+ticked : (t : ℕ) (es : List Exchange) → LogOf (stamp_size 1) es (log_bytes t es)
+unfolding log_bytes exchange_bytes
 ticked t [] = refl
 ticked t (e ∷ es) =
     record {
-      sent-stamp = tickBytes t;
-      heard-stamp = tickBytes (t + 1);
-      rest = logBytes (t + 2) es;
-      sent-wide = length-tick t;
-      heard-wide = length-tick (t + 1);
-      bytes = append_assoc (sentRecord (tickBytes t) e.sent) (heardRecord (tickBytes (t + 1)) e.heard) (logBytes (t + 2) es);
+      sent_stamp = tick_bytes t;
+      heard_stamp = tick_bytes (t + 1);
+      rest = log_bytes (t + 2) es;
+      sent_wide = length_tick t;
+      heard_wide = length_tick (t + 1);
+      bytes = append_assoc (sent_record (tick_bytes t) e.sent) (heard_record (tick_bytes (t + 1)) e.heard) (log_bytes (t + 2) es);
       behind = ticked (t + 2) es;
     }
 
-pub with-ticks : (t : ℕ) (es : List Exchange) → InputOf es (1 ∷ logBytes t es)
-with-ticks t es = record { mode = 1; log = logBytes t es; mode-ok = search arith; input = refl; records = ticked t es }
+pub with_ticks : (t : ℕ) (es : List Exchange) → InputOf es (1 ∷ log_bytes t es)
+with_ticks t es = record { mode = 1; log = log_bytes t es; mode_ok = search arith; input = refl; records = ticked t es }
 
 -- "and the same records without ticks"
-unfoldable pub bareBytes : List Exchange → List ℕ
-bareBytes [] = []
-bareBytes (e ∷ es) = sentRecord [] e.sent ++ (heardRecord [] e.heard ++ bareBytes es)
+unfoldable pub bare_bytes : List Exchange → List ℕ
+bare_bytes [] = []
+bare_bytes (e ∷ es) = sent_record [] e.sent ++ (heard_record [] e.heard ++ bare_bytes es)
 
-bare : (es : List Exchange) → LogOf (stampSize 0) es (bareBytes es)
-unfolding bareBytes
+bare : (es : List Exchange) → LogOf (stamp_size 0) es (bare_bytes es)
+unfolding bare_bytes
 bare [] = refl
-bare (e ∷ es) = record { sent-stamp = []; heard-stamp = []; rest = bareBytes es; sent-wide = refl; heard-wide = refl; bytes = refl; behind = bare es }
+bare (e ∷ es) = record { sent_stamp = []; heard_stamp = []; rest = bare_bytes es; sent_wide = refl; heard_wide = refl; bytes = refl; behind = bare es }
 
-pub without-ticks : (es : List Exchange) → InputOf es (0 ∷ bareBytes es)
-without-ticks es = record { mode = 0; log = bareBytes es; mode-ok = search arith; input = refl; records = bare es }
+pub without_ticks : (es : List Exchange) → InputOf es (0 ∷ bare_bytes es)
+without_ticks es = record { mode = 0; log = bare_bytes es; mode_ok = search arith; input = refl; records = bare es }
 
 -- ---- a field within the terms
 
@@ -67,12 +67,12 @@ typed : All Typed field
 typed = (record { ten = refl; bytes = search arith }, (record { ten = refl; bytes = search arith }, (record { ten = refl; bytes = search arith }, tt)))
 
 meets : within field ≡ true
-unfolding within allFit cardFits apart any same valid uidBytes
+unfolding within all_fit card_fits apart any same valid uid_bytes
 meets = refl
 
 -- its log is clean, from any tick and without ticks
-pub clean-ticked : (t : ℕ) → ComesOut field (check (1 ∷ logBytes t (sweep field).exchanges))
-clean-ticked t = comes-out (1 ∷ logBytes t (sweep field).exchanges) field typed meets (with-ticks t (sweep field).exchanges)
+pub clean_ticked : (t : ℕ) → ComesOut field (check (1 ∷ log_bytes t (sweep field).exchanges))
+clean_ticked t = comes_out (1 ∷ log_bytes t (sweep field).exchanges) field typed meets (with_ticks t (sweep field).exchanges)
 
-pub clean-bare : ComesOut field (check (0 ∷ bareBytes (sweep field).exchanges))
-clean-bare = comes-out (0 ∷ bareBytes (sweep field).exchanges) field typed meets (without-ticks (sweep field).exchanges)
+pub clean_bare : ComesOut field (check (0 ∷ bare_bytes (sweep field).exchanges))
+clean_bare = comes_out (0 ∷ bare_bytes (sweep field).exchanges) field typed meets (without_ticks (sweep field).exchanges)

@@ -2,67 +2,67 @@
 use Rattle.std.specs.Prelude.{◌≡◌, refl, ℕ, suc, ◌+◌, ◌*◌, ◌≤◌, ◌<◌, List, [], ◌∷◌, ◌++◌, map, length, take, get_or}
 use Rattle.std.proofs.Common.{ap, ◌∙◌, append_assoc, append-nil, length-append, take-suc, length-take-le, zero-add, add-one, arith}
 use Rattle.rows.specs.Rows.{overlay}
-use Rattle.rows.specs.RowLaws.{overlay-next}
-use Rattle.parity.specs.Bits.{bitsOf}
-use Rattle.parity.specs.BitLaws.{length-bits}
-use Rattle.frame.specs.Frame.{airBits}
-use Rattle.frame.specs.ByteLaws.{length-airBits, airBits-append}
-use Rattle.uid.specs.Uid.{levelCount, levels, threeLevels, air, row_of}
+use Rattle.rows.specs.RowLaws.{overlay_next}
+use Rattle.parity.specs.Bits.{bits_of}
+use Rattle.parity.specs.BitLaws.{length_bits}
+use Rattle.frame.specs.Frame.{air_bits}
+use Rattle.frame.specs.ByteLaws.{length_air_bits, air_bits_append}
+use Rattle.uid.specs.Uid.{level_count, levels, three_levels, air, row_of}
 use Rattle.uid.specs.declared.Uid.{Uid}
 use Rattle.uid.specs.declared.UidSize.{UidSize}
 use Rattle.uid.specs.declared.UidSize.TheVariants.{Single, Double, Triple}
 
 -- ---- bytes in air order
 
-airBits-next : (l : List ℕ) (i : ℕ) → i < length l → airBits (take (suc i) l) ≡ airBits (take i l) ++ bitsOf 8 (get_or l i 0)
-unfolding airBits
-airBits-next l i h = rw (take-suc l i 0, airBits-append, append-nil)
+air_bits_next : (l : List ℕ) (i : ℕ) → i < length l → air_bits (take (suc i) l) ≡ air_bits (take i l) ++ bits_of 8 (get_or l i 0)
+unfolding air_bits
+air_bits_next l i h = rw (take-suc l i 0, air_bits_append, append-nil)
 
 -- a turn of the loop over bytes
-pub bits-turn : (d : List ℕ) (at : ℕ) (l : List ℕ) (i : ℕ) → at + 8 * length l ≤ length d → i < length l
-    → overlay (overlay d at (airBits (take i l))) (at + 8 * i) (bitsOf 8 (get_or l i 0)) ≡ overlay d at (airBits (take (i + 1) l))
-bits-turn d at l i h lt =
-    let e : length (airBits (take i l)) ≡ 8 * i = length-airBits (take i l) ∙ ap (λ (n : ℕ). 8 * n) (length-take-le i l (omega arith)) in
-    rw (add-one, airBits-next l i lt, ← e)
-    (overlay-next d at (airBits (take i l)) (bitsOf 8 (get_or l i 0)) (omega (arith, e, length-bits 8 (get_or l i 0))))
+pub bits_turn : (d : List ℕ) (at : ℕ) (l : List ℕ) (i : ℕ) → at + 8 * length l ≤ length d → i < length l
+    → overlay (overlay d at (air_bits (take i l))) (at + 8 * i) (bits_of 8 (get_or l i 0)) ≡ overlay d at (air_bits (take (i + 1) l))
+bits_turn d at l i h lt =
+    let e : length (air_bits (take i l)) ≡ 8 * i = length_air_bits (take i l) ∙ ap (λ (n : ℕ). 8 * n) (length-take-le i l (omega arith)) in
+    rw (add-one, air_bits_next l i lt, ← e)
+    (overlay_next d at (air_bits (take i l)) (bits_of 8 (get_or l i 0)) (omega (arith, e, length_bits 8 (get_or l i 0))))
 
 -- ---- levels in air order
 
-air-append : (k l : List (List ℕ)) → air (map airBits (k ++ l)) ≡ air (map airBits k) ++ air (map airBits l)
+air_append : (k l : List (List ℕ)) → air (map air_bits (k ++ l)) ≡ air (map air_bits k) ++ air (map air_bits l)
 unfolding air
-air-append [] l = refl
-air-append (r ∷ k) l = simp (air-append k l, append_assoc)
+air_append [] l = refl
+air_append (r ∷ k) l = simp (air_append k l, append_assoc)
 
-air-next : (l : List (List ℕ)) (i : ℕ) → i < length l
-    → air (map airBits (take (suc i) l)) ≡ air (map airBits (take i l)) ++ airBits (get_or l i [])
+air_next : (l : List (List ℕ)) (i : ℕ) → i < length l
+    → air (map air_bits (take (suc i) l)) ≡ air (map air_bits (take i l)) ++ air_bits (get_or l i [])
 unfolding air
-air-next l i h = rw (take-suc l i [], air-append, append-nil)
+air_next l i h = rw (take-suc l i [], air_append, append-nil)
 
 -- a turn of the loop over levels
-pub levels-turn : (d : List ℕ) (l : List (List ℕ)) (i : ℕ) → i < length l → length (air (map airBits (take i l))) ≡ 40 * i
+pub levels_turn : (d : List ℕ) (l : List (List ℕ)) (i : ℕ) → i < length l → length (air (map air_bits (take i l))) ≡ 40 * i
     → length (get_or l i []) ≡ 5 → 40 * i + 40 ≤ length d
-    → (overlay (overlay d 0 (air (map airBits (take i l)))) (40 * i) (airBits (get_or l i [])) ≡ overlay d 0 (air (map airBits (take (i + 1) l))))
-    × (length (air (map airBits (take (i + 1) l))) ≡ 40 * (i + 1))
-levels-turn d l i lt e f h =
-    let row : List ℕ = air (map airBits (take i l)) in
-    let five : List ℕ = airBits (get_or l i []) in
-    let g : length five ≡ 40 = length-airBits (get_or l i []) ∙ ap (λ (n : ℕ). 8 * n) f in
-    rw (add-one, air-next l i lt) ((rw (← e) (rw (zero-add (length row)) at (overlay-next d 0 row five (omega arith)))), rw length-append (omega arith))
+    → (overlay (overlay d 0 (air (map air_bits (take i l)))) (40 * i) (air_bits (get_or l i [])) ≡ overlay d 0 (air (map air_bits (take (i + 1) l))))
+    × (length (air (map air_bits (take (i + 1) l))) ≡ 40 * (i + 1))
+levels_turn d l i lt e f h =
+    let row : List ℕ = air (map air_bits (take i l)) in
+    let five : List ℕ = air_bits (get_or l i []) in
+    let g : length five ≡ 40 = length_air_bits (get_or l i []) ∙ ap (λ (n : ℕ). 8 * n) f in
+    rw (add-one, air_next l i lt) ((rw (← e) (rw (zero-add (length row)) at (overlay_next d 0 row five (omega arith)))), rw length-append (omega arith))
 
 -- ---- the row of a UID
 
 -- the levels that count are the first of the three
-front_of : (z : UidSize) (b : List ℕ)
-    → take (levelCount z) (threeLevels (record { size = z; bytes = b })) ≡ levels (record { size = z; bytes = b })
-unfolding threeLevels levels
-front_of Single b = refl
-front_of Double b = refl
-front_of Triple b = refl
+front_of_law : (z : UidSize) (b : List ℕ)
+    → take (level_count z) (three_levels (record { size = z; bytes = b })) ≡ levels (record { size = z; bytes = b })
+unfolding three_levels levels
+front_of_law Single b = refl
+front_of_law Double b = refl
+front_of_law Triple b = refl
 
-pub levels-front : (u : Uid) → take (levelCount u.size) (threeLevels u) ≡ levels u
-levels-front u = front_of u.size u.bytes
+pub levels_front : (u : Uid) → take (level_count u.size) (three_levels u) ≡ levels u
+levels_front u = front_of_law u.size u.bytes
 
 -- what the loop over levels has written is the on-air row
-pub row_made : (u : Uid) (n : ℕ) (l : List (List ℕ)) → n ≡ levelCount u.size → l ≡ threeLevels u → air (map airBits (take n l)) ≡ row_of u
+pub row_made : (u : Uid) (n : ℕ) (l : List (List ℕ)) → n ≡ level_count u.size → l ≡ three_levels u → air (map air_bits (take n l)) ≡ row_of u
 unfolding row_of
-row_made u n l p q = rw (p, q, levels-front u)
+row_made u n l p q = rw (p, q, levels_front u)

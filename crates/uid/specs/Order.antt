@@ -21,21 +21,21 @@ diff (x ∷ P) [] = off 0 x
 diff (x ∷ P) (y ∷ r) = cond (eqb x y) (later (diff P r)) (off 0 x)
 
 -- at the first difference the 1 comes first
-unfoldable pub isUp : Diff → Bool
-isUp (on t) = false
-isUp (off p x) = eqb x 1
+unfoldable pub is_up : Diff → Bool
+is_up (on t) = false
+is_up (off p x) = eqb x 1
 
 unfoldable pub above : List ℕ → List ℕ → Bool
-above r s = isUp (diff r s)
+above r s = is_up (diff r s)
 
 -- insertion by the falling order of keys
-unfoldable pub insertOn : {A : Type 0} → (A → List ℕ) → A → List A → List A
-insertOn key a [] = a ∷ []
-insertOn key a (b ∷ l) = cond (above (key a) (key b)) (a ∷ b ∷ l) (b ∷ insertOn key a l)
+unfoldable pub insert_on : {A : Type 0} → (A → List ℕ) → A → List A → List A
+insert_on key a [] = a ∷ []
+insert_on key a (b ∷ l) = cond (above (key a) (key b)) (a ∷ b ∷ l) (b ∷ insert_on key a l)
 
-unfoldable pub sortOn : {A : Type 0} → (A → List ℕ) → List A → List A
-sortOn key [] = []
-sortOn key (a ∷ l) = insertOn key a (sortOn key l)
+unfoldable pub sort_on : {A : Type 0} → (A → List ℕ) → List A → List A
+sort_on key [] = []
+sort_on key (a ∷ l) = insert_on key a (sort_on key l)
 
 unfoldable pub one : Bool → ℕ
 one true = 1

@@ -4,35 +4,35 @@ use Rattle.std.proofs.Common.{ap, ap₂, ◌∙◌, sym, append-nil, arith}
 use Rattle.std.proofs.Math.Dec.{eqb-suc-zero, eqb-zero-suc, eqb-suc-suc}
 use Rattle.rows.specs.Rows.{any}
 use Rattle.uid.specs.Order.{Diff, on, off, diff, one, count, parts_at, parts}
-use Rattle.uid.specs.OrderLaws.{diff-head}
+use Rattle.uid.specs.OrderLaws.{diff_head}
 
-pub count-cong : (n : ℕ) {f g : ℕ → Bool} → ((p : ℕ) → p < n → f p ≡ g p) → count n f ≡ count n g
+pub count_cong : (n : ℕ) {f g : ℕ → Bool} → ((p : ℕ) → p < n → f p ≡ g p) → count n f ≡ count n g
 unfolding count
-count-cong zero h = refl
-count-cong (suc n) h = ap₂ (λ b k. one b + k) (h 0 (omega arith)) (count-cong n (λ p l. h (suc p) (omega arith)))
+count_cong zero h = refl
+count_cong (suc n) h = ap₂ (λ b k. one b + k) (h 0 (omega arith)) (count_cong n (λ p l. h (suc p) (omega arith)))
 
-pub parts-nil : (S : List (List ℕ)) → parts [] S ≡ 0
+pub parts_nil : (S : List (List ℕ)) → parts [] S ≡ 0
 unfolding parts count
-parts-nil S = refl
+parts_nil S = refl
 
 pub parts_self : (P : List ℕ) (l : List (List ℕ)) → parts P (P ∷ l) ≡ parts P l
 unfolding parts any parts_at
-parts_self P l = count-cong (length P) (λ q h. rw (self P))
+parts_self P l = count_cong (length P) (λ q h. rw (self P))
   where
     self : (P : List ℕ) → diff P P ≡ on []
-    self P = ap (diff P) (sym (append-nil P)) ∙ diff-head P []
+    self P = ap (diff P) (sym (append-nil P)) ∙ diff_head P []
 
 -- ---- at most one for each of the others
 
-one-or : (a b : Bool) → one (a || b) ≤ one a + one b
+one_or : (a b : Bool) → one (a || b) ≤ one a + one b
 unfolding one
-one-or true b = omega arith
-one-or false b = omega arith
+one_or true b = omega arith
+one_or false b = omega arith
 
-count-or : (n : ℕ) (f g : ℕ → Bool) → count n (λ q. f q || g q) ≤ count n f + count n g
+count_or : (n : ℕ) (f g : ℕ → Bool) → count n (λ q. f q || g q) ≤ count n f + count n g
 unfolding count
-count-or zero f g = omega arith
-count-or (suc n) f g = omega (arith, one-or (f 0) (g 0), count-or n (λ p. f (suc p)) (λ p. g (suc p)))
+count_or zero f g = omega arith
+count_or (suc n) f g = omega (arith, one_or (f 0) (g 0), count_or n (λ p. f (suc p)) (λ p. g (suc p)))
 
 count_none : (n : ℕ) → count n (λ q. false) ≡ 0
 unfolding count one
@@ -43,16 +43,16 @@ count_none (suc n) = rw (count_none n)
 count_at : (n p : ℕ) → count n (λ q. eqb p q) ≤ 1
 unfolding count one
 count_at zero p = omega arith
-count_at (suc n) zero = rw (count-cong n (λ q h. eqb-zero-suc q), count_none) (omega arith)
-count_at (suc n) (suc p) = rw (eqb-suc-zero, count-cong n (λ q h. eqb-suc-suc p q)) (omega (arith, count_at n p))
+count_at (suc n) zero = rw (count_cong n (λ q h. eqb-zero-suc q), count_none) (omega arith)
+count_at (suc n) (suc p) = rw (eqb-suc-zero, count_cong n (λ q h. eqb-suc-suc p q)) (omega (arith, count_at n p))
 
-count-parts : (n : ℕ) (D : Diff) → count n (λ q. parts_at q D) ≤ 1
+count_parts : (n : ℕ) (D : Diff) → count n (λ q. parts_at q D) ≤ 1
 unfolding parts_at
-count-parts n (on t) = rw count_none (omega arith)
-count-parts n (off p x) = count_at n p
+count_parts n (on t) = rw count_none (omega arith)
+count_parts n (off p x) = count_at n p
 
-pub parts-le : (P : List ℕ) (S : List (List ℕ)) → parts P S ≤ length S
+pub parts_le : (P : List ℕ) (S : List (List ℕ)) → parts P S ≤ length S
 unfolding parts any
-parts-le P [] = rw count_none (omega arith)
-parts-le P (r ∷ S) =
-    omega (arith, count-or (length P) (λ q. parts_at q (diff P r)) (λ q. any (λ r. parts_at q (diff P r)) S), count-parts (length P) (diff P r), parts-le P S)
+parts_le P [] = rw count_none (omega arith)
+parts_le P (r ∷ S) =
+    omega (arith, count_or (length P) (λ q. parts_at q (diff P r)) (λ q. any (λ r. parts_at q (diff P r)) S), count_parts (length P) (diff P r), parts_le P S)

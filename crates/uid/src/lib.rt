@@ -1,8 +1,8 @@
 // Document 01, "UIDs and their levels": a UID from bytes, its levels with their B bytes, and its on-air row.
 ghost use Rattle.std.specs.Prelude.{◌≡◌, [], ◌∷◌, length};
 ghost use Rattle.rows.specs.Rows.{same};
-ghost use Rattle.uid.specs.Uid.{levelCount, byte_count, uidBytes, check, threeLevels, valid};
-ghost use Rattle.uid.specs.Calls.{newUid, madeSays, newSays, airRowSays, airSays, airRowAfter};
+ghost use Rattle.uid.specs.Uid.{level_count, byte_count, uid_bytes, check, three_levels, valid};
+ghost use Rattle.uid.specs.Calls.{new_uid, made_says, new_says, air_row_says, air_says, air_row_after};
 
 use refusal::Refusal;
 
@@ -55,7 +55,7 @@ pub enum AirRow {
 
 // The number of levels of a UID of this size.
 pub fn level_count(s: UidSize) -> usize
-    ensures { result ≡ levelCount s }
+    ensures { result ≡ level_count s }
 {
     match s {
         UidSize::Single => 1,
@@ -84,7 +84,7 @@ pub fn check_byte(a: u8, b: u8, c: u8, d: u8) -> u8
 
 // The levels, "at most three rows of five bytes, handed over together"; zeros where the UID has no level.
 pub fn levels(u: Uid) -> [[u8; 5]; 3]
-    ensures { result ≡ threeLevels u }
+    ensures { result ≡ three_levels u }
 {
     let size = u.size;
     let b = u.bytes;
@@ -123,8 +123,8 @@ pub fn is_valid(u: Uid) -> bool
 
 // A UID from bytes, or 6: "one of these lengths", and the rest of what valid means.
 pub fn new_uid(bytes: &[u8]) -> NewUid
-    ensures value { result ≡ newUid bytes.now }
-    ensures made_value { madeSays result.made ≡ newSays bytes.now }
+    ensures value { result ≡ new_uid bytes.now }
+    ensures made_value { made_says result.made ≡ new_says bytes.now }
 {
     if bytes.len() == 4 {
         let u = within::sized(UidSize::Single, bytes);
@@ -143,7 +143,7 @@ pub fn new_uid(bytes: &[u8]) -> NewUid
 
 // Are two UIDs the same, in length and in each byte that counts?
 pub fn same_uid(a: Uid, b: Uid) -> bool
-    ensures { result ≡ same (uidBytes a) (uidBytes b) }
+    ensures { result ≡ same (uid_bytes a) (uid_bytes b) }
 {
     let s = a.size;
     let t = b.size;
@@ -156,8 +156,8 @@ pub fn same_uid(a: Uid, b: Uid) -> bool
 
 // "The on-air row of a UID is its levels in air order, parity left out". It asks for room for the longest.
 pub fn air_row(u: Uid, out: &mut [u8]) -> AirRow
-    ensures result_value { airRowSays result ≡ airSays (length out.old) u }
-    ensures out_after { out.new ≡ airRowAfter result u out.old }
+    ensures result_value { air_row_says result ≡ air_says (length out.old) u }
+    ensures out_after { out.new ≡ air_row_after result u out.old }
 {
     if out.len() < 120 {
         return AirRow::NoRoom(Refusal::Room);

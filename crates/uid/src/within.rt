@@ -1,9 +1,9 @@
 // Functions that only crates of this repository call. Some have a condition, and their callers' proofs show that they meet it.
 ghost use Rattle.std.specs.Prelude.{◌≡◌, [], ◌∷◌, map, ◌+◌, ◌*◌, ◌≤◌, length, take};
 ghost use Rattle.rows.specs.Rows.{overlay};
-ghost use Rattle.frame.specs.Frame.{airBits};
+ghost use Rattle.frame.specs.Frame.{air_bits};
 ghost use Rattle.uid.specs.Uid.{level, air};
-ghost use Rattle.uid.specs.Calls.{sized, checked, refusedUid};
+ghost use Rattle.uid.specs.Calls.{sized, checked, refused_uid};
 
 use super::{Made, NewUid, Uid, UidSize};
 use refusal::Refusal;
@@ -30,7 +30,7 @@ pub fn sized(size: UidSize, bytes: &[u8]) -> Uid
 
 // What is handed back where no UID can be made: 6.
 pub fn refused_uid() -> NewUid
-    ensures { result ≡ refusedUid }
+    ensures { result ≡ refused_uid }
 {
     let zeros = [0u8; 10];
     let none = Uid {
@@ -59,7 +59,7 @@ pub fn checked(u: Uid) -> NewUid
 // A level in air order, parity left out, written into out from index at on.
 pub fn put_level(out: &mut [u8], at: usize, five: [u8; 5])
     requires { at + 40 ≤ length out.old }
-    ensures out_after { out.new ≡ overlay out.old at (airBits five) }
+    ensures out_after { out.new ≡ overlay out.old at (air_bits five) }
     ensures five_len { length five ≡ 5 }
 {
     for i in 0..5usize {
@@ -71,8 +71,8 @@ pub fn put_level(out: &mut [u8], at: usize, five: [u8; 5])
 // The first n levels in air order, at the front of out.
 pub fn put_levels(out: &mut [u8], rows: [[u8; 5]; 3], n: usize)
     requires { (n ≤ 3) × (120 ≤ length out.old) }
-    ensures out_after { out.new ≡ overlay out.old 0 (air (map airBits (take n rows))) }
-    ensures rows_len { length (air (map airBits (take n rows))) ≡ 40 * n }
+    ensures out_after { out.new ≡ overlay out.old 0 (air (map air_bits (take n rows))) }
+    ensures rows_len { length (air (map air_bits (take n rows))) ≡ 40 * n }
 {
     for i in 0..n {
         let five = rows[i];

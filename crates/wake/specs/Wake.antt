@@ -1,8 +1,8 @@
 -- T-03: the call over an array of cards, of which the first n are the field. What the run is stands in crate wake_rules.
 use Rattle.std.specs.Prelude.{ℕ, not, cond, ◌||◌, List, ◌++◌, length, take, drop, ltb}
-use Rattle.limits.specs.Limits.{mostCards}
-use Rattle.uid.specs.Calls.{newUid, validBytes}
-use Rattle.reader.specs.Reader.{isNew}
+use Rattle.limits.specs.Limits.{most_cards}
+use Rattle.uid.specs.Calls.{new_uid, valid_bytes}
+use Rattle.reader.specs.Reader.{is_new}
 use Rattle.sweep_rules.specs.Run.{Out}
 use Rattle.sweep_rules.specs.Terms.{within}
 use Rattle.wake_rules.specs.Wake.{wake}
@@ -22,8 +22,8 @@ unfoldable pub done : List Card → ℕ → Out → Woken
 done cards n o = record { reader = o.last.reader; answer = o.last.answer; cards = o.cards ++ drop n cards; frames = length o.exchanges }
 
 -- 11, then 6 for the UID or the field; there is no log and no list, so no 1
-unfoldable pub wakeOf : Reader → List ℕ → List Card → ℕ → Woken
-wakeOf r l cards n =
-    cond (not (isNew r.phase)) (refused r cards NotDue)
-    (cond (not (validBytes l) || ltb mostCards n || not (within (take n cards))) (refused r cards Argument)
-    (done cards n (wake (newUid l).uid (take n cards))))
+unfoldable pub wake_of : Reader → List ℕ → List Card → ℕ → Woken
+wake_of r l cards n =
+    cond (not (is_new r.phase)) (refused r cards NotDue)
+    (cond (not (valid_bytes l) || ltb most_cards n || not (within (take n cards))) (refused r cards Argument)
+    (done cards n (wake (new_uid l).uid (take n cards))))

@@ -1,6 +1,6 @@
 // T-03: one known card of a field is woken and selected, and no other is disturbed; over values.
 ghost use Rattle.std.specs.Prelude.{◌≡◌};
-ghost use Rattle.wake.specs.Wake.{refused, wakeOf};
+ghost use Rattle.wake.specs.Wake.{refused, wake_of};
 ghost use Rattle.wake.specs.Promise.{Wakens};
 
 use card::Card;
@@ -37,7 +37,7 @@ fn refused(r: Reader, cards: [Card; MOST_CARDS], e: Refusal) -> Woken
 // and every other is as it was. Declined, with all unchanged: 11, the reader is not new; 6, the bytes are no valid UID, or the field is not one that a
 // sweep takes. 7: the UID is not there, and all cards are as they were.
 pub fn wake(r: Reader, bytes: &[u8], cards: [Card; MOST_CARDS], n: usize) -> Woken
-    ensures value { result ≡ wakeOf r bytes.now cards n }
+    ensures value { result ≡ wake_of r bytes.now cards n }
     ensures wakens { Wakens r bytes.now cards n result }
 {
     let phase = r.phase;

@@ -1,10 +1,10 @@
 // The loop over a field: an exchange is a reader frame and what is heard after it. Called by our own crates only.
 ghost use Rattle.std.specs.Prelude.{◌≡◌, ◌≤◌, ◌<◌, take};
-ghost use Rattle.limits.specs.Limits.{mostCards};
+ghost use Rattle.limits.specs.Limits.{most_cards};
 ghost use Rattle.wake_rules.specs.Wake.{wake};
 ghost use Rattle.wake_rules.specs.Claim.{Typed};
 ghost use Rattle.wake.specs.Wake.{done};
-ghost use Rattle.wake.specs.Steps.{started, stepped, goesOn};
+ghost use Rattle.wake.specs.Steps.{started, stepped, goes_on};
 
 use crate::Woken;
 use card::Card;
@@ -29,7 +29,7 @@ fn starts(u: Uid, cards: [Card; MOST_CARDS]) -> Woken
 
 // The reader's frame, taken by the first n cards, and the reader's turn on what it heard.
 fn step(w: Woken, n: usize) -> Woken
-    requires { (n ≤ mostCards) × (w.frames < 4) }
+    requires { (n ≤ most_cards) × (w.frames < 4) }
     ensures { result ≡ stepped w n }
 {
     let r = w.reader;
@@ -54,7 +54,7 @@ fn step(w: Woken, n: usize) -> Woken
 
 // Is a frame out, and may the reader send one more?
 fn goes_on(w: Woken, most: usize) -> bool
-    ensures { result ≡ goesOn w most }
+    ensures { result ≡ goes_on w most }
 {
     if w.frames < most {
         let a = w.answer;
@@ -65,7 +65,7 @@ fn goes_on(w: Woken, most: usize) -> bool
 
 // The whole run over the first n cards: a frame more than the UID has levels.
 pub fn run(u: Uid, cards: [Card; MOST_CARDS], n: usize) -> Woken
-    requires { n ≤ mostCards }
+    requires { n ≤ most_cards }
     ensures value { result ≡ done cards n (wake u (take n cards)) }
     ensures typed { Typed u }
 {

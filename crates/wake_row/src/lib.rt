@@ -1,9 +1,9 @@
 // T-03: one known card of a lent row of cards is woken and selected, and no other is disturbed; the row's cards are changed in place.
 ghost use Rattle.std.specs.Prelude.{◌≡◌, length};
-ghost use Rattle.uid.specs.Uid.{uidBytes};
-ghost use Rattle.wake.specs.Wake.{wakeOf};
+ghost use Rattle.uid.specs.Uid.{uid_bytes};
+ghost use Rattle.wake.specs.Wake.{wake_of};
 ghost use Rattle.wake.specs.Promise.{Wakens};
-ghost use Rattle.wake_row.specs.Row.{wokenRow};
+ghost use Rattle.wake_row.specs.Row.{woken_row};
 
 use card::Card;
 use reader::{Answer, Reader};
@@ -23,7 +23,7 @@ pub struct RowWoken {
 // what `wake` says of them as values. Declined, with all unchanged: 11, the reader is not new; 6, the UID is not valid, or the row has more cards than
 // the limit or is not a field that a sweep takes. 7: the UID is not there, and all cards are as they were.
 pub fn wake_row(r: Reader, u: Uid, cards: &mut [Card]) -> RowWoken
-    ensures { (wokenRow result cards.new ≡ wakeOf r (uidBytes u) cards.old (length cards.old)) × Wakens r (uidBytes u) cards.old (length cards.old) (wokenRow result cards.new) }
+    ensures { (woken_row result cards.new ≡ wake_of r (uid_bytes u) cards.old (length cards.old)) × Wakens r (uid_bytes u) cards.old (length cards.old) (woken_row result cards.new) }
 {
     let mut p = pass::opening(r, u, cards.len());
     while p.going {

@@ -1,11 +1,11 @@
 // How far the call over a row is, and one card's turn. The row's cards are read one by one, the call is made over them as values, and they are stored
 // one by one. All that branches is here, on values: the row is only read and stored.
 ghost use Rattle.std.specs.Prelude.{◌≡◌, ◌≤◌, ◌<◌, length};
-ghost use Rattle.limits.specs.Limits.{mostCards};
-ghost use Rattle.uid.specs.Uid.{uidBytes};
-ghost use Rattle.wake.specs.Wake.{wakeOf};
+ghost use Rattle.limits.specs.Limits.{most_cards};
+ghost use Rattle.uid.specs.Uid.{uid_bytes};
+ghost use Rattle.wake.specs.Wake.{wake_of};
 ghost use Rattle.wake.specs.Promise.{Wakens};
-ghost use Rattle.wake_row.specs.Row.{row_of, noCards, stopped, fetches, heldWith, wokenIn, fetchedOne, fetchedAll, storedOne, Ready, Turns, Opened};
+ghost use Rattle.wake_row.specs.Row.{row_of, no_cards, stopped, fetches, held_with, woken_in, fetched_one, fetched_all, stored_one, Ready, Turns, Opened};
 
 use crate::RowWoken;
 use card::{Card, CardState};
@@ -50,7 +50,7 @@ fn row_of(w: Woken) -> RowWoken
 
 // Cards that stand where none was fetched yet.
 fn no_cards() -> [Card; MOST_CARDS]
-    ensures { result ≡ noCards }
+    ensures { result ≡ no_cards }
 {
     let u = Uid {
         size: UidSize::Single,
@@ -67,9 +67,9 @@ fn no_cards() -> [Card; MOST_CARDS]
 
 // The call over the first n cards of an array, as values.
 fn woken(r: Reader, u: Uid, cards: [Card; MOST_CARDS], n: usize) -> Woken
-    ensures value { result ≡ wakeOf r (uidBytes u) cards n }
-    ensures wakens { Wakens r (uidBytes u) cards n result }
-    ensures cards_len { length result.cards ≡ mostCards }
+    ensures value { result ≡ wake_of r (uid_bytes u) cards n }
+    ensures wakens { Wakens r (uid_bytes u) cards n result }
+    ensures cards_len { length result.cards ≡ most_cards }
 {
     let z = u.size;
     let b = u.bytes;
@@ -118,8 +118,8 @@ fn fetches(r: Reader, u: Uid, n: usize) -> Progress
 
 // A card is fetched, and another is asked for.
 fn fetched(p: Progress, c: Card) -> Progress
-    requires { (p.at < p.cards) × (p.cards ≤ mostCards) }
-    ensures { result ≡ fetchedOne p c }
+    requires { (p.at < p.cards) × (p.cards ≤ most_cards) }
+    ensures { result ≡ fetched_one p c }
 {
     let at = p.at;
     let mut held = p.held;
@@ -141,10 +141,10 @@ fn fetched(p: Progress, c: Card) -> Progress
 
 // The last card is fetched: the call is made, and its cards are to be stored.
 fn called(p: Progress, c: Card) -> Progress
-    requires { (p.at < p.cards) × (p.cards ≤ mostCards) }
-    ensures value { result ≡ fetchedAll p c }
-    ensures wakens { Wakens p.reader (uidBytes p.uid) (heldWith p c) p.cards (wokenIn p c) }
-    ensures c_len { length (wokenIn p c).cards ≡ mostCards }
+    requires { (p.at < p.cards) × (p.cards ≤ most_cards) }
+    ensures value { result ≡ fetched_all p c }
+    ensures wakens { Wakens p.reader (uid_bytes p.uid) (held_with p c) p.cards (woken_in p c) }
+    ensures c_len { length (woken_in p c).cards ≡ most_cards }
 {
     let at = p.at;
     let mut held = p.held;
@@ -168,8 +168,8 @@ fn called(p: Progress, c: Card) -> Progress
 
 // A card is stored, and the next is to be.
 fn stored(p: Progress) -> Progress
-    requires { (p.at < p.cards) × (p.cards ≤ mostCards) }
-    ensures { result ≡ storedOne p }
+    requires { (p.at < p.cards) × (p.cards ≤ most_cards) }
+    ensures { result ≡ stored_one p }
 {
     let s = p.woken;
     let r = p.reader;
@@ -216,8 +216,8 @@ pub fn turn(p: Progress, c: Card) -> Turned
 
 // The call where no card is to be fetched: there is none, or there are too many.
 fn at_once(r: Reader, u: Uid, n: usize) -> Progress
-    ensures value { result ≡ stopped r u (row_of (wakeOf r (uidBytes u) noCards n)) }
-    ensures wakens { Wakens r (uidBytes u) noCards n (wakeOf r (uidBytes u) noCards n) }
+    ensures value { result ≡ stopped r u (row_of (wake_of r (uid_bytes u) no_cards n)) }
+    ensures wakens { Wakens r (uid_bytes u) no_cards n (wake_of r (uid_bytes u) no_cards n) }
 {
     let held = no_cards();
     let w = woken(r, u, held, n);

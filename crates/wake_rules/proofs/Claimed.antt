@@ -8,35 +8,35 @@ use mathlib.Core.List.{List, [], ◌∷◌, ◌++◌, map, map-map}
 use lib.ListN.{length, replicate, length-append, length-map}
 use lib.Dec.{leb}
 use borrow.Author.Tests.{lt-ltb, le-ltb, not-true}
-use Rattle.rows.specs.EachLaws.{all-weaken, all-zip}
-use Rattle.rows.specs.ListLaws.{both, same-eq, all_append}
-use Rattle.rows.specs.Rows.{All, any, same, isNil}
-use Rattle.frame.specs.Frame.{bytesOf}
+use Rattle.rows.specs.EachLaws.{all_weaken, all_zip}
+use Rattle.rows.specs.ListLaws.{both, same_eq, all_append}
+use Rattle.rows.specs.Rows.{All, any, same, is_nil}
+use Rattle.frame.specs.Frame.{bytes_of}
 use Rattle.uid.specs.LevelLaws.{wide, lev}
-use Rattle.uid.specs.Uid.{valid, uidBytes, levels, row_of}
-use Rattle.uid.specs.UidLaws.{Sound, length-row, uid-in-levels}
-use Rattle.selection.specs.Heard.{readAtqa, readSak}
-use Rattle.selection.specs.SakLaws.{reads_more, reads-last}
-use Rattle.selection.specs.Selection.{wupa, select, sakFrame, atqa}
-use Rattle.card.specs.Card.{activeIn}
-use Rattle.reader.specs.KnownLaws.{fits-is, sak-onward, sak-ends}
-use Rattle.reader.specs.Reader.{reader, turn, frame, sends, stop, completes, wakes, picks, pickNext, misfits, hearWupa, uidSakHeard, hearUidSak, hear}
-use Rattle.reader.specs.ReaderLaws.{lvl, place-lvl}
-use Rattle.field.specs.Field.{allTake, heardFrom}
-use Rattle.field.specs.HeardLaws.{reads-atqa}
+use Rattle.uid.specs.Uid.{valid, uid_bytes, levels, row_of}
+use Rattle.uid.specs.UidLaws.{Sound, length_row, uid_in_levels}
+use Rattle.selection.specs.Heard.{read_atqa, read_sak}
+use Rattle.selection.specs.SakLaws.{reads_more, reads_last}
+use Rattle.selection.specs.Selection.{wupa, select, sak_frame, atqa}
+use Rattle.card.specs.Card.{active_in}
+use Rattle.reader.specs.KnownLaws.{fits_is, sak_onward, sak_ends}
+use Rattle.reader.specs.Reader.{reader, turn, frame, sends, stop, completes, wakes, picks, pick_next, misfits, hear_wupa, uid_sak_heard, hear_uid_sak, hear}
+use Rattle.reader.specs.ReaderLaws.{lvl, place_lvl}
+use Rattle.field.specs.Field.{all_take, heard_from}
+use Rattle.field.specs.HeardLaws.{reads_atqa}
 use Rattle.field.specs.Merge.{merge}
-use Rattle.log.specs.Log.{sentHeard}
+use Rattle.log.specs.Log.{sent_heard}
 use Rattle.sweep_rules.specs.Demand.{Typed}
 use Rattle.sweep_rules.specs.Run.{Out, before, ended, follow, run_of, run}
-use Rattle.limits.specs.Limits.{mostCards}
-use Rattle.sweep_rules.specs.Terms.{allFit, apart, within}
+use Rattle.limits.specs.Limits.{most_cards}
+use Rattle.sweep_rules.specs.Terms.{all_fit, apart, within}
 use Rattle.sweep_rules.proofs.Idle.{Fits}
-use Rattle.sweep_rules.proofs.Within.{within-says}
+use Rattle.sweep_rules.proofs.Within.{within_says}
 use Rattle.wake_rules.specs.Wake.{wake}
 use Rattle.wake_rules.specs.Claim as typed
-use Rattle.wake_rules.specs.Claim.{lastSak, chosen, Chosen, Absent, Wakes}
-use Rattle.wake_rules.proofs.Known.{pick-five}
-use Rattle.wake_rules.proofs.Stage.{hear-none, hear-one, standing, isIn, readyFor, standing-none, standing-one, turn-wupa, hear-wupa, turn_more, hear-more, turn_last, hear-last, own_in, other-out}
+use Rattle.wake_rules.specs.Claim.{last_sak, chosen, Chosen, Absent, Wakes}
+use Rattle.wake_rules.proofs.Known.{pick_five}
+use Rattle.wake_rules.proofs.Stage.{hear_none, hear_one, standing, is_in, ready_for, standing_none, standing_one, turn_wupa, hear_wupa_law, turn_more, hear_more, turn_last, hear_last, own_in, other_out}
 use Rattle.selection.specs.declared.AtqaRead.TheVariants.{Atqa}
 use Rattle.selection.specs.declared.SakRead.TheVariants.{Sak}
 use Rattle.uid.specs.declared.Uid.{Uid}
@@ -49,19 +49,19 @@ use Rattle.refusal.specs.declared.Refusal.TheVariants.{Silence}
 
 -- ---- tests over a list
 
-all-false : {A : Type 0} (t : A → Bool) (l : List A) → any t l ≡ false → All (λ x. t x ≡ false) l
+all_false : {A : Type 0} (t : A → Bool) (l : List A) → any t l ≡ false → All (λ x. t x ≡ false) l
 unfolding any
-all-false t [] e = tt
-all-false t (x ∷ l) e = go (t x) refl e (all-false t l)
+all_false t [] e = tt
+all_false t (x ∷ l) e = go (t x) refl e (all_false t l)
   where
     go : (b : Bool) → t x ≡ b → (b || any t l) ≡ false → (any t l ≡ false → All (λ x. t x ≡ false) l) → (t x ≡ false) × All (λ x. t x ≡ false) l
     go true p e ih = absurd (true≢false e)
     go false p e ih = (p, ih e)
 
-any-there : {A : Type 0} (t : A → Bool) (a : List A) (x : A) (b : List A) → t x ≡ true → any t (a ++ (x ∷ b)) ≡ true
+any_there : {A : Type 0} (t : A → Bool) (a : List A) (x : A) (b : List A) → t x ≡ true → any t (a ++ (x ∷ b)) ≡ true
 unfolding any
-any-there t [] x b e = rw e
-any-there t (y ∷ a) x b e = rw (any-there t a x b e) (go (t y))
+any_there t [] x b e = rw e
+any_there t (y ∷ a) x b e = rw (any_there t a x b e) (go (t y))
   where
     go : (b : Bool) → (b || true) ≡ true
     go true = refl
@@ -69,21 +69,21 @@ any-there t (y ∷ a) x b e = rw (any-there t a x b e) (go (t y))
 
 -- of different UIDs one alone is c's
 module _ (c : Card) where
-  alone : (a b : List Card) → apart (a ++ (c ∷ b)) ≡ true → All (λ k. uidBytes k.uid ≢ uidBytes c.uid) a × All (λ k. uidBytes k.uid ≢ uidBytes c.uid) b
+  alone : (a b : List Card) → apart (a ++ (c ∷ b)) ≡ true → All (λ k. uid_bytes k.uid ≢ uid_bytes c.uid) a × All (λ k. uid_bytes k.uid ≢ uid_bytes c.uid) b
   unfolding apart
   alone [] b e =
-      let t : Bool = any (λ k. same (uidBytes c.uid) (uidBytes k.uid)) b in
-      (tt, all-weaken b (λ k f q. true≢false (sym (same-eq (uidBytes c.uid) (uidBytes k.uid) (sym q)) ∙ f)) (all-false (λ k. same (uidBytes c.uid) (uidBytes k.uid)) b (not-true t (both (not t) (apart b) e).0)))
+      let t : Bool = any (λ k. same (uid_bytes c.uid) (uid_bytes k.uid)) b in
+      (tt, all_weaken b (λ k f q. true≢false (sym (same_eq (uid_bytes c.uid) (uid_bytes k.uid) (sym q)) ∙ f)) (all_false (λ k. same (uid_bytes c.uid) (uid_bytes k.uid)) b (not-true t (both (not t) (apart b) e).0)))
   alone (x ∷ a) b e =
-      let t : Bool = any (λ k. same (uidBytes x.uid) (uidBytes k.uid)) (a ++ (c ∷ b)) in
+      let t : Bool = any (λ k. same (uid_bytes x.uid) (uid_bytes k.uid)) (a ++ (c ∷ b)) in
       let h : (not t ≡ true) × (apart (a ++ (c ∷ b)) ≡ true) = both (not t) (apart (a ++ (c ∷ b))) e in
-      let i : All (λ k. uidBytes k.uid ≢ uidBytes c.uid) a × All (λ k. uidBytes k.uid ≢ uidBytes c.uid) b = alone a b h.1 in
-      ((λ q. true≢false (sym (any-there (λ k. same (uidBytes x.uid) (uidBytes k.uid)) a c b (same-eq (uidBytes x.uid) (uidBytes c.uid) q)) ∙ not-true t h.0), i.0), i.1)
+      let i : All (λ k. uid_bytes k.uid ≢ uid_bytes c.uid) a × All (λ k. uid_bytes k.uid ≢ uid_bytes c.uid) b = alone a b h.1 in
+      ((λ q. true≢false (sym (any_there (λ k. same (uid_bytes x.uid) (uid_bytes k.uid)) a c b (same_eq (uid_bytes x.uid) (uid_bytes c.uid) q)) ∙ not-true t h.0), i.0), i.1)
 
 -- ---- one frame
 
-tick : (n : ℕ) (r : Reader) (F F' : List Card) (h : List ℕ) (t : Turn) → heardFrom (frame r) F ≡ h → allTake (frame r) F ≡ F' → hear r h ≡ t
-    → run (suc n) (sends r) F ≡ before (sentHeard (frame r) h) (follow t.answer t F' (run n t F'))
+tick : (n : ℕ) (r : Reader) (F F' : List Card) (h : List ℕ) (t : Turn) → heard_from (frame r) F ≡ h → all_take (frame r) F ≡ F' → hear r h ≡ t
+    → run (suc n) (sends r) F ≡ before (sent_heard (frame r) h) (follow t.answer t F' (run n t F'))
 unfolding run run_of sends
 tick n r F F' h t e₁ e₂ e₃ = rw (e₁, e₂, e₃)
 
@@ -94,13 +94,13 @@ record Ends (F : List Card) (t : Turn) (o : Out) : Type 0 where
   last : o.last ≡ t
 
 module _ (F : List Card) (t : Turn) where
-  at_once : (n : ℕ) (r : Reader) (G : List Card) (h : List ℕ) → follow t.answer t F (run n t F) ≡ ended F t → heardFrom (frame r) G ≡ h → allTake (frame r) G ≡ F → hear r h ≡ t
+  at_once : (n : ℕ) (r : Reader) (G : List Card) (h : List ℕ) → follow t.answer t F (run n t F) ≡ ended F t → heard_from (frame r) G ≡ h → all_take (frame r) G ≡ F → hear r h ≡ t
       → Ends F t (run (suc n) (sends r) G) × (length (run (suc n) (sends r) G).exchanges ≡ 1)
   unfolding before ended
   at_once n r G h e e₁ e₂ e₃ = rw (tick n r G F h t e₁ e₂ e₃, e) (record { found = refl; cards = refl; last = refl }, refl)
 
   -- one frame more
-  then : (n : ℕ) (r q : Reader) (G H : List Card) (h : List ℕ) → heardFrom (frame r) G ≡ h → allTake (frame r) G ≡ H → hear r h ≡ sends q
+  then : (n : ℕ) (r q : Reader) (G H : List Card) (h : List ℕ) → heard_from (frame r) G ≡ h → all_take (frame r) G ≡ H → hear r h ≡ sends q
       → Ends F t (run n (sends q) H)
       → Ends F t (run (suc n) (sends r) G) × (length (run (suc n) (sends r) G).exchanges ≡ suc (length (run n (sends q) H).exchanges))
   unfolding before sends
@@ -118,162 +118,162 @@ Got F t k o = Ends F t o × (length o.exchanges ≡ k)
 
 -- SELECT of level j is out
 holding : Uid → ℕ → Reader
-holding u j = reader (UidSelectSent (lvl j)) false (bytesOf 5 (lev j (row_of u))) 40 u 0
+holding u j = reader (UidSelectSent (lvl j)) false (bytes_of 5 (lev j (row_of u))) 40 u 0
 
 waking : Uid → Reader
 waking u = reader WupaSent false (replicate 5 0) 0 u 0
 
-frame-held : (u : Uid) (j : ℕ) → frame (holding u j) ≡ select (lvl j) (bytesOf 5 (lev j (row_of u)))
+frame_held : (u : Uid) (j : ℕ) → frame (holding u j) ≡ select (lvl j) (bytes_of 5 (lev j (row_of u)))
 unfolding frame holding
-frame-held u j = refl
+frame_held u j = refl
 
-hears-none : (u : Uid) (j : ℕ) → hear (holding u j) [] ≡ stop Silence
-unfolding hear hearUidSak holding readSak isNil
-hears-none u j = refl
+hears_none : (u : Uid) (j : ℕ) → hear (holding u j) [] ≡ stop Silence
+unfolding hear hear_uid_sak holding read_sak is_nil
+hears_none u j = refl
 
-wakes-is : (u : Uid) → wakes u ≡ sends (waking u)
+wakes_is : (u : Uid) → wakes u ≡ sends (waking u)
 unfolding waking
-wakes-is u = refl
+wakes_is u = refl
 
-frame-wupa : (u : Uid) → frame (waking u) ≡ wupa
+frame_wupa : (u : Uid) → frame (waking u) ≡ wupa
 unfolding frame waking
-frame-wupa u = refl
+frame_wupa u = refl
 
-hears-atqa : (u : Uid) (h : List ℕ) → readAtqa h ≡ Atqa → hear (waking u) h ≡ picks (lvl 0) u
-unfolding hear hearWupa waking lvl
-hears-atqa u h e = rw e
+hears_atqa : (u : Uid) (h : List ℕ) → read_atqa h ≡ Atqa → hear (waking u) h ≡ picks (lvl 0) u
+unfolding hear hear_wupa waking lvl
+hears_atqa u h e = rw e
 
-wupa-none : (u : Uid) → hear (waking u) [] ≡ stop Silence
-unfolding hear hearWupa waking readAtqa isNil
-wupa-none u = refl
+wupa_none : (u : Uid) → hear (waking u) [] ≡ stop Silence
+unfolding hear hear_wupa waking read_atqa is_nil
+wupa_none u = refl
 
 module _ (u : Uid) (s : Sound u) where
   few : length (levels u) ≤ 3
   unfolding wide
-  few = omega (arith, length-row u s, (uid-in-levels u s).at_most)
+  few = omega (arith, length_row u s, (uid_in_levels u s).at_most)
 
   some_level : 0 < length (levels u)
-  some_level = omega (arith, length-row u s, (uid-in-levels u s).one-level)
+  some_level = omega (arith, length_row u s, (uid_in_levels u s).one_level)
 
   pick_is : (j : ℕ) → j < length (levels u) → picks (lvl j) u ≡ sends (holding u j)
   unfolding picks holding
-  pick_is j h = rw (place-lvl j (omega (arith, few)), pick-five u s j h)
+  pick_is j h = rw (place_lvl j (omega (arith, few)), pick_five u s j h)
 
-  pick_next : (j : ℕ) → suc j < 3 → pickNext (lvl j) u ≡ picks (lvl (suc j)) u
+  pick_next_law : (j : ℕ) → suc j < 3 → pick_next (lvl j) u ≡ picks (lvl (suc j)) u
   unfolding lvl
-  pick_next zero h = refl
-  pick_next (suc zero) h = refl
-  pick_next (suc (suc j)) h = absurd (omega arith)
+  pick_next_law zero h = refl
+  pick_next_law (suc zero) h = refl
+  pick_next_law (suc (suc j)) h = absurd (omega arith)
 
-  hears-more : (j : ℕ) → suc j < length (levels u) → hear (holding u j) (sakFrame 0x04) ≡ sends (holding u (suc j))
-  unfolding hear hearUidSak holding
-  hears-more j h =
+  hears_more : (j : ℕ) → suc j < length (levels u) → hear (holding u j) (sak_frame 0x04) ≡ sends (holding u (suc j))
+  unfolding hear hear_uid_sak holding
+  hears_more j h =
       rw reads_more
-      (sak-onward (lvl j) u 0x04 (fits-is (lvl j) u true s.is-valid (rw (place-lvl j (omega (arith, few))) (lt-ltb (suc j) (length (levels u)) h))) refl
-      ∙ pick_next j (omega (arith, few)) ∙ pick_is (suc j) h)
+      (sak_onward (lvl j) u 0x04 (fits_is (lvl j) u true s.is_valid (rw (place_lvl j (omega (arith, few))) (lt-ltb (suc j) (length (levels u)) h))) refl
+      ∙ pick_next_law j (omega (arith, few)) ∙ pick_is (suc j) h)
 
-  hears-last : (j : ℕ) → suc j ≡ length (levels u) → (b : Bool) → hear (holding u j) (sakFrame (cond b 0x20 0x00)) ≡ completes false u (cond b 0x20 0x00)
-  unfolding hear hearUidSak holding
-  hears-last j e b = rw (reads-last b) (go b)
+  hears_last : (j : ℕ) → suc j ≡ length (levels u) → (b : Bool) → hear (holding u j) (sak_frame (cond b 0x20 0x00)) ≡ completes false u (cond b 0x20 0x00)
+  unfolding hear hear_uid_sak holding
+  hears_last j e b = rw (reads_last b) (go b)
     where
       fits : misfits (lvl j) u false ≡ false
-      fits = fits-is (lvl j) u false s.is-valid (rw (place-lvl j (omega (arith, few))) (le-ltb (suc j) (length (levels u)) (omega arith)))
+      fits = fits_is (lvl j) u false s.is_valid (rw (place_lvl j (omega (arith, few))) (le-ltb (suc j) (length (levels u)) (omega arith)))
 
-      go : (b : Bool) → uidSakHeard (lvl j) u (Sak (cond b 0x20 0x00)) ≡ completes false u (cond b 0x20 0x00)
-      go true = sak-ends (lvl j) u 0x20 fits refl
-      go false = sak-ends (lvl j) u 0x00 fits refl
+      go : (b : Bool) → uid_sak_heard (lvl j) u (Sak (cond b 0x20 0x00)) ≡ completes false u (cond b 0x20 0x00)
+      go true = sak_ends (lvl j) u 0x20 fits refl
+      go false = sak_ends (lvl j) u 0x00 fits refl
 
   -- a field with cards answers WUPA
-  begun : (F : List Card) (t : Turn) (cs : List Card) → All Fits cs → 1 ≤ length cs → Ends F t (run (length (levels u)) (sends (holding u 0)) (standing u (readyFor 0) 0 cs))
+  begun : (F : List Card) (t : Turn) (cs : List Card) → All Fits cs → 1 ≤ length cs → Ends F t (run (length (levels u)) (sends (holding u 0)) (standing u (ready_for 0) 0 cs))
       → Ends F t (run (suc (length (levels u))) (sends (waking u)) cs)
-      × (length (run (suc (length (levels u))) (sends (waking u)) cs).exchanges ≡ suc (length (run (length (levels u)) (sends (holding u 0)) (standing u (readyFor 0) 0 cs)).exchanges))
+      × (length (run (suc (length (levels u))) (sends (waking u)) cs).exchanges ≡ suc (length (run (length (levels u)) (sends (holding u 0)) (standing u (ready_for 0) 0 cs)).exchanges))
   begun F t cs f some i =
-      then F t (length (levels u)) (waking u) (holding u 0) cs (standing u (readyFor 0) 0 cs) (merge (map (λ c. atqa c.uid.size) cs))
-      (rw (frame-wupa u) (hear-wupa u cs f)) (rw (frame-wupa u) (turn-wupa u cs f))
-      (hears-atqa u _ (rw (← map-map atqa (λ c. c.uid.size) cs) (reads-atqa (map (λ c. c.uid.size) cs) (rw length-map some))) ∙ pick_is 0 some_level) i
+      then F t (length (levels u)) (waking u) (holding u 0) cs (standing u (ready_for 0) 0 cs) (merge (map (λ c. atqa c.uid.size) cs))
+      (rw (frame_wupa u) (hear_wupa_law u cs f)) (rw (frame_wupa u) (turn_wupa u cs f))
+      (hears_atqa u _ (rw (← map-map atqa (λ c. c.uid.size) cs) (reads_atqa (map (λ c. c.uid.size) cs) (rw length-map some))) ∙ pick_is 0 some_level) i
 
   -- ---- the UID is not there
 
-  module _ (cs : List Card) (f : All Fits cs) (n : All (λ c. uidBytes c.uid ≢ uidBytes u) cs) where
-    outside : All (λ c. isIn u (length (levels u)) c ≡ false) cs
-    outside = all-zip cs (λ c k m. other-out u s c k m) f n
+  module _ (cs : List Card) (f : All Fits cs) (n : All (λ c. uid_bytes c.uid ≢ uid_bytes u) cs) where
+    outside : All (λ c. is_in u (length (levels u)) c ≡ false) cs
+    outside = all_zip cs (λ c k m. other_out u s c k m) f n
 
-    gone-from : (k j : ℕ) → suc (k + j) ≡ length (levels u) → Gone cs (suc k) (run (suc k) (sends (holding u j)) (standing u (readyFor j) j cs))
-    gone-from zero j e =
+    gone_from : (k j : ℕ) → suc (k + j) ≡ length (levels u) → Gone cs (suc k) (run (suc k) (sends (holding u j)) (standing u (ready_for j) j cs))
+    gone_from zero j e =
         let l : suc j ≡ length (levels u) = omega arith in
-        let o : All (λ c. isIn u (suc j) c ≡ false) cs = rw l outside in
-        let x = at_once cs (stop Silence) 0 (holding u j) (standing u (readyFor j) j cs) [] refl
-        (rw (frame-held u j) (hear-last u s j (omega arith) cs f l ∙ hear-none (λ c. cond (isIn u (suc j) c) (sakFrame (lastSak c)) []) cs (all-weaken cs (λ c i. rw i) o)))
-        (rw (frame-held u j) (turn_last u s j (omega arith) cs f l ∙ standing-none u activeIn (suc j) cs f o)) (hears-none u j) in
+        let o : All (λ c. is_in u (suc j) c ≡ false) cs = rw l outside in
+        let x = at_once cs (stop Silence) 0 (holding u j) (standing u (ready_for j) j cs) [] refl
+        (rw (frame_held u j) (hear_last u s j (omega arith) cs f l ∙ hear_none (λ c. cond (is_in u (suc j) c) (sak_frame (last_sak c)) []) cs (all_weaken cs (λ c i. rw i) o)))
+        (rw (frame_held u j) (turn_last u s j (omega arith) cs f l ∙ standing_none u active_in (suc j) cs f o)) (hears_none u j) in
         (x.0, omega (arith, x.1))
-    gone-from (suc k) j e = go (any (isIn u (suc j)) cs) refl (gone-from k (suc j) (omega arith))
+    gone_from (suc k) j e = go (any (is_in u (suc j)) cs) refl (gone_from k (suc j) (omega arith))
       where
         more : suc j < length (levels u)
         more = omega arith
 
-        go : (b : Bool) → any (isIn u (suc j)) cs ≡ b → Gone cs (suc k) (run (suc k) (sends (holding u (suc j))) (standing u (readyFor (suc j)) (suc j) cs))
-            → Gone cs (suc (suc k)) (run (suc (suc k)) (sends (holding u j)) (standing u (readyFor j) j cs))
+        go : (b : Bool) → any (is_in u (suc j)) cs ≡ b → Gone cs (suc k) (run (suc k) (sends (holding u (suc j))) (standing u (ready_for (suc j)) (suc j) cs))
+            → Gone cs (suc (suc k)) (run (suc (suc k)) (sends (holding u j)) (standing u (ready_for j) j cs))
         go true q i =
-            let x = then cs (stop Silence) (suc k) (holding u j) (holding u (suc j)) (standing u (readyFor j) j cs) (standing u (readyFor (suc j)) (suc j) cs) (sakFrame 0x04)
-            (rw (frame-held u j) (hear-more u s j (omega arith) cs f more ∙ rw q)) (rw (frame-held u j) (turn_more u s j (omega arith) cs f more)) (hears-more j more) i.0 in
+            let x = then cs (stop Silence) (suc k) (holding u j) (holding u (suc j)) (standing u (ready_for j) j cs) (standing u (ready_for (suc j)) (suc j) cs) (sak_frame 0x04)
+            (rw (frame_held u j) (hear_more u s j (omega arith) cs f more ∙ rw q)) (rw (frame_held u j) (turn_more u s j (omega arith) cs f more)) (hears_more j more) i.0 in
             (x.0, omega (arith, x.1, i.1))
         go false q i =
-            let x = at_once cs (stop Silence) (suc k) (holding u j) (standing u (readyFor j) j cs) [] refl
-            (rw (frame-held u j) (hear-more u s j (omega arith) cs f more ∙ rw q))
-            (rw (frame-held u j) (turn_more u s j (omega arith) cs f more ∙ standing-none u (readyFor (suc j)) (suc j) cs f (all-false (isIn u (suc j)) cs q))) (hears-none u j) in
+            let x = at_once cs (stop Silence) (suc k) (holding u j) (standing u (ready_for j) j cs) [] refl
+            (rw (frame_held u j) (hear_more u s j (omega arith) cs f more ∙ rw q))
+            (rw (frame_held u j) (turn_more u s j (omega arith) cs f more ∙ standing_none u (ready_for (suc j)) (suc j) cs f (all_false (is_in u (suc j)) cs q))) (hears_none u j) in
             (x.0, omega (arith, x.1))
 
     -- an empty field is silent at once
     gone : Gone cs (suc (length (levels u))) (wake u cs)
     unfolding wake
-    gone = rw (wakes-is u) (go cs f gone-from)
+    gone = rw (wakes_is u) (go cs f gone_from)
       where
         go : (l : List Card) (g : All Fits l)
-            → ((k j : ℕ) → suc (k + j) ≡ length (levels u) → Gone l (suc k) (run (suc k) (sends (holding u j)) (standing u (readyFor j) j l)))
+            → ((k j : ℕ) → suc (k + j) ≡ length (levels u) → Gone l (suc k) (run (suc k) (sends (holding u j)) (standing u (ready_for j) j l)))
             → Gone l (suc (length (levels u))) (run (suc (length (levels u))) (sends (waking u)) l)
         go [] g i =
-            let x = at_once [] (stop Silence) (length (levels u)) (waking u) [] [] refl (unfold heardFrom merge in refl) (unfold allTake in refl) (wupa-none u) in
+            let x = at_once [] (stop Silence) (length (levels u)) (waking u) [] [] refl (unfold heard_from merge in refl) (unfold all_take in refl) (wupa_none u) in
             (x.0, omega (arith, x.1))
         go (c ∷ l) g i =
             let e : suc (length (levels u) - 1) ≡ length (levels u) = omega (arith, some_level) in
-            let y : Gone (c ∷ l) (length (levels u)) (run (length (levels u)) (sends (holding u 0)) (standing u (readyFor 0) 0 (c ∷ l))) = rw e at (i (length (levels u) - 1) 0 (omega (arith, some_level))) in
+            let y : Gone (c ∷ l) (length (levels u)) (run (length (levels u)) (sends (holding u 0)) (standing u (ready_for 0) 0 (c ∷ l))) = rw e at (i (length (levels u) - 1) 0 (omega (arith, some_level))) in
             let x = begun (c ∷ l) (stop Silence) (c ∷ l) g (omega arith) y.0 in
             (x.0, omega (arith, x.1, y.1))
 
   -- ---- it is there
 
-  module _ (a : List Card) (c : Card) (b : List Card) (fa : All Fits a) (fc : Fits c) (fb : All Fits b) (it : uidBytes c.uid ≡ uidBytes u)
-      (na : All (λ k. uidBytes k.uid ≢ uidBytes u) a) (nb : All (λ k. uidBytes k.uid ≢ uidBytes u) b) where
+  module _ (a : List Card) (c : Card) (b : List Card) (fa : All Fits a) (fc : Fits c) (fb : All Fits b) (it : uid_bytes c.uid ≡ uid_bytes u)
+      (na : All (λ k. uid_bytes k.uid ≢ uid_bytes u) a) (nb : All (λ k. uid_bytes k.uid ≢ uid_bytes u) b) where
     fit : All Fits (a ++ (c ∷ b))
     fit = all_append Fits a (c ∷ b) fa (fc, fb)
 
-    got-from : (k j : ℕ) → suc (k + j) ≡ length (levels u)
-        → Got (a ++ (chosen c ∷ b)) (completes false u (lastSak c)) (suc k) (run (suc k) (sends (holding u j)) (standing u (readyFor j) j (a ++ (c ∷ b))))
-    got-from zero j e =
+    got_from : (k j : ℕ) → suc (k + j) ≡ length (levels u)
+        → Got (a ++ (chosen c ∷ b)) (completes false u (last_sak c)) (suc k) (run (suc k) (sends (holding u j)) (standing u (ready_for j) j (a ++ (c ∷ b))))
+    got_from zero j e =
         let l : suc j ≡ length (levels u) = omega arith in
-        let oa : All (λ k. isIn u (suc j) k ≡ false) a = rw l (all-zip a (λ k g m. other-out u s k g m) fa na) in
-        let ob : All (λ k. isIn u (suc j) k ≡ false) b = rw l (all-zip b (λ k g m. other-out u s k g m) fb nb) in
-        let ans : Card → List ℕ = λ k. cond (isIn u (suc j) k) (sakFrame (lastSak k)) [] in
-        at_once (a ++ (chosen c ∷ b)) (completes false u (lastSak c)) 0 (holding u j) (standing u (readyFor j) j (a ++ (c ∷ b))) (sakFrame (lastSak c)) (unfold completes in refl)
-        (rw (frame-held u j) (hear-last u s j (omega arith) (a ++ (c ∷ b)) fit l ∙ hear-one ans a c b (all-weaken a (λ k i. rw i) oa) (all-weaken b (λ k i. rw i) ob) ∙ rw (own_in u s c fc it (suc j))))
-        (rw (frame-held u j) (turn_last u s j (omega arith) (a ++ (c ∷ b)) fit l ∙ standing-one u s activeIn (suc j) c fc it a b fa fb oa ob))
-        (hears-last j l c.blocks)
-    got-from (suc k) j e =
+        let oa : All (λ k. is_in u (suc j) k ≡ false) a = rw l (all_zip a (λ k g m. other_out u s k g m) fa na) in
+        let ob : All (λ k. is_in u (suc j) k ≡ false) b = rw l (all_zip b (λ k g m. other_out u s k g m) fb nb) in
+        let ans : Card → List ℕ = λ k. cond (is_in u (suc j) k) (sak_frame (last_sak k)) [] in
+        at_once (a ++ (chosen c ∷ b)) (completes false u (last_sak c)) 0 (holding u j) (standing u (ready_for j) j (a ++ (c ∷ b))) (sak_frame (last_sak c)) (unfold completes in refl)
+        (rw (frame_held u j) (hear_last u s j (omega arith) (a ++ (c ∷ b)) fit l ∙ hear_one ans a c b (all_weaken a (λ k i. rw i) oa) (all_weaken b (λ k i. rw i) ob) ∙ rw (own_in u s c fc it (suc j))))
+        (rw (frame_held u j) (turn_last u s j (omega arith) (a ++ (c ∷ b)) fit l ∙ standing_one u s active_in (suc j) c fc it a b fa fb oa ob))
+        (hears_last j l c.blocks)
+    got_from (suc k) j e =
         let more : suc j < length (levels u) = omega arith in
-        let i = got-from k (suc j) (omega arith) in
-        let x = then (a ++ (chosen c ∷ b)) (completes false u (lastSak c)) (suc k) (holding u j) (holding u (suc j)) (standing u (readyFor j) j (a ++ (c ∷ b))) (standing u (readyFor (suc j)) (suc j) (a ++ (c ∷ b))) (sakFrame 0x04)
-        (rw (frame-held u j) (hear-more u s j (omega arith) (a ++ (c ∷ b)) fit more ∙ rw (any-there (isIn u (suc j)) a c b (own_in u s c fc it (suc j))))) (rw (frame-held u j) (turn_more u s j (omega arith) (a ++ (c ∷ b)) fit more)) (hears-more j more) i.0 in
+        let i = got_from k (suc j) (omega arith) in
+        let x = then (a ++ (chosen c ∷ b)) (completes false u (last_sak c)) (suc k) (holding u j) (holding u (suc j)) (standing u (ready_for j) j (a ++ (c ∷ b))) (standing u (ready_for (suc j)) (suc j) (a ++ (c ∷ b))) (sak_frame 0x04)
+        (rw (frame_held u j) (hear_more u s j (omega arith) (a ++ (c ∷ b)) fit more ∙ rw (any_there (is_in u (suc j)) a c b (own_in u s c fc it (suc j))))) (rw (frame_held u j) (turn_more u s j (omega arith) (a ++ (c ∷ b)) fit more)) (hears_more j more) i.0 in
         (x.0, x.1 ∙ ap suc i.1)
 
-    got : Got (a ++ (chosen c ∷ b)) (completes false u (lastSak c)) (suc (length (levels u))) (wake u (a ++ (c ∷ b)))
+    got : Got (a ++ (chosen c ∷ b)) (completes false u (last_sak c)) (suc (length (levels u))) (wake u (a ++ (c ∷ b)))
     unfolding wake
     got =
         let F : List Card = a ++ (chosen c ∷ b) in
-        let t : Turn = completes false u (lastSak c) in
+        let t : Turn = completes false u (last_sak c) in
         let e : suc (length (levels u) - 1) ≡ length (levels u) = omega (arith, some_level) in
-        let y : Got F t (length (levels u)) (run (length (levels u)) (sends (holding u 0)) (standing u (readyFor 0) 0 (a ++ (c ∷ b)))) = rw e at (got-from (length (levels u) - 1) 0 (omega (arith, some_level))) in
+        let y : Got F t (length (levels u)) (run (length (levels u)) (sends (holding u 0)) (standing u (ready_for 0) 0 (a ++ (c ∷ b)))) = rw e at (got_from (length (levels u) - 1) 0 (omega (arith, some_level))) in
         let x = begun F t (a ++ (c ∷ b)) fit (rw length-append (omega arith)) y.0 in
-        rw (wakes-is u) (x.0, x.1 ∙ ap suc y.1)
+        rw (wakes_is u) (x.0, x.1 ∙ ap suc y.1)
 
 -- ---- the claim
 
@@ -289,20 +289,20 @@ pub claim : (cs : List Card) → All Typed cs → within cs ≡ true → (u : Ui
 claim cs t w u b v = record { there = λ a c b e it. rw e (there a c b (rw e at fits) (rw e at differ) it); absent = λ n. absent (gone u s cs fits n) }
   where
     s : Sound u
-    s = record { ten = b.ten; bytes = b.bytes; is-valid = v }
+    s = record { ten = b.ten; bytes = b.bytes; is_valid = v }
 
     fits : All Fits cs
-    fits = (within-says cs t w).fits
+    fits = (within_says cs t w).fits
 
     differ : apart cs ≡ true
-    differ = unfold within in (both (leb (length cs) mostCards && allFit cs) (apart cs) w).1
+    differ = unfold within in (both (leb (length cs) most_cards && all_fit cs) (apart cs) w).1
 
     absent : Gone cs (suc (length (levels u))) (wake u cs) → Absent cs u (wake u cs)
-    absent g = record { reader-stops = g.0.last; cards = g.0.cards; frames = g.1; unlisted = g.0.found }
+    absent g = record { reader_stops = g.0.last; cards = g.0.cards; frames = g.1; unlisted = g.0.found }
 
-    there : (a : List Card) (c : Card) (b : List Card) → All Fits (a ++ (c ∷ b)) → apart (a ++ (c ∷ b)) ≡ true → uidBytes c.uid ≡ uidBytes u → Chosen a c b u (wake u (a ++ (c ∷ b)))
+    there : (a : List Card) (c : Card) (b : List Card) → All Fits (a ++ (c ∷ b)) → apart (a ++ (c ∷ b)) ≡ true → uid_bytes c.uid ≡ uid_bytes u → Chosen a c b u (wake u (a ++ (c ∷ b)))
     there a c b f d it =
         let p = split Fits a (c ∷ b) f in
         let n = alone c a b d in
-        let g = got u s a c b p.0 p.1.0 p.1.1 it (all-weaken a (λ k m q. m (q ∙ sym it)) n.0) (all-weaken b (λ k m q. m (q ∙ sym it)) n.1) in
-        record { reader-ends = g.0.last ∙ completed u (lastSak c); cards = g.0.cards; frames = g.1; unlisted = g.0.found }
+        let g = got u s a c b p.0 p.1.0 p.1.1 it (all_weaken a (λ k m q. m (q ∙ sym it)) n.0) (all_weaken b (λ k m q. m (q ∙ sym it)) n.1) in
+        record { reader_ends = g.0.last ∙ completed u (last_sak c); cards = g.0.cards; frames = g.1; unlisted = g.0.found }

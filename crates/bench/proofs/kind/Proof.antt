@@ -43,7 +43,7 @@ returns-5 c =
     let n = ne_eqb _ _ (λ e. f.if3.false (f.before.first.ensures ∙ e)) in
     simp (b.before.if1.false, le-ltb _ _ b.if2.false, n, ne_eqb _ _ (λ e. c.if4.false (ap length c.before.word.ensures ∙ e)))
 
-pub kind-spec : {M : Type 1} → statement M
-kind-spec =
+pub kind_spec : {M : Type 1} → statement M
+kind_spec =
     tie.close
     (tie.spec returns returns-2 first-requires returns-3 word-requires returns-4 returns-5)

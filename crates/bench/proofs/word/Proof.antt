@@ -4,7 +4,7 @@ use mathlib.Core.Path.{◌≡◌, sym, ap, ◌∙◌}
 use native.Mathlib.Omega.{arith}
 use native.Mathlib.Nat.{sub-zero}
 use lib.ListN.{length, drop}
-use Rattle.bench.specs.Words.{word_at, firstRun}
+use Rattle.bench.specs.Words.{word_at, first_run}
 use Rattle.bench.specs.WordLaws.{word_next}
 use Rattle.bench.proofs.word.Statement.{statement}
 use Rattle.bench.proofs.word.Tie as tie
@@ -57,10 +57,10 @@ returns c =
     let l = c.before.before.before.before.loop in
     let a = c.before.before.before.before.before.before.args in
     let e : a.k - l.i ≡ 0 = omega arith in
-    c.before.stop.ensures.run ∙ ap firstRun c.before.before.skip.ensures.rest ∙ rw e at l.invariant.2
+    c.before.stop.ensures.run ∙ ap first_run c.before.before.skip.ensures.rest ∙ rw e at l.invariant.2
 
-pub word-spec : {M : Type 1} → statement M
-word-spec =
+pub word_spec : {M : Type 1} → statement M
+word_spec =
     tie.close
     (tie.spec
     invariant-loop

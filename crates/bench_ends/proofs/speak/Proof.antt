@@ -30,8 +30,8 @@ loop-again c = tt
 returns-2 : tie.Need-returns-2 invariant-loop decreases-loop
 returns-2 c = tt
 
-pub speak-spec : {M : Type 1} → statement M
-speak-spec =
+pub speak_spec : {M : Type 1} → statement M
+speak_spec =
     tie.close
     (tie.spec
     invariant-loop

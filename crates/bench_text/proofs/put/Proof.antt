@@ -3,12 +3,12 @@ use mathlib.Core.Path.{sym}
 use native.Mathlib.Omega.{arith}
 use lib.Seq.{length-take-le}
 use borrow.Author.Rules.{rules}
-use Rattle.bench_text.specs.TextLaws.{wrote-past, wrote-least}
+use Rattle.bench_text.specs.TextLaws.{wrote_past, wrote_least}
 use Rattle.bench_text.proofs.put.Statement.{statement}
 use Rattle.bench_text.proofs.put.Tie as tie
 
 returns : tie.Need-returns
-returns c = wrote-past _ _ _ (omega arith)
+returns c = wrote_past _ _ _ (omega arith)
 
 sub-room : tie.Need-overflow-sub-room
 sub-room c = search rules
@@ -38,7 +38,7 @@ returns-2 : tie.Need-returns-2
 returns-2 c =
     let l = c.before.before.before.before.before in
     let a = l.before.before.before.before.args in
-    wrote-least a.out.now a.at a.text.now l.least.result c.before.before.put.new.0 (omega arith) l.least.ensures c.before.before.put.ensures
+    wrote_least a.out.now a.at a.text.now l.least.result c.before.before.put.new.0 (omega arith) l.least.ensures c.before.before.put.ensures
 
 pub put_spec : {M : Type 1} → statement M
 put_spec =

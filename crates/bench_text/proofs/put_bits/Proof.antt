@@ -5,20 +5,20 @@ use native.Mathlib.Omega.{arith}
 use lib.ListN.{length, take}
 use lib.Seq.{take_all}
 use borrow.Author.Rules.{rules}
-use Rattle.bench_text.specs.Text.{Wrote, bitsText}
-use Rattle.bench_text.specs.TextLaws.{wrote-nil, wrote-more, bits-next}
+use Rattle.bench_text.specs.Text.{Wrote, bits_text}
+use Rattle.bench_text.specs.TextLaws.{wrote_nil, wrote_more, bits_next}
 use Rattle.bench_text.proofs.put_bits.Statement.{statement}
 use Rattle.bench_text.proofs.put_bits.Tie as tie
 
 abbrev invariant-loop : tie.invariant-loop
-invariant-loop out₀ at row p₀ i₀ i-end out p i = (i ≤ length row) × (length out ≡ length out₀) × Wrote out₀ at (bitsText (take i row)) p out
+invariant-loop out₀ at row p₀ i₀ i-end out p i = (i ≤ length row) × (length out ≡ length out₀) × Wrote out₀ at (bits_text (take i row)) p out
 
 abbrev decreases-loop : tie.decreases-loop
 decreases-loop out₀ at row p₀ i₀ i-end out p i = length row - i
 
 loop-holds : tie.Need-loop-init invariant-loop decreases-loop
-unfolding bitsText
-loop-holds c = (omega arith, refl, wrote-nil _ _)
+unfolding bits_text
+loop-holds c = (omega arith, refl, wrote_nil _ _)
 
 shared-slice-read-bit-char : tie.Need-shared-slice-read-bit-char invariant-loop decreases-loop
 shared-slice-read-bit-char c = omega arith
@@ -47,7 +47,7 @@ loop-again c =
     let o = a.out.now in
     let r = a.row.now in
     let e = rw b.bit-char.ensures at p.ensures in
-    (omega arith, p.auto.0 ∙ l.invariant.1, wrote-more o a.at (bitsText (take l.i r)) l.p l.out _ p.result p.new.0 _ l.invariant.2 e (bits-next r l.i (omega arith)))
+    (omega arith, p.auto.0 ∙ l.invariant.1, wrote_more o a.at (bits_text (take l.i r)) l.p l.out _ p.result p.new.0 _ l.invariant.2 e (bits_next r l.i (omega arith)))
 
 same_length : tie.Need-same-length invariant-loop decreases-loop
 same_length c = omega arith
@@ -58,8 +58,8 @@ returns c =
     let a = c.before.before.before.before.args in
     rw (take_all l.i a.row.now (omega arith)) at l.invariant.2
 
-pub put-bits-spec : {M : Type 1} → statement M
-put-bits-spec =
+pub put_bits_spec : {M : Type 1} → statement M
+put_bits_spec =
     tie.close
     (tie.spec
     invariant-loop

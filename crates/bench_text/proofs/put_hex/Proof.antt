@@ -5,13 +5,13 @@ use native.Mathlib.Omega.{arith}
 use lib.ListN.{length, take}
 use lib.Seq.{take_all}
 use borrow.Author.Rules.{rules}
-use Rattle.bench_text.specs.Text.{Wrote, hexDigits}
-use Rattle.bench_text.specs.TextLaws.{wrote-nil, wrote-more, hex-next, hex-some, hex-none}
+use Rattle.bench_text.specs.Text.{Wrote, hex_digits}
+use Rattle.bench_text.specs.TextLaws.{wrote_nil, wrote_more, hex_next, hex_some, hex_none}
 use Rattle.bench_text.proofs.put_hex.Statement.{statement}
 use Rattle.bench_text.proofs.put_hex.Tie as tie
 
 abbrev invariant-loop : tie.invariant-loop
-invariant-loop out₀ at bytes p₀ i₀ i-end out p i = (i ≤ length bytes) × (length out ≡ length out₀) × Wrote out₀ at (hexDigits (take i bytes)) p out
+invariant-loop out₀ at bytes p₀ i₀ i-end out p i = (i ≤ length bytes) × (length out ≡ length out₀) × Wrote out₀ at (hex_digits (take i bytes)) p out
 
 abbrev decreases-loop : tie.decreases-loop
 decreases-loop out₀ at bytes p₀ i₀ i-end out p i = length bytes - i
@@ -28,11 +28,11 @@ same_length c = search rules
 returns : tie.Need-returns invariant-loop decreases-loop
 returns c =
     let a = c.before.before.before.before.before.before.before.before.args in
-    rw (hex-none a.bytes.now (omega arith)) c.before.before.put.ensures
+    rw (hex_none a.bytes.now (omega arith)) c.before.before.put.ensures
 
 loop-holds : tie.Need-loop-init invariant-loop decreases-loop
-unfolding hexDigits
-loop-holds c = (omega arith, refl, wrote-nil _ _)
+unfolding hex_digits
+loop-holds c = (omega arith, refl, wrote_nil _ _)
 
 shared-slice-read-put-byte : tie.Need-shared-slice-read-put-byte invariant-loop decreases-loop
 shared-slice-read-put-byte c = omega arith
@@ -53,7 +53,7 @@ loop-again c =
     let a = c.before.before.before.before.before.before.before.before.before.before.args in
     let o = a.out.now in
     let r = a.bytes.now in
-    (omega arith, p.auto.0 ∙ l.invariant.1, wrote-more o a.at (hexDigits (take l.i r)) l.p l.out _ p.result p.new.0 _ l.invariant.2 p.ensures (hex-next r l.i (omega arith)))
+    (omega arith, p.auto.0 ∙ l.invariant.1, wrote_more o a.at (hex_digits (take l.i r)) l.p l.out _ p.result p.new.0 _ l.invariant.2 p.ensures (hex_next r l.i (omega arith)))
 
 same-length-2 : tie.Need-same-length-2 invariant-loop decreases-loop
 same-length-2 c = omega arith
@@ -62,10 +62,10 @@ returns-2 : tie.Need-returns-2 invariant-loop decreases-loop
 returns-2 c =
     let l = c.before.loop in
     let a = c.before.before.before.before.before.args in
-    rw (hex-some a.bytes.now (λ z. omega arith)) (rw (take_all l.i a.bytes.now (omega arith)) at l.invariant.2)
+    rw (hex_some a.bytes.now (λ z. omega arith)) (rw (take_all l.i a.bytes.now (omega arith)) at l.invariant.2)
 
-pub put-hex-spec : {M : Type 1} → statement M
-put-hex-spec =
+pub put_hex_spec : {M : Type 1} → statement M
+put_hex_spec =
     tie.close
     (tie.spec
     invariant-loop

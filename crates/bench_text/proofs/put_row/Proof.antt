@@ -1,7 +1,7 @@
 -- `bench_text::put_row` meets its contract. Assumes nothing.
 use native.Mathlib.Omega.{arith}
 use borrow.Author.Rules.{rules}
-use Rattle.bench_text.specs.TextLaws.{row-some, row-none}
+use Rattle.bench_text.specs.TextLaws.{row_some, row_none}
 use Rattle.bench_text.proofs.put_row.Statement.{statement}
 use Rattle.bench_text.proofs.put_row.Tie as tie
 
@@ -17,7 +17,7 @@ same_length c = search rules
 returns : tie.Need-returns
 returns c =
     let a = c.before.before.before.before.before.before.before.before.args in
-    rw (row-none a.row.now (omega arith)) c.before.before.put.ensures
+    rw (row_none a.row.now (omega arith)) c.before.before.put.ensures
 
 put-bits-requires : tie.Need-put-bits-requires
 put-bits-requires c κs = search rules
@@ -28,10 +28,10 @@ same-length-2 c = search rules
 returns-2 : tie.Need-returns-2
 returns-2 c =
     let a = c.before.before.before.before.before.before.before.args in
-    rw (row-some a.row.now (λ z. omega arith)) c.before.before.put-bits.ensures
+    rw (row_some a.row.now (λ z. omega arith)) c.before.before.put-bits.ensures
 
-pub put-row-spec : {M : Type 1} → statement M
-put-row-spec =
+pub put_row_spec : {M : Type 1} → statement M
+put_row_spec =
     tie.close
     (tie.spec
     slice-aggregate-put

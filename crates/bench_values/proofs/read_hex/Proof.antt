@@ -4,9 +4,9 @@ use mathlib.Core.Path.{refl, sym, ◌∙◌}
 use native.Mathlib.Omega.{arith}
 use borrow.Author.Tests.{lt-ltb, le-ltb, not-true, not-false}
 use borrow.Author.Rules.{rules}
-use Rattle.rows.specs.RowLaws.{overlay-nil}
-use Rattle.bench_values.specs.Values.{hexWord}
-use Rattle.bench_values.specs.ValueLaws.{length-hexBytes}
+use Rattle.rows.specs.RowLaws.{overlay_nil}
+use Rattle.bench_values.specs.Values.{hex_word}
+use Rattle.bench_values.specs.ValueLaws.{length_hex_bytes}
 use Rattle.bench_values.proofs.read_hex.Statement.{statement}
 use Rattle.bench_values.proofs.read_hex.Tie as tie
 
@@ -14,17 +14,17 @@ is-dash-requires : tie.Need-is-dash-requires
 is-dash-requires c κs = search rules
 
 returns : tie.Need-returns
-unfolding hexWord
+unfolding hex_word
 returns c =
     let d = sym c.before.is-dash.ensures ∙ c.if1.true in
     let o = c.before.before.before.before.args.out.now in
-    (simp (d, le-ltb (length o) 0 (omega arith)), simp d (sym (overlay-nil o 0)))
+    (simp (d, le-ltb (length o) 0 (omega arith)), simp d (sym (overlay_nil o 0)))
 
 is-hex-requires : tie.Need-is-hex-requires
 is-hex-requires c κs = search rules
 
 returns-2 : tie.Need-returns-2
-unfolding hexWord
+unfolding hex_word
 returns-2 c =
     let h = sym c.before.is-hex.ensures ∙ not-true _ c.if2.true in
     let b = c.before.before in
@@ -32,12 +32,12 @@ returns-2 c =
     (simp (d, h), refl)
 
 returns-3 : tie.Need-returns-3
-unfolding hexWord
+unfolding hex_word
 returns-3 c =
     let b = c.before in
     let h = sym b.before.is-hex.ensures ∙ not-false _ b.if2.false in
     let d = sym b.before.before.before.is-dash.ensures ∙ b.before.before.if1.false in
-    (simp (d, h, length-hexBytes, lt-ltb _ _ c.if3.true), refl)
+    (simp (d, h, length_hex_bytes, lt-ltb _ _ c.if3.true), refl)
 
 write-hex-requires : tie.Need-write-hex-requires
 write-hex-requires c κs = search rules
@@ -46,16 +46,16 @@ same_length : tie.Need-same-length
 same_length c = search rules
 
 returns-4 : tie.Need-returns-4
-unfolding hexWord
+unfolding hex_word
 returns-4 c =
     let e = c.before.before.before.before in
     let b = e.before in
     let h = sym b.before.is-hex.ensures ∙ not-false _ b.if2.false in
     let d = sym b.before.before.before.is-dash.ensures ∙ b.before.before.if1.false in
-    (simp (d, h, length-hexBytes, le-ltb _ _ e.if3.false), simp (d, h) c.before.before.write-hex.ensures)
+    (simp (d, h, length_hex_bytes, le-ltb _ _ e.if3.false), simp (d, h) c.before.before.write-hex.ensures)
 
-pub read-hex-spec : {M : Type 1} → statement M
-read-hex-spec =
+pub read_hex_spec : {M : Type 1} → statement M
+read_hex_spec =
     tie.close
     (tie.spec
     is-dash-requires

@@ -68,8 +68,8 @@ returns-6 c = rw (c.no_bytes.ensures, c.before.enum-told5.given.1)
 returns-7 : tie.Need-returns-7
 returns-7 c = rw (c.no-bytes2.ensures, c.before.enum-told6.given.1)
 
-pub block-bytes-spec : {M : Type 1} → statement M
-block-bytes-spec =
+pub block_bytes_spec : {M : Type 1} → statement M
+block_bytes_spec =
     tie.close
     (tie.spec
     first-byte-requires

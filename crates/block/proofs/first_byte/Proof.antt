@@ -53,8 +53,8 @@ returns-8 c = search rules
 returns-9 : tie.Need-returns-9
 returns-9 c = search rules
 
-pub first-byte-spec : {M : Type 1} → statement M
-first-byte-spec =
+pub first_byte_spec : {M : Type 1} → statement M
+first_byte_spec =
     tie.close
     (tie.spec
     enum-known-b

@@ -13,5 +13,5 @@ returns-3 c = rw (c.before.if1.false, c.if3.true)
 returns-4 : tie.Need-returns-4
 returns-4 c = rw (c.before.if1.false, c.if3.false)
 
-pub first-of-i-spec : {M : Type 1} → statement M
-first-of-i-spec = tie.close (tie.spec returns returns-2 returns-3 returns-4)
+pub first_of_i_spec : {M : Type 1} → statement M
+first_of_i_spec = tie.close (tie.spec returns returns-2 returns-3 returns-4)

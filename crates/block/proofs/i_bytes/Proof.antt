@@ -1,8 +1,8 @@
 use native.Mathlib.Omega.{arith}
 use borrow.Author.Rules.{rules}
-use Rattle.block.specs.Cut.{partBytes}
-use Rattle.block.specs.BlockLaws.{bytes-behind}
-use Rattle.block.specs.CutLaws.{payload-most, part_length}
+use Rattle.block.specs.Cut.{part_bytes}
+use Rattle.block.specs.BlockLaws.{bytes_behind}
+use Rattle.block.specs.CutLaws.{payload_most, part_length}
 use Rattle.block.proofs.i_bytes.Statement.{statement}
 use Rattle.block.proofs.i_bytes.Tie as tie
 
@@ -19,19 +19,19 @@ part-bytes-end : tie.Need-slice-bounds-bytes-end
 part-bytes-end c = search rules
 
 payload-in-requires : tie.Need-payload-in-requires
-payload-in-requires c κs = omega (arith, payload-most c.before.before.args.index)
+payload-in-requires c κs = omega (arith, payload_most c.before.before.args.index)
 
 add-t11 : tie.Need-overflow-add-t11
-unfolding partBytes
-add-t11 c = omega (arith, c.before.payload-in.ensures.0, payload-most c.before.before.before.before.args.index)
+unfolding part_bytes
+add-t11 c = omega (arith, c.before.payload-in.ensures.0, payload_most c.before.before.before.before.args.index)
 
 returns : tie.Need-returns
 returns c =
     let a = c.before.before.before.before.args in
-    rw (c.before.payload-in.ensures.0, c.before.payload-in.ensures.1, ← part_length a.index a.at a.message.now) (bytes-behind a.first _)
+    rw (c.before.payload-in.ensures.0, c.before.payload-in.ensures.1, ← part_length a.index a.at a.message.now) (bytes_behind a.first _)
 
-pub i-bytes-spec : {M : Type 1} → statement M
-i-bytes-spec =
+pub i_bytes_spec : {M : Type 1} → statement M
+i_bytes_spec =
     tie.close
     (tie.spec
     array-write-bytes

@@ -1,6 +1,6 @@
 use mathlib.Core.Path.{sym}
 use Rattle.block.specs.Block.{kind}
-use Rattle.block.specs.BlockLaws.{kind-other}
+use Rattle.block.specs.BlockLaws.{kind_other}
 use Rattle.block.proofs.kind_of.Statement.{statement}
 use Rattle.block.proofs.kind_of.Tie as tie
 
@@ -47,10 +47,10 @@ returns-10 c = rw c.match.keys10
 returns-11 : tie.Need-returns-11
 returns-11 c =
     let r = c.match.rest in
-    sym (kind-other c.before.args.first r.0.0.0.0.0.0.0.0.0.1 r.0.0.0.0.0.0.0.0.1 r.0.0.0.0.0.0.0.1 r.0.0.0.0.0.0.1 r.0.0.0.0.0.1 r.0.0.0.0.1 r.0.0.0.1 r.0.0.1 r.0.1 r.1)
+    sym (kind_other c.before.args.first r.0.0.0.0.0.0.0.0.0.1 r.0.0.0.0.0.0.0.0.1 r.0.0.0.0.0.0.0.1 r.0.0.0.0.0.0.1 r.0.0.0.0.0.1 r.0.0.0.0.1 r.0.0.0.1 r.0.0.1 r.0.1 r.1)
 
-pub kind-of-spec : {M : Type 1} → statement M
-kind-of-spec =
+pub kind_of_spec : {M : Type 1} → statement M
+kind_of_spec =
     tie.close
     (tie.spec
     returns

@@ -28,8 +28,8 @@ whole-block-requires-2 c κs = search rules
 returns-3 : tie.Need-returns-3
 returns-3 c = let l = c.before.before.before.before.before.before.before.args.bytes.now in rw (c.whole-block2.ensures, c.before.before.before.kind-of.ensures) (block_more l (omega arith))
 
-pub read-block-spec : {M : Type 1} → statement M
-read-block-spec =
+pub read_block_spec : {M : Type 1} → statement M
+read_block_spec =
     tie.close
     (tie.spec
     returns

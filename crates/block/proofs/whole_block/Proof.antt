@@ -56,8 +56,8 @@ returns-10 c = search rules
 returns-11 : tie.Need-returns-11
 returns-11 c = search rules
 
-pub whole-block-spec : {M : Type 1} → statement M
-whole-block-spec =
+pub whole_block_spec : {M : Type 1} → statement M
+whole_block_spec =
     tie.close
     (tie.spec
     enum-known-b

@@ -51,8 +51,8 @@ returns-7 c = search rules
 returns-8 : tie.Need-returns-8
 returns-8 c = rw c.before.s3.given.1
 
-pub powered-spec : {M : Type 1} → statement M
-powered-spec =
+pub powered_spec : {M : Type 1} → statement M
+powered_spec =
     tie.close
     (tie.spec
     enum_told

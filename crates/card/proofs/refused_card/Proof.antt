@@ -8,5 +8,5 @@ returns : tie.Need-returns
 unfolding fill
 returns c = refl
 
-pub refused-card-spec : {M : Type 1} → statement M
-refused-card-spec = tie.close (tie.spec returns)
+pub refused_card_spec : {M : Type 1} → statement M
+refused_card_spec = tie.close (tie.spec returns)

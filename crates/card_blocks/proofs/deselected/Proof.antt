@@ -8,5 +8,5 @@ open-requires c κs = search rules
 returns : tie.Need-returns
 returns c = rw c.open.ensures
 
-pub deselected-spec : {M : Type 1} → statement M
-deselected-spec = tie.close (tie.spec open-requires returns)
+pub deselected_spec : {M : Type 1} → statement M
+deselected_spec = tie.close (tie.spec open-requires returns)

@@ -48,8 +48,8 @@ returns-4 c = rw (c.silent4.ensures, c.before.enum-told2.given.1)
 returns-5 : tie.Need-returns-5
 returns-5 c = rw (c.silent5.ensures, c.before.enum-told3.given.1)
 
-pub granted-spec : {M : Type 1} → statement M
-granted-spec =
+pub granted_spec : {M : Type 1} → statement M
+granted_spec =
     tie.close
     (tie.spec
     enum-known-phase

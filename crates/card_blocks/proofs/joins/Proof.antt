@@ -14,5 +14,5 @@ card-at-requires-2 c κs = search rules
 returns-2 : tie.Need-returns-2
 returns-2 c = rw (c.card-at2.ensures, c.before.if1.false)
 
-pub joins-spec : {M : Type 1} → statement M
-joins-spec = tie.close (tie.spec card-at-requires returns card-at-requires-2 returns-2)
+pub joins_spec : {M : Type 1} → statement M
+joins_spec = tie.close (tie.spec card-at-requires returns card-at-requires-2 returns-2)

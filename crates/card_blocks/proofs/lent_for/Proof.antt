@@ -1,8 +1,8 @@
 use mathlib.Core.Path.{sym, ◌∙◌}
 use borrow.Author.Tests.{le-ltb, lt-ltb}
 use borrow.Author.Rules.{rules}
-use Rattle.limits.specs.Limits.{messageMax}
-use Rattle.card_blocks.specs.CardRules.{lentFor}
+use Rattle.limits.specs.Limits.{message_max}
+use Rattle.card_blocks.specs.CardRules.{lent_for}
 use Rattle.card_blocks.proofs.lent_for.Statement.{statement}
 use Rattle.card_blocks.proofs.lent_for.Tie as tie
 
@@ -13,32 +13,32 @@ silent-requires : tie.Need-silent-requires
 silent-requires c κs = search rules
 
 returns : tie.Need-returns
-unfolding lentFor
+unfolding lent_for
 returns c =
     let a = c.before.before.before.before.before.before.args in
-    rw (c.silent.ensures, sym c.before.before.before.before.before.is-i.ensures ∙ c.before.before.before.before.if1.true, lt-ltb a.len a.step.link.at c.before.if2.true)
+    rw (c.silent.ensures, sym c.before.before.before.before.before.is_i_law.ensures ∙ c.before.before.before.before.if1.true, lt-ltb a.len a.step.link.at c.before.if2.true)
 
 silent-requires-2 : tie.Need-silent-requires-2
 silent-requires-2 c κs = search rules
 
 returns-2 : tie.Need-returns-2
-unfolding lentFor
+unfolding lent_for
 returns-2 c =
     let a = c.before.before.before.before.before.before.before.args in
-    rw (c.silent2.ensures, sym c.before.before.before.before.before.before.is-i.ensures ∙ c.before.before.before.before.before.if1.true, le-ltb a.len a.step.link.at c.before.before.if2.false, lt-ltb messageMax a.len c.before.if3.true)
+    rw (c.silent2.ensures, sym c.before.before.before.before.before.before.is_i_law.ensures ∙ c.before.before.before.before.before.if1.true, le-ltb a.len a.step.link.at c.before.before.if2.false, lt-ltb message_max a.len c.before.if3.true)
 
 returns-3 : tie.Need-returns-3
-unfolding lentFor
+unfolding lent_for
 returns-3 c =
     let a = c.before.before.before.before.before.before.args in
-    rw (sym c.before.before.before.before.before.is-i.ensures ∙ c.before.before.before.before.if1.true, le-ltb a.len a.step.link.at c.before.if2.false, le-ltb messageMax a.len c.if3.false)
+    rw (sym c.before.before.before.before.before.is_i_law.ensures ∙ c.before.before.before.before.if1.true, le-ltb a.len a.step.link.at c.before.if2.false, le-ltb message_max a.len c.if3.false)
 
 returns-4 : tie.Need-returns-4
-unfolding lentFor
-returns-4 c = rw (sym c.before.is-i.ensures ∙ c.if1.false)
+unfolding lent_for
+returns-4 c = rw (sym c.before.is_i_law.ensures ∙ c.if1.false)
 
-pub lent-for-spec : {M : Type 1} → statement M
-lent-for-spec =
+pub lent_for_spec : {M : Type 1} → statement M
+lent_for_spec =
     tie.close
     (tie.spec
     is-i-requires

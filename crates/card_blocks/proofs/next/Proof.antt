@@ -38,8 +38,8 @@ returns-3 c = rw (c.silent2.ensures, c.before.enum-told3.given.1)
 returns-4 : tie.Need-returns-4
 returns-4 c = rw (c.silent3.ensures, c.before.enum-told4.given.1)
 
-pub next-spec : {M : Type 1} → statement M
-next-spec =
+pub next_spec : {M : Type 1} → statement M
+next_spec =
     tie.close
     (tie.spec
     enum_told

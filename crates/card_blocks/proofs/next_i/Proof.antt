@@ -2,9 +2,9 @@
 use mathlib.Core.Path.{ap, ◌∙◌}
 use native.Mathlib.Omega.{arith}
 use borrow.Author.Rules.{rules}
-use Rattle.block.specs.CutLaws.{payload-most}
-use Rattle.card_blocks.specs.CardRules.{lentFor}
-use Rattle.card_blocks.specs.CardLaws.{next-short}
+use Rattle.block.specs.CutLaws.{payload_most}
+use Rattle.card_blocks.specs.CardRules.{lent_for}
+use Rattle.card_blocks.specs.CardLaws.{next_short}
 use Rattle.card_blocks.proofs.next_i.Statement.{statement}
 use Rattle.card_blocks.proofs.next_i.Tie as tie
 
@@ -14,13 +14,13 @@ silent-requires c κs = search rules
 returns : tie.Need-returns
 returns c =
     let a = c.before.before.before.args in
-    ap (lentFor a.c a.len) c.silent.ensures ∙ next-short a.c a.len c.before.if1.true
+    ap (lent_for a.c a.len) c.silent.ensures ∙ next_short a.c a.len c.before.if1.true
 
 payload-max-requires : tie.Need-payload-max-requires
 payload-max-requires c κs = search rules
 
 add-sends-i : tie.Need-overflow-add-sends-i
-add-sends-i c = omega (arith, c.before.payload-max.ensures, payload-most c.before.before.before.before.before.args.c.reader)
+add-sends-i c = omega (arith, c.before.payload-max.ensures, payload_most c.before.before.before.before.before.args.c.reader)
 
 sends-i-requires : tie.Need-sends-i-requires
 sends-i-requires c κs = search rules
@@ -28,7 +28,7 @@ sends-i-requires c κs = search rules
 returns-2 : tie.Need-returns-2
 returns-2 c = rw (c.sends-i.ensures, c.before.before.payload-max.ensures)
 
-pub next-i-spec : {M : Type 1} → statement M
-next-i-spec =
+pub next_i_spec : {M : Type 1} → statement M
+next_i_spec =
     tie.close
     (tie.spec silent-requires returns payload-max-requires add-sends-i sends-i-requires returns-2)

@@ -65,8 +65,8 @@ returns-6 c = rw (c.silent.ensures, c.before.enum-told2.given.1)
 returns-7 : tie.Need-returns-7
 returns-7 c = rw (c.silent2.ensures, c.before.enum-told3.given.1)
 
-pub rules-spec : {M : Type 1} → statement M
-rules-spec =
+pub rules_spec : {M : Type 1} → statement M
+rules_spec =
     tie.close
     (tie.spec
     enum-known-b

@@ -3,16 +3,16 @@
 use mathlib.Core.Path.{refl}
 use borrow.Author.Rules.{rules}
 use Rattle.crc.specs.Crc.{shift, shifts}
-use Rattle.crc.specs.Table.{entries, table, placed, halfTable}
+use Rattle.crc.specs.Table.{entries, table, placed, half_table}
 use Rattle.crc.proofs.by_all.Statement.{statement}
 use Rattle.crc.proofs.by_all.Tie as tie
 
 by-eights-requires : tie.Need-by-eights-requires
-unfolding table halfTable entries placed shifts shift
+unfolding table half_table entries placed shifts shift
 by-eights-requires c κs = (search rules, refl, refl)
 
 returns : tie.Need-returns
 returns c = search rules
 
-pub by-all-spec : {M : Type 1} → statement M
-by-all-spec = tie.close (tie.spec by-eights-requires returns)
+pub by_all_spec : {M : Type 1} → statement M
+by_all_spec = tie.close (tie.spec by-eights-requires returns)

@@ -5,13 +5,13 @@ use borrow.Author.Rules.{rules}
 use native.Mathlib.Omega.{arith}
 use lib.ListN.{length, drop, length-drop}
 use lib.Seq.{take_all}
-use Rattle.crc.specs.Crc.{crcFrom}
-use Rattle.crc.specs.LinearLaws.{eight-next}
+use Rattle.crc.specs.Crc.{crc_from}
+use Rattle.crc.specs.LinearLaws.{eight_next}
 use Rattle.crc.proofs.by_eights.Statement.{statement}
 use Rattle.crc.proofs.by_eights.Tie as tie
 
 abbrev invariant-loop : tie.invariant-loop
-invariant-loop one two over start bytes c₀ i₀ c i = (i ≤ length bytes) × (crcFrom c (drop i bytes) ≡ crcFrom start bytes)
+invariant-loop one two over start bytes c₀ i₀ c i = (i ≤ length bytes) × (crc_from c (drop i bytes) ≡ crc_from start bytes)
 
 abbrev decreases-loop : tie.decreases-loop
 decreases-loop one two over start bytes c₀ i₀ c i = length bytes - i
@@ -50,7 +50,7 @@ loop-again : tie.Need-loop-preserved invariant-loop decreases-loop
 loop-again c =
     let l = c.before.before.before.before.loop in
     let b = c.before.before.before.before.before.before.args.bytes.now in
-    (omega arith, rw (c.before.before.over-eight.ensures, c.by-pairs.ensures) (sym (eight-next b l.i l.c (omega arith)) ∙ l.invariant.1))
+    (omega arith, rw (c.before.before.over-eight.ensures, c.by-pairs.ensures) (sym (eight_next b l.i l.c (omega arith)) ∙ l.invariant.1))
 
 sub-by-pairs-2 : tie.Need-overflow-sub-by-pairs-2 invariant-loop decreases-loop
 sub-by-pairs-2 c = search rules
@@ -70,8 +70,8 @@ returns c =
     let b = c.before.before.before.before.before.args.bytes.now in
     c.by-pairs2.ensures ∙ rw (take_all (length b - l.i) (drop l.i b) (rw length-drop (omega arith))) l.invariant.1
 
-pub by-eights-spec : {M : Type 1} → statement M
-by-eights-spec =
+pub by_eights_spec : {M : Type 1} → statement M
+by_eights_spec =
     tie.close
     (tie.spec
     invariant-loop

@@ -5,13 +5,13 @@ use borrow.Author.Rules.{rules}
 use native.Mathlib.Omega.{arith}
 use lib.ListN.{length, drop, length-drop}
 use lib.Seq.{take_all}
-use Rattle.crc.specs.Crc.{crcFrom}
-use Rattle.crc.specs.CrcLaws.{pair-next}
+use Rattle.crc.specs.Crc.{crc_from}
+use Rattle.crc.specs.CrcLaws.{pair_next}
 use Rattle.crc.proofs.by_pairs.Statement.{statement}
 use Rattle.crc.proofs.by_pairs.Tie as tie
 
 abbrev invariant-loop : tie.invariant-loop
-invariant-loop one two start bytes c₀ i₀ c i = (i ≤ length bytes) × (crcFrom c (drop i bytes) ≡ crcFrom start bytes)
+invariant-loop one two start bytes c₀ i₀ c i = (i ≤ length bytes) × (crc_from c (drop i bytes) ≡ crc_from start bytes)
 
 abbrev decreases-loop : tie.decreases-loop
 decreases-loop one two start bytes c₀ i₀ c i = length bytes - i
@@ -44,7 +44,7 @@ loop-again : tie.Need-loop-preserved invariant-loop decreases-loop
 loop-again c =
     let l = c.before.before.before.before.loop in
     let b = c.before.before.before.before.before.before.args.bytes.now in
-    (omega arith, rw c.crc-pair.ensures (sym (pair-next b l.i l.c (omega arith)) ∙ l.invariant.1))
+    (omega arith, rw c.crc-pair.ensures (sym (pair_next b l.i l.c (omega arith)) ∙ l.invariant.1))
 
 sub-by-bytes : tie.Need-overflow-sub-by-bytes invariant-loop decreases-loop
 sub-by-bytes c = search rules
@@ -64,8 +64,8 @@ returns c =
     let b = c.before.before.before.before.before.args.bytes.now in
     c.by_bytes.ensures ∙ rw (take_all (length b - l.i) (drop l.i b) (rw length-drop (omega arith))) l.invariant.1
 
-pub by-pairs-spec : {M : Type 1} → statement M
-by-pairs-spec =
+pub by_pairs_spec : {M : Type 1} → statement M
+by_pairs_spec =
     tie.close
     (tie.spec
     invariant-loop

@@ -3,7 +3,7 @@ use Prim.Native.Nat.{◌+◌, ◌*◌}
 use borrow.Author.Rules.{rules}
 use native.Mathlib.Omega.{arith}
 use lib.Bits.{xor_lt}
-use Rattle.crc.specs.TableLaws.{pair-by-table}
+use Rattle.crc.specs.TableLaws.{pair_by_table}
 use Rattle.crc.proofs.crc_pair.Statement.{statement}
 use Rattle.crc.proofs.crc_pair.Tie as tie
 
@@ -32,9 +32,9 @@ returns c =
     let s = c.before.before in
     let a = s.args in
     rw (c.before.entry.ensures, c.entry2.ensures)
-    (pair-by-table a.one.now a.two.now a.c a.a a.b s.requires.0 s.requires.1 (omega arith) (omega arith) (omega arith))
+    (pair_by_table a.one.now a.two.now a.c a.a a.b s.requires.0 s.requires.1 (omega arith) (omega arith) (omega arith))
 
-pub crc-pair-spec : {M : Type 1} → statement M
-crc-pair-spec =
+pub crc_pair_spec : {M : Type 1} → statement M
+crc_pair_spec =
     tie.close
     (tie.spec mul-x add-x cast-entry entry-requires cast-entry-2 entry-requires-2 returns)

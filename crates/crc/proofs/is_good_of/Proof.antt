@@ -3,13 +3,13 @@ use mathlib.Core.Path.{refl, sym, ◌∙◌}
 use Prim.Native.Nat.{◌-◌}
 use native.Mathlib.Omega.{arith}
 use lib.ListN.{length, length-take}
-use Rattle.crc.specs.CrcOfLaws.{good-last-of, good-short-of}
+use Rattle.crc.specs.CrcOfLaws.{good_last_of, good_short_of}
 use borrow.Author.Rules.{rules}
 use Rattle.crc.proofs.is_good_of.Statement.{statement}
 use Rattle.crc.proofs.is_good_of.Tie as tie
 
 returns : tie.Need-returns
-returns c = sym (good-short-of c.before.before.args.start c.before.before.args.end c.before.before.args.bytes.now (omega arith))
+returns c = sym (good_short_of c.before.before.args.start c.before.before.args.end c.before.before.args.bytes.now (omega arith))
 
 sub-n : tie.Need-overflow-sub-n
 sub-n c = search rules
@@ -39,10 +39,10 @@ returns-2 : tie.Need-returns-2
 returns-2 c =
     let b = c.before.before.before in
     let l = b.before.before.before.before.args.bytes.now in
-    c.is_same.ensures ∙ good-last-of b.before.before.before.before.args.start b.before.before.before.before.args.end l _ (length l - 2) refl b.sent-of.ensures
+    c.is_same.ensures ∙ good_last_of b.before.before.before.before.args.start b.before.before.before.before.args.end l _ (length l - 2) refl b.sent-of.ensures
 
-pub is-good-of-spec : {M : Type 1} → statement M
-is-good-of-spec =
+pub is_good_of_spec : {M : Type 1} → statement M
+is_good_of_spec =
     tie.close
     (tie.spec
     returns

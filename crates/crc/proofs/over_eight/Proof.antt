@@ -1,7 +1,7 @@
 -- `crc::over_eight` meets its contract, by the rule of the table by half bytes. Assumes nothing.
 use borrow.Author.Rules.{rules}
 use native.Mathlib.Omega.{arith}
-use Rattle.crc.specs.TableLaws.{eight-by-table}
+use Rattle.crc.specs.TableLaws.{eight_by_table}
 use Rattle.crc.proofs.over_eight.Statement.{statement}
 use Rattle.crc.proofs.over_eight.Tie as tie
 
@@ -53,10 +53,10 @@ element-copy-out-result-2 c = search rules
 returns : tie.Need-returns
 returns c =
     let s = c.before.before.before.before in
-    eight-by-table s.args.over.now s.args.c s.requires (omega arith)
+    eight_by_table s.args.over.now s.args.c s.requires (omega arith)
 
-pub over-eight-spec : {M : Type 1} → statement M
-over-eight-spec =
+pub over_eight_spec : {M : Type 1} → statement M
+over_eight_spec =
     tie.close
     (tie.spec
     cast-low

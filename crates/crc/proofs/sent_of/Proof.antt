@@ -1,5 +1,5 @@
 -- `crc::sent_of` meets its contract, by that of `crc_of`. Assumes nothing.
-use Rattle.crc.specs.CrcOf.{sentOf}
+use Rattle.crc.specs.CrcOf.{sent_of}
 use borrow.Author.Rules.{rules}
 use Rattle.crc.proofs.sent_of.Statement.{statement}
 use Rattle.crc.proofs.sent_of.Tie as tie
@@ -14,8 +14,8 @@ cast-t8 : tie.Need-overflow-cast-t8
 cast-t8 c = search rules
 
 returns : tie.Need-returns
-unfolding sentOf
+unfolding sent_of
 returns c = rw c.crc-of.ensures
 
-pub sent-of-spec : {M : Type 1} → statement M
-sent-of-spec = tie.close (tie.spec crc-of-requires cast-t6 cast-t8 returns)
+pub sent_of_spec : {M : Type 1} → statement M
+sent_of_spec = tie.close (tie.spec crc-of-requires cast-t6 cast-t8 returns)

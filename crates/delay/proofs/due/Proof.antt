@@ -51,8 +51,8 @@ returns-5 c =
     let a = c.before.before.before.args in
     c.nearest.ensures ∙ ap (λ k. due k a.one a.delay) (sym c.before.enum-told5.given.1)
 
-pub due-spec : {M : Type 1} → statement M
-due-spec =
+pub due_spec : {M : Type 1} → statement M
+due_spec =
     tie.close
     (tie.spec
     enum_told

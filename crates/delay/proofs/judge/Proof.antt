@@ -1,6 +1,6 @@
 -- `delay::judge` meets its contract: 14, or measured less due. Assumes nothing.
 use Rattle.std.proofs.Common.{arith, rules}
-use Rattle.delay.specs.CallLaws.{delay-is, too_long, judged, difference-held}
+use Rattle.delay.specs.CallLaws.{delay_is, too_long, judged, difference_held}
 use Rattle.delay.proofs.judge.Statement.{statement}
 use Rattle.delay.proofs.judge.Tie as tie
 
@@ -10,7 +10,7 @@ wrapping-sub-u32-requires c κs = search rules
 returns : tie.Need-returns
 returns c =
     let a = c.before.before.args in
-    too_long a.kind a.one a.sent a.heard _ (delay-is _ a.sent a.heard (omega arith) (omega arith) c.before.wrapping-sub-u32.ensures) (omega arith)
+    too_long a.kind a.one a.sent a.heard _ (delay_is _ a.sent a.heard (omega arith) (omega arith) c.before.wrapping-sub-u32.ensures) (omega arith)
 
 due-requires : tie.Need-due-requires
 due-requires c κs = search rules
@@ -23,9 +23,9 @@ returns-2 c =
     let a = c.before.before.before.before.args in
     let d = c.before.before.before.wrapping-sub-u32.result in
     let at = c.before.due.result in
-    judged a.kind a.one a.sent a.heard d (delay-is d a.sent a.heard (omega arith) (omega arith) c.before.before.before.wrapping-sub-u32.ensures) _ at (omega arith) c.before.due.ensures (difference-held d at (omega arith) (omega arith) c.difference.result c.difference.ensures)
+    judged a.kind a.one a.sent a.heard d (delay_is d a.sent a.heard (omega arith) (omega arith) c.before.before.before.wrapping-sub-u32.ensures) _ at (omega arith) c.before.due.ensures (difference_held d at (omega arith) (omega arith) c.difference.result c.difference.ensures)
 
-pub judge-spec : {M : Type 1} → statement M
-judge-spec =
+pub judge_spec : {M : Type 1} → statement M
+judge_spec =
     tie.close
     (tie.spec wrapping-sub-u32-requires returns due-requires difference-requires returns-2)

@@ -1,6 +1,6 @@
 -- `delay::judge_row` meets its contract. Assumes nothing.
 use Rattle.std.proofs.Common.{◌∙◌, ap₂, rules}
-use Rattle.delay.specs.Calls.{judgeSays}
+use Rattle.delay.specs.Calls.{judge_says}
 use Rattle.delay.proofs.judge_row.Statement.{statement}
 use Rattle.delay.proofs.judge_row.Tie as tie
 
@@ -16,7 +16,7 @@ judge-requires c κs = search rules
 returns : tie.Need-returns
 returns c =
     let a = c.before.before.before.before.args in
-    c.judge.ensures ∙ ap₂ (λ k o. judgeSays k o a.sent a.heard) c.before.before.kind-of.ensures c.before.after_one.ensures
+    c.judge.ensures ∙ ap₂ (λ k o. judge_says k o a.sent a.heard) c.before.before.kind-of.ensures c.before.after_one.ensures
 
-pub judge-row-spec : {M : Type 1} → statement M
-judge-row-spec = tie.close (tie.spec kind-of-requires after-one-requires judge-requires returns)
+pub judge_row_spec : {M : Type 1} → statement M
+judge_row_spec = tie.close (tie.spec kind-of-requires after-one-requires judge-requires returns)

@@ -1,6 +1,6 @@
 -- `delay::nearest` meets its contract. Assumes nothing.
 use Rattle.std.proofs.Common.{arith, rules}
-use Rattle.delay.specs.CallLaws.{grid-most}
+use Rattle.delay.specs.CallLaws.{grid_most}
 use Rattle.delay.proofs.nearest.Statement.{statement}
 use Rattle.delay.proofs.nearest.Tie as tie
 
@@ -8,10 +8,10 @@ grid-requires : tie.Need-grid-requires
 grid-requires c κs = search rules
 
 add-if1 : tie.Need-overflow-add-if1
-add-if1 c = omega (arith, c.grid.ensures, grid-most c.before.args.one)
+add-if1 c = omega (arith, c.grid.ensures, grid_most c.before.args.one)
 
 add-result : tie.Need-overflow-add-result
-add-result c = omega (arith, c.before.grid.ensures, grid-most c.before.before.args.one)
+add-result c = omega (arith, c.before.grid.ensures, grid_most c.before.before.args.one)
 
 returns : tie.Need-returns
 returns c = search rules
@@ -31,8 +31,8 @@ add-result-3 c = search rules
 returns-2 : tie.Need-returns-2
 returns-2 c = search rules
 
-pub nearest-spec : {M : Type 1} → statement M
-nearest-spec =
+pub nearest_spec : {M : Type 1} → statement M
+nearest_spec =
     tie.close
     (tie.spec
     grid-requires

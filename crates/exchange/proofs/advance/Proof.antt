@@ -19,17 +19,17 @@ count-in-requires : tie.Need-count-in-requires
 count-in-requires c κs = search rules
 
 add-t12 : tie.Need-overflow-add-t12
-add-t12 c = omega (arith, c.before.count-in.ensures, count_most c.before.before.before.before.before.before.before.args.told, c.before.before.before.before.before.before.before.requires.0, c.before.before.before.before.before.before.before.requires.1)
+add-t12 c = omega (arith, c.before.count_in_law.ensures, count_most c.before.before.before.before.before.before.before.args.told, c.before.before.before.before.before.before.before.requires.0, c.before.before.before.before.before.before.before.requires.1)
 
 last-in-requires : tie.Need-last-in-requires
 last-in-requires c κs = search rules
 
 returns : tie.Need-returns
 unfolding advanced
-returns c = rw (c.last-in.ensures, c.before.before.count-in.ensures, c.before.before.before.before.bits_of.ensures, c.before.before.before.before.before.told-by.ensures)
+returns c = rw (c.last-in.ensures, c.before.before.count_in_law.ensures, c.before.before.before.before.bits_of.ensures, c.before.before.before.before.before.told_by_law.ensures)
 
-pub advance-spec : {M : Type 1} → statement M
-advance-spec =
+pub advance_spec : {M : Type 1} → statement M
+advance_spec =
     tie.close
     (tie.spec
     told-by-requires

@@ -11,7 +11,7 @@ bits-of-requires c κs = search rules
 
 returns : tie.Need-returns
 unfolding begun
-returns c = rw (c.bits_of.ensures, c.before.told-by.ensures)
+returns c = rw (c.bits_of.ensures, c.before.told_by_law.ensures)
 
-pub begin-spec : {M : Type 1} → statement M
-begin-spec = tie.close (tie.spec told-by-requires bits-of-requires returns)
+pub begin_spec : {M : Type 1} → statement M
+begin_spec = tie.close (tie.spec told-by-requires bits-of-requires returns)

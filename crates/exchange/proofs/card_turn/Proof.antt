@@ -27,8 +27,8 @@ same-length-4 c = search rules
 returns-2 : tie.Need-returns-2
 returns-2 c = rw c.before.before.before.before.before.before.before.if1.false (let e = c.before.before.before.before.take2.ensures in (e.0, (e.1.0, e.1.1.0)))
 
-pub card-turn-spec : {M : Type 1} → statement M
-card-turn-spec =
+pub card_turn_spec : {M : Type 1} → statement M
+card_turn_spec =
     tie.close
     (tie.spec
     take-requires

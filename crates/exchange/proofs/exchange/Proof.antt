@@ -1,7 +1,7 @@
 -- `exchange::exchange` meets its contract: it is `lossy` without numbers, and so the run of demand 2. Assumes nothing.
 use mathlib.Core.Path.{◌∙◌}
 use borrow.Author.Rules.{rules}
-use Rattle.rows.specs.ListLaws.{bytes-at}
+use Rattle.rows.specs.ListLaws.{bytes_at_law}
 use Rattle.exchange.specs.RunLaws.{clean_is, exchanges}
 use Rattle.exchange.proofs.exchange.Statement.{statement}
 use Rattle.exchange.proofs.exchange.Tie as tie
@@ -31,10 +31,10 @@ returns : tie.Need-returns
 returns c =
     let a = c.before.before.before.before.before.before.before.before.before.before.before.before.before.before.before.before.args in
     let e = c.before.before.before.before.lossy.ensures ∙ clean_is a.reader a.card a.message.now a.before.now a.answer.now a.rounds a.down.now a.up.now in
-    (e, exchanges a.reader a.card a.message.now a.before.now a.answer.now a.rounds a.down.now a.up.now _ _ c.before.before.before.before.lossy.result (bytes-at a.message.now c.before.before.before.before.before.before.before.before.before.before.before.before.before.before.before.shared-slice-known.given) (bytes-at a.before.now c.before.before.before.before.before.before.before.before.before.before.before.before.before.before.shared-slice-known2.given) (bytes-at a.answer.now c.before.before.before.before.before.before.before.before.before.before.before.before.before.shared-slice-known3.given) e)
+    (e, exchanges a.reader a.card a.message.now a.before.now a.answer.now a.rounds a.down.now a.up.now _ _ c.before.before.before.before.lossy.result (bytes_at_law a.message.now c.before.before.before.before.before.before.before.before.before.before.before.before.before.before.before.shared-slice-known.given) (bytes_at_law a.before.now c.before.before.before.before.before.before.before.before.before.before.before.before.before.before.shared-slice-known2.given) (bytes_at_law a.answer.now c.before.before.before.before.before.before.before.before.before.before.before.before.before.shared-slice-known3.given) e)
 
-pub exchange-spec : {M : Type 1} → statement M
-exchange-spec =
+pub exchange_spec : {M : Type 1} → statement M
+exchange_spec =
     tie.close
     (tie.spec
     slice-aggregate-lossy

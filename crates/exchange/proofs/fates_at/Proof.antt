@@ -15,5 +15,5 @@ at-requires-3 c κs = search rules
 returns : tie.Need-returns
 returns c = λ i. record { down = c.before.before.at.ensures i; host = c.before.at2.ensures i; up = c.at3.ensures i }
 
-pub fates-at-spec : {M : Type 1} → statement M
-fates-at-spec = tie.close (tie.spec at-requires at-requires-2 at-requires-3 returns)
+pub fates_at_spec : {M : Type 1} → statement M
+fates_at_spec = tie.close (tie.spec at-requires at-requires-2 at-requires-3 returns)

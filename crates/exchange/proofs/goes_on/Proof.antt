@@ -12,5 +12,5 @@ returns c = rw (lt-ltb _ _ c.before.if1.true) c.is-quiet.ensures
 returns-2 : tie.Need-returns-2
 returns-2 c = rw (le-ltb _ _ c.if1.false)
 
-pub goes-on-spec : {M : Type 1} → statement M
-goes-on-spec = tie.close (tie.spec is-quiet-requires returns returns-2)
+pub goes_on_spec : {M : Type 1} → statement M
+goes_on_spec = tie.close (tie.spec is-quiet-requires returns returns-2)

@@ -16,5 +16,5 @@ returns-2 c = rw (ne_eqb _ 0 c.before.before.if1.false, eq-eqb _ 1 c.before.if2.
 returns-3 : tie.Need-returns-3
 returns-3 c = rw (ne_eqb _ 0 c.before.if1.false, ne_eqb _ 1 c.if2.false)
 
-pub heard-as-spec : {M : Type 1} → statement M
-heard-as-spec = tie.close (tie.spec returns slice-aggregate-result returns-2 returns-3)
+pub heard_as_spec : {M : Type 1} → statement M
+heard_as_spec = tie.close (tie.spec returns slice-aggregate-result returns-2 returns-3)

@@ -28,7 +28,7 @@ returns-3 c =
     rw (ne_eqb _ 0 c.before.before.before.before.before.before.if1.false, ne_eqb _ 255 c.before.before.before.before.before.if2.false, c.before.before.before.ask.ensures.0)
     (refl, c.before.before.before.ask.ensures.1.0)
 
-pub host-acts-spec : {M : Type 1} → statement M
-host-acts-spec =
+pub host_acts_spec : {M : Type 1} → statement M
+host_acts_spec =
     tie.close
     (tie.spec reply-requires same_length returns returns-2 ask-requires same-length-2 returns-3)

@@ -4,9 +4,9 @@ use mathlib.Core.Bool.{true}
 use Prim.Native.Nat.{◌-◌}
 use native.Mathlib.Omega.{arith}
 use borrow.Author.Rules.{rules}
-use Rattle.exchange.specs.Lossy.{roundBy}
-use Rattle.exchange.specs.Steps.{goesOn, state_of, rest_of, outcomeOf}
-use Rattle.exchange.specs.RunLaws.{Script, scripted, Under, under_none, rest-first, goes_left, fewer, under-turn, under-done}
+use Rattle.exchange.specs.Lossy.{round_by}
+use Rattle.exchange.specs.Steps.{goes_on, state_of, rest_of, outcome_of}
+use Rattle.exchange.specs.RunLaws.{Script, scripted, Under, under_none, rest_first, goes_left, fewer, under_turn, under_done}
 use Rattle.exchange.proofs.lossy.Statement.{statement}
 use Rattle.exchange.proofs.lossy.Tie as tie
 
@@ -46,42 +46,42 @@ round-requires : tie.Need-round-requires invariant-loop decreases-loop
 round-requires c κs =
     let l = c.before.before.before.before.before.before.loop in
     let n = c.before.before.before.before.before.before.before.before.before.before.before.before.before.before.before.before.before.before.before.before.args.rounds in
-    let g : goesOn l.p n ≡ true = sym c.before.before.before.before.before.goes_on.ensures ∙ c.before.before.before.before.if1.true in
-    (l.invariant.fit, omega (arith, (goes_left l.p n g).0, c.before.before.before.before.before.before.before.before.before.before.before.before.before.before.before.before.before.before.before.before.ranges.rounds), l.invariant.row-size)
+    let g : goes_on l.p n ≡ true = sym c.before.before.before.before.before.goes_on.ensures ∙ c.before.before.before.before.if1.true in
+    (l.invariant.fit, omega (arith, (goes_left l.p n g).0, c.before.before.before.before.before.before.before.before.before.before.before.before.before.before.before.before.before.before.before.before.ranges.rounds), l.invariant.row_size)
 
 loop-less : tie.Need-loop-smaller invariant-loop decreases-loop
 loop-less c =
     let l = c.before.before.before.before.before.before.before.before.before.before.before.before.loop in
     let a = c.before.before.before.before.before.before.before.before.before.before.before.before.before.before.before.before.before.before.before.before.before.before.before.before.before.before.args in
-    fewer (roundBy a.noise.now c.before.before.before.before.before.before.before.before.before.fates-at.result) l.p c.before.before.before.before.before.round.result _ _ _ _ _ _ _ _ _ a.rounds (sym c.before.before.before.before.before.before.before.before.before.before.before.goes_on.ensures ∙ c.before.before.before.before.before.before.before.before.before.before.if1.true) c.before.before.before.before.before.round.ensures.0
+    fewer (round_by a.noise.now c.before.before.before.before.before.before.before.before.before.fates-at.result) l.p c.before.before.before.before.before.round.result _ _ _ _ _ _ _ _ _ a.rounds (sym c.before.before.before.before.before.before.before.before.before.before.before.goes_on.ensures ∙ c.before.before.before.before.before.before.before.before.before.before.if1.true) c.before.before.before.before.before.round.ensures.0
 
 loop-again : tie.Need-loop-preserved invariant-loop decreases-loop
 loop-again c =
     let l = c.before.before.before.before.before.before.before.before.before.before.before.before.loop in
     let a = c.before.before.before.before.before.before.before.before.before.before.before.before.before.before.before.before.before.before.before.before.before.before.before.before.before.before.args in
     let r = c.before.before.before.before.before.round in
-    under-turn (record { noise = a.noise.now; downs = a.downs.now; hosts = a.hosts.now; ups = a.ups.now }) a.message.now a.before.now a.answer.now a.rounds a.down.now a.up.now _ l.p l.down l.up l.row l.invariant c.before.before.before.before.before.before.before.before.before.fates-at.result r.result _ _ _ (sym c.before.before.before.before.before.before.before.before.before.before.before.goes_on.ensures ∙ c.before.before.before.before.before.before.before.before.before.before.if1.true) c.before.before.before.before.before.before.before.before.before.fates-at.ensures r.ensures.0 r.ensures.1 r.auto.1.1.1.1.1.1.0 r.auto.1.1.1.1.1.1.1.0 r.auto.1.1.1.1.1.1.1.1.0
+    under_turn (record { noise = a.noise.now; downs = a.downs.now; hosts = a.hosts.now; ups = a.ups.now }) a.message.now a.before.now a.answer.now a.rounds a.down.now a.up.now _ l.p l.down l.up l.row l.invariant c.before.before.before.before.before.before.before.before.before.fates-at.result r.result _ _ _ (sym c.before.before.before.before.before.before.before.before.before.before.before.goes_on.ensures ∙ c.before.before.before.before.before.before.before.before.before.before.if1.true) c.before.before.before.before.before.before.before.before.before.fates-at.ensures r.ensures.0 r.ensures.1 r.auto.1.1.1.1.1.1.0 r.auto.1.1.1.1.1.1.1.0 r.auto.1.1.1.1.1.1.1.1.0
 
 done-requires : tie.Need-done-requires invariant-loop decreases-loop
 done-requires c κs = tt
 
 same_length : tie.Need-same-length invariant-loop decreases-loop
-same_length c = c.before.before.before.loop.invariant.down-size
+same_length c = c.before.before.before.loop.invariant.down_size
 
 same-length-2 : tie.Need-same-length-2 invariant-loop decreases-loop
-same-length-2 c = c.before.before.before.loop.invariant.up-size
+same-length-2 c = c.before.before.before.loop.invariant.up_size
 
 returns : tie.Need-returns invariant-loop decreases-loop
 returns c =
     let l = c.before.before.before.loop in
     let a = c.before.before.before.before.before.before.before.before.before.before.before.before.before.before.before.before.before.args in
     let s = c.before.before.before.before.before.before.send.ensures in
-    ap (λ o. outcomeOf o a.before.now a.answer.now l.down l.up) c.done.ensures
-    ∙ under-done (record { noise = a.noise.now; downs = a.downs.now; hosts = a.hosts.now; ups = a.ups.now }) a.message.now a.before.now a.answer.now a.rounds a.down.now a.up.now _ l.p l.down l.up l.row l.invariant (sym c.before.before.goes_on.ensures ∙ c.before.if1.false)
-    ∙ rest-first (record { noise = a.noise.now; downs = a.downs.now; hosts = a.hosts.now; ups = a.ups.now }) a.reader a.card a.message.now a.before.now a.answer.now a.rounds a.down.now a.up.now _ _ c.before.before.before.before.before.before.send.result c.before.before.before.before.begin.result (search rules) c.before.before.before.before.before.before.send.auto.1.1.0 (s.0, s.1.0) c.before.before.before.before.begin.ensures
+    ap (λ o. outcome_of o a.before.now a.answer.now l.down l.up) c.done.ensures
+    ∙ under_done (record { noise = a.noise.now; downs = a.downs.now; hosts = a.hosts.now; ups = a.ups.now }) a.message.now a.before.now a.answer.now a.rounds a.down.now a.up.now _ l.p l.down l.up l.row l.invariant (sym c.before.before.goes_on.ensures ∙ c.before.if1.false)
+    ∙ rest_first (record { noise = a.noise.now; downs = a.downs.now; hosts = a.hosts.now; ups = a.ups.now }) a.reader a.card a.message.now a.before.now a.answer.now a.rounds a.down.now a.up.now _ _ c.before.before.before.before.before.before.send.result c.before.before.before.before.begin.result (search rules) c.before.before.before.before.before.before.send.auto.1.1.0 (s.0, s.1.0) c.before.before.before.before.begin.ensures
 
-pub lossy-spec : {M : Type 1} → statement M
-lossy-spec =
+pub lossy_spec : {M : Type 1} → statement M
+lossy_spec =
     tie.close
     (tie.spec
     invariant-loop

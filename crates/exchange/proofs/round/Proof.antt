@@ -2,8 +2,8 @@
 use mathlib.Core.Path.{sym}
 use native.Mathlib.Omega.{arith}
 use lib.Seq.{length-take-le}
-use Rattle.exchange.specs.Lossy.{roundBy}
-use Rattle.exchange.specs.RunLaws.{host-of, round-made}
+use Rattle.exchange.specs.Lossy.{round_by}
+use Rattle.exchange.specs.RunLaws.{host_of, round_made}
 use borrow.Author.Rules.{rules}
 use Rattle.exchange.proofs.round.Statement.{statement}
 use Rattle.exchange.proofs.round.Tie as tie
@@ -34,12 +34,12 @@ host-turn-requires c κs = search rules
 array-share-prefix-reply : tie.Need-array-share-prefix-reply
 array-share-prefix-reply c =
     let a = c.before.before.before.before.before.before.before.before.before.before.before.before.before.before.before.before.before.before.before.before.before.args in
-    (host-of (roundBy a.noise.now a.x) a.p a.message.now a.before.now a.answer.now a.down.now a.up.now a.row.now _ _ _ _ _ _ _ c.before.before.before.before.before.before.before.before.before.before.heard-as.ensures (search rules) c.before.before.before.before.before.before.before.card-turn.auto.1.1.1.1.1.1.0 c.before.before.before.before.before.before.before.card-turn.ensures c.before.host-turn.ensures).fits
+    (host_of (round_by a.noise.now a.x) a.p a.message.now a.before.now a.answer.now a.down.now a.up.now a.row.now _ _ _ _ _ _ _ c.before.before.before.before.before.before.before.before.before.before.heard_as_law.ensures (search rules) c.before.before.before.before.before.before.before.card-turn.auto.1.1.1.1.1.1.0 c.before.before.before.before.before.before.before.card-turn.ensures c.before.host-turn.ensures).fits
 
 slice-aggregate-heard-as-2 : tie.Need-slice-aggregate-heard-as-2
 slice-aggregate-heard-as-2 c =
     let a = c.before.before.before.before.before.before.before.before.before.before.before.before.before.before.before.before.before.before.before.before.before.before.args in
-    sym (length-take-le _ _ (host-of (roundBy a.noise.now a.x) a.p a.message.now a.before.now a.answer.now a.down.now a.up.now a.row.now _ _ _ _ _ _ _ c.before.before.before.before.before.before.before.before.before.before.before.heard-as.ensures (search rules) c.before.before.before.before.before.before.before.before.card-turn.auto.1.1.1.1.1.1.0 c.before.before.before.before.before.before.before.before.card-turn.ensures c.before.before.host-turn.ensures).fits)
+    sym (length-take-le _ _ (host_of (round_by a.noise.now a.x) a.p a.message.now a.before.now a.answer.now a.down.now a.up.now a.row.now _ _ _ _ _ _ _ c.before.before.before.before.before.before.before.before.before.before.before.heard_as_law.ensures (search rules) c.before.before.before.before.before.before.before.before.card-turn.auto.1.1.1.1.1.1.0 c.before.before.before.before.before.before.before.before.card-turn.ensures c.before.before.host-turn.ensures).fits)
 
 heard-as-requires-2 : tie.Need-heard-as-requires-2
 heard-as-requires-2 c κs = search rules
@@ -63,10 +63,10 @@ returns : tie.Need-returns
 returns c =
     let a = c.before.before.before.before.before.before.before.before.before.before.before.before.before.before.before.before.before.before.before.before.before.before.before.before.before.before.before.before.before.before.before.args in
     let e = c.before.before.before.before.before.hear.ensures in
-    round-made (roundBy a.noise.now a.x) a.p a.message.now a.before.now a.answer.now a.down.now a.up.now a.row.now _ _ _ _ _ _ _ c.before.before.before.before.before.before.before.before.before.before.before.before.before.before.before.before.before.before.before.before.heard-as.ensures (search rules) c.before.before.before.before.before.before.before.before.before.before.before.before.before.before.before.before.before.card-turn.auto.1.1.1.1.1.1.0 c.before.before.before.before.before.before.before.before.before.before.before.before.before.before.before.before.before.card-turn.ensures c.before.before.before.before.before.before.before.before.before.before.before.host-turn.ensures _ _ _ _ c.before.before.before.before.before.before.before.before.heard-as2.ensures c.before.before.before.before.before.before.before.before.before.before.before.before.before.before.before.before.before.card-turn.auto.1.1.1.1.1.0 c.before.before.before.before.before.before.before.before.before.before.before.before.before.before.before.before.before.before.before.before.before.before.before.before.before.before.before.before.before.before.before.requires.2 c.before.before.before.before.before.hear.auto.1.1.1.1.0 (e.0, (e.1.0, e.1.1.0)) c.advance.result c.advance.ensures c.before.before.before.before.before.before.before.before.before.before.before.before.before.before.before.before.before.before.before.before.before.before.before.before.before.before.before.before.before.before.before.requires.0
+    round_made (round_by a.noise.now a.x) a.p a.message.now a.before.now a.answer.now a.down.now a.up.now a.row.now _ _ _ _ _ _ _ c.before.before.before.before.before.before.before.before.before.before.before.before.before.before.before.before.before.before.before.before.heard_as_law.ensures (search rules) c.before.before.before.before.before.before.before.before.before.before.before.before.before.before.before.before.before.card-turn.auto.1.1.1.1.1.1.0 c.before.before.before.before.before.before.before.before.before.before.before.before.before.before.before.before.before.card-turn.ensures c.before.before.before.before.before.before.before.before.before.before.before.host-turn.ensures _ _ _ _ c.before.before.before.before.before.before.before.before.heard-as2.ensures c.before.before.before.before.before.before.before.before.before.before.before.before.before.before.before.before.before.card-turn.auto.1.1.1.1.1.0 c.before.before.before.before.before.before.before.before.before.before.before.before.before.before.before.before.before.before.before.before.before.before.before.before.before.before.before.before.before.before.before.requires.2 c.before.before.before.before.before.hear.auto.1.1.1.1.0 (e.0, (e.1.0, e.1.1.0)) c.advance.result c.advance.ensures c.before.before.before.before.before.before.before.before.before.before.before.before.before.before.before.before.before.before.before.before.before.before.before.before.before.before.before.before.before.before.before.requires.0
 
-pub round-spec : {M : Type 1} → statement M
-round-spec =
+pub round_spec : {M : Type 1} → statement M
+round_spec =
     tie.close
     (tie.spec
     slice-reshare-prefix-heard-as

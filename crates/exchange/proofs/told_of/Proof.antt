@@ -32,8 +32,8 @@ returns-4 c = search rules
 returns-5 : tie.Need-returns-5
 returns-5 c = rw c.before.a.given.1
 
-pub told-of-spec : {M : Type 1} → statement M
-told-of-spec =
+pub told_of_spec : {M : Type 1} → statement M
+told_of_spec =
     tie.close
     (tie.spec
     enum_told

@@ -1,6 +1,6 @@
 -- `frame::air_byte` meets its contract, by those of `bits_of` and `odd_parity`. Assumes nothing.
-use Rattle.parity.specs.Bits.{bitsOf}
-use Rattle.frame.specs.Frame.{airByte}
+use Rattle.parity.specs.Bits.{bits_of}
+use Rattle.frame.specs.Frame.{air_byte}
 use borrow.Author.Rules.{rules}
 use Rattle.frame.proofs.air_byte.Statement.{statement}
 use Rattle.frame.proofs.air_byte.Tie as tie
@@ -36,11 +36,11 @@ array-read-t28 : tie.Need-array-read-t28
 array-read-t28 c = search rules
 
 returns : tie.Need-returns
-unfolding airByte bitsOf
+unfolding air_byte bits_of
 returns c = rw (c.odd-parity.ensures, c.before.bits_of.ensures)
 
-pub air-byte-spec : {M : Type 1} → statement M
-air-byte-spec =
+pub air_byte_spec : {M : Type 1} → statement M
+air_byte_spec =
     tie.close
     (tie.spec
     bits-of-requires

@@ -2,7 +2,7 @@
 use mathlib.Core.Path.{refl, sym}
 use native.Mathlib.Omega.{arith}
 use lib.ListN.{length}
-use Rattle.frame.specs.LoopLaws.{standard-crc}
+use Rattle.frame.specs.LoopLaws.{standard_crc}
 use Rattle.frame.specs.SaysLaws.{no_room, has_room}
 use borrow.Author.Rules.{rules}
 use Rattle.frame.proofs.write_crc.Statement.{statement}
@@ -46,11 +46,11 @@ returns-2 c =
     let a = k.before.before.before.before.args in (
       sym (has_room 2 (length a.out.now) (length a.bytes.now) (omega arith)),
       rw (c.before.before.put-bytes2.ensures, c.before.before.before.before.before.before.before.put-bytes.ensures)
-          (standard-crc a.out.now a.bytes.now _ k.crc-bytes.ensures (omega arith)),
+          (standard_crc a.out.now a.bytes.now _ k.crc-bytes.ensures (omega arith)),
     )
 
-pub write-crc-spec : {M : Type 1} → statement M
-write-crc-spec =
+pub write_crc_spec : {M : Type 1} → statement M
+write_crc_spec =
     tie.close
     (tie.spec
     add-if1

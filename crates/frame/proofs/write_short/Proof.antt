@@ -3,9 +3,9 @@ use mathlib.Core.Path.{refl, sym, ap}
 use native.Mathlib.Omega.{arith}
 use Prim.Native.Nat.{ℕ}
 use lib.ListN.{length, take, length-take}
-use Rattle.parity.specs.Bits.{bitsOf}
+use Rattle.parity.specs.Bits.{bits_of}
 use Rattle.frame.specs.Frame.{short}
-use Rattle.frame.specs.SaysLaws.{short-no-room, short-has-room}
+use Rattle.frame.specs.SaysLaws.{short_no_room, short_has_room}
 use borrow.Author.Rules.{rules}
 use Rattle.frame.proofs.write_short.Statement.{statement}
 use Rattle.frame.proofs.write_short.Tie as tie
@@ -13,7 +13,7 @@ use Rattle.frame.proofs.write_short.Tie as tie
 -- `frame::write_short` meets its contract, by those of `bits_of` and `put`. Assumes nothing.
 
 returns : tie.Need-returns
-returns c = (sym (short-no-room _ c.if1.true), refl)
+returns c = (sym (short_no_room _ c.if1.true), refl)
 
 bits-of-requires : tie.Need-bits-of-requires
 bits-of-requires c κs = search rules
@@ -22,7 +22,7 @@ array-share-prefix-d : tie.Need-array-share-prefix-d
 array-share-prefix-d c = search rules
 
 slice-aggregate-put : tie.Need-slice-aggregate-put
-unfolding bitsOf
+unfolding bits_of
 slice-aggregate-put c = sym (ap (λ (l : List ℕ). length (take 7 l)) c.before.before.bits_of.ensures)
 
 put-requires : tie.Need-put-requires
@@ -32,12 +32,12 @@ same_length : tie.Need-same-length
 same_length c = search rules
 
 returns-2 : tie.Need-returns-2
-unfolding short bitsOf
+unfolding short bits_of
 returns-2 c =
-    (sym (short-has-room _ c.before.before.before.before.before.before.if1.false), rw (c.before.before.put.ensures, c.before.before.before.before.before.bits_of.ensures))
+    (sym (short_has_room _ c.before.before.before.before.before.before.if1.false), rw (c.before.before.put.ensures, c.before.before.before.before.before.bits_of.ensures))
 
-pub write-short-spec : {M : Type 1} → statement M
-write-short-spec =
+pub write_short_spec : {M : Type 1} → statement M
+write_short_spec =
     tie.close
     (tie.spec
     returns

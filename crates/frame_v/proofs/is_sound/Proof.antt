@@ -21,15 +21,15 @@ is-clean-requires c κs = search rules
 
 returns-3 : tie.Need-returns-3
 unfolding sound
-returns-3 c = rw (eq-eqb _ 0 c.before.before.before.if1.false, le-leb 32 _ c.before.before.if2.false, sym c.before.is-clean.ensures ∙ not-true _ c.if3.true)
+returns-3 c = rw (eq-eqb _ 0 c.before.before.before.if1.false, le-leb 32 _ c.before.before.if2.false, sym c.before.is_clean.ensures ∙ not-true _ c.if3.true)
 
 is-good-requires : tie.Need-is-good-requires
-is-good-requires c κs = (c.before.before.before.if1.false, omega arith, sym c.before.is-clean.ensures ∙ not-false _ c.if3.false)
+is-good-requires c κs = (c.before.before.before.if1.false, omega arith, sym c.before.is_clean.ensures ∙ not-false _ c.if3.false)
 
 returns-4 : tie.Need-returns-4
 unfolding sound
-returns-4 c = rw (eq-eqb _ 0 c.before.before.before.before.if1.false, le-leb 32 _ c.before.before.before.if2.false, sym c.before.before.is-clean.ensures ∙ not-false _ c.before.if3.false) c.is-good.ensures
+returns-4 c = rw (eq-eqb _ 0 c.before.before.before.before.if1.false, le-leb 32 _ c.before.before.before.if2.false, sym c.before.before.is_clean.ensures ∙ not-false _ c.before.if3.false) c.is-good.ensures
 
-pub is-sound-spec : {M : Type 1} → statement M
-is-sound-spec =
+pub is_sound_spec : {M : Type 1} → statement M
+is_sound_spec =
     tie.close (tie.spec returns returns-2 is-clean-requires returns-3 is-good-requires returns-4)

@@ -3,8 +3,8 @@ use mathlib.Core.Path.{◌≡◌, refl, sym, ap, ◌∙◌}
 use lib.ListN.{length}
 use borrow.Author.Rules.{rules}
 use borrow.Author.Tests.{not-true, not-false}
-use Rattle.rows.specs.RowLaws.{overlay-nil}
-use Rattle.front.specs.CallLaws.{no_room, not_taken, says_row, taken_at}
+use Rattle.rows.specs.RowLaws.{overlay_nil}
+use Rattle.front.specs.CallLaws.{no_room, not_taken, says_row, taken_at_law}
 use Rattle.front.proofs.receive.Statement.{statement}
 use Rattle.front.proofs.receive.Tie as tie
 
@@ -23,7 +23,7 @@ returns-2 : tie.Need-returns-2
 returns-2 c =
     let m = c.before.before in
     let a = m.before.before.before.before.args in
-    let t = taken_at a.profile a.halves.now m.level-of.ensures c.before.is-taken.ensures (not-true _ c.if2.true) in
+    let t = taken_at_law a.profile a.halves.now m.level-of.ensures c.before.is-taken.ensures (not-true _ c.if2.true) in
     (sym (not_taken (length a.places.now) a.profile a.halves.now m.before.if1.false t), refl)
 
 enum_told : tie.Need-enum-told
@@ -51,7 +51,7 @@ returns-3 c =
     let n = g.before.before in
     let m = n.before.before in
     let a = m.before.before.before.before.args in
-    let t = taken_at a.profile a.halves.now m.level-of.ensures n.before.is-taken.ensures (not-false _ n.if2.false) in (
+    let t = taken_at_law a.profile a.halves.now m.level-of.ensures n.before.is-taken.ensures (not-false _ n.if2.false) in (
       rw (says_row (length a.places.now) a.profile a.halves.now m.before.if1.false t, ← m.level-of.ensures, g.enum_told.given.1, w.write.ensures.0),
       rw (← m.level-of.ensures, g.enum_told.given.1) w.write.ensures.1,
     )
@@ -66,7 +66,7 @@ returns-4 c =
     let n = g.before.before in
     let m = n.before.before in
     let a = m.before.before.before.before.args in
-    let t = taken_at a.profile a.halves.now m.level-of.ensures n.before.is-taken.ensures (not-false _ n.if2.false) in (
+    let t = taken_at_law a.profile a.halves.now m.level-of.ensures n.before.is-taken.ensures (not-false _ n.if2.false) in (
       rw (says_row (length a.places.now) a.profile a.halves.now m.before.if1.false t, ← m.level-of.ensures, g.enum-told2.given.1, w.write2.ensures.0),
       rw (← m.level-of.ensures, g.enum-told2.given.1) w.write2.ensures.1,
     )
@@ -76,13 +76,13 @@ returns-5 c =
     let n = c.before.before in
     let m = n.before.before in
     let a = m.before.before.before.before.args in
-    let t = taken_at a.profile a.halves.now m.level-of.ensures n.before.is-taken.ensures (not-false _ n.if2.false) in (
+    let t = taken_at_law a.profile a.halves.now m.level-of.ensures n.before.is-taken.ensures (not-false _ n.if2.false) in (
       rw (says_row (length a.places.now) a.profile a.halves.now m.before.if1.false t, c.enum-told3.given.1),
-      rw (c.enum-told3.given.1, overlay-nil a.places.now 0),
+      rw (c.enum-told3.given.1, overlay_nil a.places.now 0),
     )
 
-pub receive-spec : {M : Type 1} → statement M
-receive-spec =
+pub receive_spec : {M : Type 1} → statement M
+receive_spec =
     tie.close
     (tie.spec
     returns

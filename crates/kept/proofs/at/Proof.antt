@@ -17,5 +17,5 @@ returns-2 c =
     let a = c.before.args in
     sym (get_or-eq_default a.b.now 0 {n = a.i} (omega arith))
 
-pub at-spec : {M : Type 1} → statement M
-at-spec = tie.close (tie.spec shared-slice-read-result returns returns-2)
+pub at_spec : {M : Type 1} → statement M
+at_spec = tie.close (tie.spec shared-slice-read-result returns returns-2)

@@ -59,8 +59,8 @@ returns : tie.Need-returns
 unfolding number
 returns c = simp (c.before.before.before.before.before.before.before.before.before.wide.ensures, c.before.before.before.before.before.before.before.before.at.ensures, c.before.before.before.before.before.before.before.at2.ensures, c.before.before.before.before.before.before.at3.ensures, c.before.before.before.before.before.at4.ensures, c.before.before.before.before.at5.ensures, c.before.before.before.at6.ensures, c.before.before.at7.ensures, c.before.at8.ensures, c.number.ensures)
 
-pub number-at-spec : {M : Type 1} → statement M
-number-at-spec =
+pub number_at_spec : {M : Type 1} → statement M
+number_at_spec =
     tie.close
     (tie.spec
     wide-requires

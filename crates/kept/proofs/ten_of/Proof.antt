@@ -38,8 +38,8 @@ returns : tie.Need-returns
 unfolding bytes_at
 returns c = simp (c.before.before.before.before.before.before.before.before.before.at.ensures, c.before.before.before.before.before.before.before.before.at2.ensures, c.before.before.before.before.before.before.before.at3.ensures, c.before.before.before.before.before.before.at4.ensures, c.before.before.before.before.before.at5.ensures, c.before.before.before.before.at6.ensures, c.before.before.before.at7.ensures, c.before.before.at8.ensures, c.before.at9.ensures, c.at10.ensures)
 
-pub ten-of-spec : {M : Type 1} → statement M
-ten-of-spec =
+pub ten_of_spec : {M : Type 1} → statement M
+ten_of_spec =
     tie.close
     (tie.spec
     at-requires

@@ -36,8 +36,8 @@ returns-4 c = search rules
 returns-5 : tie.Need-returns-5
 returns-5 c = rw (c.refused.ensures, c.before.before.t.given.1)
 
-pub told-number-spec : {M : Type 1} → statement M
-told-number-spec =
+pub told_number_spec : {M : Type 1} → statement M
+told_number_spec =
     tie.close
     (tie.spec
     enum_told

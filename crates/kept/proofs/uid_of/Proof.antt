@@ -15,5 +15,5 @@ ten-of-requires c κs = search rules
 returns : tie.Need-returns
 returns c = simp (c.before.before.at.ensures, c.before.type_size.ensures, c.ten-of.ensures)
 
-pub uid-of-spec : {M : Type 1} → statement M
-uid-of-spec = tie.close (tie.spec at-requires size-of-requires ten-of-requires returns)
+pub uid_of_spec : {M : Type 1} → statement M
+uid_of_spec = tie.close (tie.spec at-requires size-of-requires ten-of-requires returns)

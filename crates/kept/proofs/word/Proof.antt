@@ -32,8 +32,8 @@ returns : tie.Need-returns
 unfolding word
 returns c = rw (c.before.before.before.before.before.before.before.low.ensures, c.before.before.before.before.before.before.low2.ensures, c.before.before.before.before.before.low3.ensures, c.before.before.before.before.low4.ensures, c.before.before.before.low5.ensures, c.before.before.low6.ensures, c.before.low7.ensures, c.low8.ensures)
 
-pub word-spec : {M : Type 1} → statement M
-word-spec =
+pub word_spec : {M : Type 1} → statement M
+word_spec =
     tie.close
     (tie.spec
     low-requires

@@ -42,8 +42,8 @@ returns-5 c = search rules
 returns-6 : tie.Need-returns-6
 returns-6 c = rw (c.refused.ensures, c.before.before.a2.given.1)
 
-pub answer-number-spec : {M : Type 1} → statement M
-answer-number-spec =
+pub answer_number_spec : {M : Type 1} → statement M
+answer_number_spec =
     tie.close
     (tie.spec
     enum-known-a

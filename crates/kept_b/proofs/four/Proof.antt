@@ -29,5 +29,5 @@ returns : tie.Need-returns
 unfolding bytes_at
 returns c = simp (c.before.before.before.at.ensures, c.before.before.at2.ensures, c.before.at3.ensures, c.at4.ensures)
 
-pub four-spec : {M : Type 1} → statement M
-four-spec = tie.close (tie.spec add-i1 add-i2 add-i3 at-requires at-requires-2 at-requires-3 at-requires-4 returns)
+pub four_spec : {M : Type 1} → statement M
+four_spec = tie.close (tie.spec add-i1 add-i2 add-i3 at-requires at-requires-2 at-requires-3 at-requires-4 returns)

@@ -1,5 +1,5 @@
 -- `kept_b::front_bytes` meets its contract, field by field. Assumes nothing.
-use Rattle.kept_b.specs.KeptReaderB.{readerBytes, slotBytes}
+use Rattle.kept_b.specs.KeptReaderB.{reader_bytes, slot_bytes}
 use Rattle.kept.specs.Kept.{bytes_at}
 use borrow.Author.Rules.{rules}
 use Rattle.kept_b.proofs.front_bytes.Statement.{statement}
@@ -48,11 +48,11 @@ array-read-t43 : tie.Need-array-read-t43
 array-read-t43 c = search rules
 
 returns : tie.Need-returns
-unfolding readerBytes slotBytes bytes_at
+unfolding reader_bytes slot_bytes bytes_at
 returns c = (simp (c.before.phase-tag.ensures, c.answer-held.ensures), search rules)
 
-pub front-bytes-spec : {M : Type 1} → statement M
-front-bytes-spec =
+pub front_bytes_spec : {M : Type 1} → statement M
+front_bytes_spec =
     tie.close
     (tie.spec
     phase-tag-requires

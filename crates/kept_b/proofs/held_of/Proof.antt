@@ -9,5 +9,5 @@ at-requires c κs = search rules
 returns : tie.Need-returns
 returns c = c.at.ensures
 
-pub held-of-spec : {M : Type 1} → statement M
-held-of-spec = tie.close (tie.spec at-requires returns)
+pub held_of_spec : {M : Type 1} → statement M
+held_of_spec = tie.close (tie.spec at-requires returns)

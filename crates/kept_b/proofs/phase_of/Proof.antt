@@ -18,5 +18,5 @@ returns-4 c = simp (ne_eqb _ _ c.before.before.before.if1.false, ne_eqb _ _ c.be
 returns-5 : tie.Need-returns-5
 returns-5 c = simp (ne_eqb _ _ c.before.before.before.if1.false, ne_eqb _ _ c.before.before.if2.false, ne_eqb _ _ c.before.if3.false, ne_eqb _ _ c.if4.false)
 
-pub phase-of-spec : {M : Type 1} → statement M
-phase-of-spec = tie.close (tie.spec returns returns-2 returns-3 returns-4 returns-5)
+pub phase_of_spec : {M : Type 1} → statement M
+phase_of_spec = tie.close (tie.spec returns returns-2 returns-3 returns-4 returns-5)

@@ -1,5 +1,5 @@
 -- `kept_b::reader_bytes` meets its contract, field by field. Assumes nothing.
-use Rattle.kept_b.specs.KeptReaderB.{readerBytes}
+use Rattle.kept_b.specs.KeptReaderB.{reader_bytes}
 use borrow.Author.Rules.{rules}
 use Rattle.kept_b.proofs.reader_bytes.Statement.{statement}
 use Rattle.kept_b.proofs.reader_bytes.Tie as tie
@@ -8,8 +8,8 @@ phase-tag-requires : tie.Need-phase-tag-requires
 phase-tag-requires c κs = search rules
 
 returns : tie.Need-returns
-unfolding readerBytes
+unfolding reader_bytes
 returns c = simp c.phase-tag.ensures
 
-pub reader-bytes-spec : {M : Type 1} → statement M
-reader-bytes-spec = tie.close (tie.spec phase-tag-requires returns)
+pub reader_bytes_spec : {M : Type 1} → statement M
+reader_bytes_spec = tie.close (tie.spec phase-tag-requires returns)

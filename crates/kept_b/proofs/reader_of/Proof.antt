@@ -1,5 +1,5 @@
 -- `kept_b::reader_of` meets its contract, field by field. Assumes nothing.
-use Rattle.kept_b.specs.KeptReaderB.{readerIn}
+use Rattle.kept_b.specs.KeptReaderB.{reader_in}
 use borrow.Author.Rules.{rules}
 use Rattle.kept_b.proofs.reader_of.Statement.{statement}
 use Rattle.kept_b.proofs.reader_of.Tie as tie
@@ -17,8 +17,8 @@ at-requires-3 : tie.Need-at-requires-3
 at-requires-3 c κs = search rules
 
 returns : tie.Need-returns
-unfolding readerIn
+unfolding reader_in
 returns c = simp (c.before.before.before.at.ensures, c.before.before.phase-of.ensures, c.before.at2.ensures, c.at3.ensures)
 
-pub reader-of-spec : {M : Type 1} → statement M
-reader-of-spec = tie.close (tie.spec at-requires phase-of-requires at-requires-2 at-requires-3 returns)
+pub reader_of_spec : {M : Type 1} → statement M
+reader_of_spec = tie.close (tie.spec at-requires phase-of-requires at-requires-2 at-requires-3 returns)

@@ -1,7 +1,7 @@
 -- `kept_b::stays` meets its contract: the answer, and the bytes of the two readers compared. Assumes nothing.
 use mathlib.Core.Path.{sym, ◌∙◌}
 use borrow.Author.Tests.{not-true, not-false}
-use Rattle.kept_b.specs.KeptReaderBLaws.{stays_by, moves-by}
+use Rattle.kept_b.specs.KeptReaderBLaws.{stays_by, moves_by}
 use borrow.Author.Rules.{rules}
 use Rattle.kept_b.proofs.stays.Statement.{statement}
 use Rattle.kept_b.proofs.stays.Tie as tie
@@ -12,7 +12,7 @@ answer-refuses-requires c κs = search rules
 returns : tie.Need-returns
 returns c =
     let a = c.before.before.before.args in
-    moves-by a.x a.t (sym c.before.answer-refuses.ensures ∙ not-true _ c.if1.true)
+    moves_by a.x a.t (sym c.before.answer-refuses.ensures ∙ not-true _ c.if1.true)
 
 reader-bytes-requires : tie.Need-reader-bytes-requires
 reader-bytes-requires c κs = search rules
@@ -34,5 +34,5 @@ returns-2 c =
     let a = c.before.before.before.before.before.before.before.before.args in
     stays_by a.x a.t _ _ _ (sym c.before.before.before.before.before.before.answer-refuses.ensures ∙ not-false _ c.before.before.before.before.before.if1.false) c.is_same.ensures c.before.before.before.before.reader-bytes.ensures c.before.before.before.reader-bytes2.ensures
 
-pub stays-spec : {M : Type 1} → statement M
-stays-spec = tie.close (tie.spec answer-refuses-requires returns reader-bytes-requires reader-bytes-requires-2 slice-aggregate-is-same slice-aggregate-is-same-2 is-same-requires returns-2)
+pub stays_spec : {M : Type 1} → statement M
+stays_spec = tie.close (tie.spec answer-refuses-requires returns reader-bytes-requires reader-bytes-requires-2 slice-aggregate-is-same slice-aggregate-is-same-2 is-same-requires returns-2)

@@ -23,5 +23,5 @@ returns : tie.Need-returns
 unfolding bytes_at
 returns c = simp (c.before.before.at.ensures, c.before.at2.ensures, c.at3.ensures)
 
-pub three-spec : {M : Type 1} → statement M
-three-spec = tie.close (tie.spec add-i1 add-i2 at-requires at-requires-2 at-requires-3 returns)
+pub three_spec : {M : Type 1} → statement M
+three_spec = tie.close (tie.spec add-i1 add-i2 at-requires at-requires-2 at-requires-3 returns)

@@ -77,5 +77,5 @@ returns : tie.Need-returns
 unfolding bytes_at
 returns c = simp (c.before.before.before.before.before.before.before.before.before.before.before.at.ensures, c.before.before.before.before.before.before.before.before.before.before.at2.ensures, c.before.before.before.before.before.before.before.before.before.at3.ensures, c.before.before.before.before.before.before.before.before.at4.ensures, c.before.before.before.before.before.before.before.at5.ensures, c.before.before.before.before.before.before.at6.ensures, c.before.before.before.before.before.at7.ensures, c.before.before.before.before.at8.ensures, c.before.before.before.at9.ensures, c.before.before.at10.ensures, c.before.at11.ensures, c.at12.ensures)
 
-pub twelve-spec : {M : Type 1} → statement M
-twelve-spec = tie.close (tie.spec add-i1 add-i2 add-i3 add-i4 add-i5 add-i6 add-i7 add-i8 add-i9 add-i10 add-i11 at-requires at-requires-2 at-requires-3 at-requires-4 at-requires-5 at-requires-6 at-requires-7 at-requires-8 at-requires-9 at-requires-10 at-requires-11 at-requires-12 returns)
+pub twelve_spec : {M : Type 1} → statement M
+twelve_spec = tie.close (tie.spec add-i1 add-i2 add-i3 add-i4 add-i5 add-i6 add-i7 add-i8 add-i9 add-i10 add-i11 at-requires at-requires-2 at-requires-3 at-requires-4 at-requires-5 at-requires-6 at-requires-7 at-requires-8 at-requires-9 at-requires-10 at-requires-11 at-requires-12 returns)

@@ -1,5 +1,5 @@
 -- `kept_card::card_bytes` meets its contract, field by field. Assumes nothing.
-use Rattle.kept_card.specs.KeptCard.{cardBytes}
+use Rattle.kept_card.specs.KeptCard.{card_bytes}
 use Rattle.kept.specs.Kept.{bytes_at}
 use borrow.Author.Rules.{rules}
 use Rattle.kept_card.proofs.card_bytes.Statement.{statement}
@@ -51,11 +51,11 @@ array-read-t40 : tie.Need-array-read-t40
 array-read-t40 c = search rules
 
 returns : tie.Need-returns
-unfolding cardBytes bytes_at
+unfolding card_bytes bytes_at
 returns c = (simp (c.before.before.before.before.state-tag.ensures, c.before.before.before.state-level.ensures, c.before.before.state-index.ensures, c.before.flag.ensures, c.size-tag.ensures), search rules)
 
-pub card-bytes-spec : {M : Type 1} → statement M
-card-bytes-spec =
+pub card_bytes_spec : {M : Type 1} → statement M
+card_bytes_spec =
     tie.close
     (tie.spec
     state-tag-requires

@@ -1,5 +1,5 @@
 -- `kept_card::card_of` meets its contract, field by field. Assumes nothing.
-use Rattle.kept_card.specs.KeptCard.{cardIn}
+use Rattle.kept_card.specs.KeptCard.{card_in}
 use borrow.Author.Rules.{rules}
 use Rattle.kept_card.proofs.card_of.Statement.{statement}
 use Rattle.kept_card.proofs.card_of.Tie as tie
@@ -26,11 +26,11 @@ state-in-requires : tie.Need-state-in-requires
 state-in-requires c κs = search rules
 
 returns : tie.Need-returns
-unfolding cardIn
+unfolding card_in
 returns c = simp (c.before.before.before.before.before.before.uid-of.ensures, c.before.before.before.before.before.at.ensures, c.before.before.before.before.at2.ensures, c.before.before.before.at3.ensures, c.before.before.at4.ensures, c.before.at5.ensures, c.state-in.ensures)
 
-pub card-of-spec : {M : Type 1} → statement M
-card-of-spec =
+pub card_of_spec : {M : Type 1} → statement M
+card_of_spec =
     tie.close
     (tie.spec
     uid-of-requires

@@ -31,5 +31,5 @@ returns-7 c = simp (ne_eqb _ _ c.before.before.before.before.before.before.if1.f
 returns-8 : tie.Need-returns-8
 returns-8 c = simp (ne_eqb _ _ c.before.before.before.before.before.before.if1.false, ne_eqb _ _ c.before.before.before.before.before.if2.false, ne_eqb _ _ c.before.before.before.before.if3.false, ne_eqb _ _ c.before.before.before.if4.false, ne_eqb _ _ c.before.before.if5.false, ne_eqb _ _ c.before.if6.false, ne_eqb _ _ c.if7.false)
 
-pub state-in-spec : {M : Type 1} → statement M
-state-in-spec = tie.close (tie.spec level-of-requires returns returns-2 returns-3 returns-4 returns-5 returns-6 returns-7 returns-8)
+pub state_in_spec : {M : Type 1} → statement M
+state_in_spec = tie.close (tie.spec level-of-requires returns returns-2 returns-3 returns-4 returns-5 returns-6 returns-7 returns-8)

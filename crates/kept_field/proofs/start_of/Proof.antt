@@ -9,5 +9,5 @@ selection-of-requires c κs = search rules
 returns : tie.Need-returns
 returns c = rw c.selection-of.ensures
 
-pub start-of-spec : {M : Type 1} → statement M
-start-of-spec = tie.close (tie.spec selection-of-requires returns)
+pub start_of_spec : {M : Type 1} → statement M
+start_of_spec = tie.close (tie.spec selection-of-requires returns)

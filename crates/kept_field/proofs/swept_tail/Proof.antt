@@ -1,6 +1,6 @@
 -- `kept_field::swept_tail` meets its contract, byte by byte. Assumes nothing.
 use Rattle.kept.specs.Kept.{word}
-use Rattle.kept_field.specs.KeptField.{sweptTail}
+use Rattle.kept_field.specs.KeptField.{swept_tail}
 use borrow.Author.Rules.{rules}
 use Rattle.kept_field.proofs.swept_tail.Statement.{statement}
 use Rattle.kept_field.proofs.swept_tail.Tie as tie
@@ -60,11 +60,11 @@ array-read-t53 : tie.Need-array-read-t53
 array-read-t53 c = search rules
 
 returns : tie.Need-returns
-unfolding word sweptTail
+unfolding word swept_tail
 returns c = (simp (c.before.word.ensures, c.word2.ensures), (search rules, search rules))
 
-pub swept-tail-spec : {M : Type 1} → statement M
-swept-tail-spec =
+pub swept_tail_spec : {M : Type 1} → statement M
+swept_tail_spec =
     tie.close
     (tie.spec
     word-requires

@@ -2,7 +2,7 @@
 use mathlib.Core.Path.{◌≡◌}
 use lib.ListN.{length}
 use native.Mathlib.Omega.{arith}
-use Rattle.kept_memory.specs.KeptMemoryLaws.{path_room, path-put}
+use Rattle.kept_memory.specs.KeptMemoryLaws.{path_room, path_put}
 use borrow.Author.Rules.{rules}
 use Rattle.kept_memory.proofs.path_bytes.Statement.{statement}
 use Rattle.kept_memory.proofs.path_bytes.Tie as tie
@@ -29,10 +29,10 @@ put-requires-2 : tie.Need-put-requires-2
 put-requires-2 c κs = let n : length c.before.before.before.before.before.before.before.before.args.p.row ≡ 120 = search rules in omega (arith, path_room _ _ _ c.before.before.before.before.before.before.before.word.ensures c.before.before.before.put.ensures)
 
 returns : tie.Need-returns
-returns c = let a = c.before.before.before.before.before.before.before.before.before.before.args in let n : length a.p.row ≡ 120 = search rules in (path-put a.p _ _ _ c.before.before.before.before.before.before.before.before.before.word.ensures n c.before.before.before.before.before.put.ensures c.before.put2.ensures, (search rules, n))
+returns c = let a = c.before.before.before.before.before.before.before.before.before.before.args in let n : length a.p.row ≡ 120 = search rules in (path_put a.p _ _ _ c.before.before.before.before.before.before.before.before.before.word.ensures n c.before.before.before.before.before.put.ensures c.before.put2.ensures, (search rules, n))
 
-pub path-bytes-spec : {M : Type 1} → statement M
-path-bytes-spec =
+pub path_bytes_spec : {M : Type 1} → statement M
+path_bytes_spec =
     tie.close
     (tie.spec
     word-requires

@@ -43,8 +43,8 @@ all-three-requires c κs = search rules
 returns : tie.Need-returns
 returns c = let a = c.before.before.before.before.before.before.before.before.before.before.before.before.before.before.before.args in let w = c.before.before.before.before.before.before.before.before.before.before.selection-bytes.ensures in let i = c.before.before.before.before.before.before.before.before.before.selection-bytes2.ensures in let k = c.before.before.before.before.before.before.before.before.path_bytes.ensures in let l = c.before.before.before.before.before.before.before.path-bytes2.ensures in (stays_by a.r a.p a.m _ _ _ _ _ _ _ _ c.All-three.ensures c.before.before.before.before.before.before.before.before.before.before.before.selection-refuses.ensures c.before.before.before.before.is_same.ensures w.0 i.0 c.before.is-same2.ensures k.0 l.0, (w.1.0, w.1.1, i.1.0, i.1.1, k.1, l.1))
 
-pub stays-spec : {M : Type 1} → statement M
-stays-spec =
+pub stays_spec : {M : Type 1} → statement M
+stays_spec =
     tie.close
     (tie.spec
     selection-refuses-requires

@@ -1,5 +1,5 @@
 -- `kept_memory::told_bytes` meets its contract, by the law `told-put`. Assumes nothing.
-use Rattle.kept_memory.specs.KeptMemoryLaws.{told-put}
+use Rattle.kept_memory.specs.KeptMemoryLaws.{told_put}
 use borrow.Author.Rules.{rules}
 use Rattle.kept_memory.proofs.told_bytes.Statement.{statement}
 use Rattle.kept_memory.proofs.told_bytes.Tie as tie
@@ -26,10 +26,10 @@ put-requires : tie.Need-put-requires
 put-requires c κs = search rules
 
 returns : tie.Need-returns
-returns c = (told-put c.before.before.before.before.before.before.before.args.a _ _ _ _ c.before.before.before.before.before.before.event.ensures c.before.before.before.before.before.place.ensures c.before.before.before.before.word.ensures c.before.put.ensures, rw (← c.before.before.before.before.before.place.ensures) (search rules))
+returns c = (told_put c.before.before.before.before.before.before.before.args.a _ _ _ _ c.before.before.before.before.before.before.event.ensures c.before.before.before.before.before.place.ensures c.before.before.before.before.word.ensures c.before.put.ensures, rw (← c.before.before.before.before.before.place.ensures) (search rules))
 
-pub told-bytes-spec : {M : Type 1} → statement M
-told-bytes-spec =
+pub told_bytes_spec : {M : Type 1} → statement M
+told_bytes_spec =
     tie.close
     (tie.spec
     event-requires

@@ -39,10 +39,10 @@ array-read-t29 c = search rules
 
 returns : tie.Need-returns
 unfolding word
-returns c = (simp (c.before.before.answer-event.ensures, c.before.answer-length.ensures, c.word.ensures), rw (← c.before.answer-length.ensures) (search rules))
+returns c = (simp (c.before.before.answer-event.ensures, c.before.answer_length_law.ensures, c.word.ensures), rw (← c.before.answer_length_law.ensures) (search rules))
 
-pub answer-bytes-spec : {M : Type 1} → statement M
-answer-bytes-spec =
+pub answer_bytes_spec : {M : Type 1} → statement M
+answer_bytes_spec =
     tie.close
     (tie.spec
     answer-event-requires

@@ -27,8 +27,8 @@ returns-2 c = search rules
 returns-3 : tie.Need-returns-3
 returns-3 c = rw (c.told-number.ensures, c.before.before.a2.given.1)
 
-pub answer-number-spec : {M : Type 1} → statement M
-answer-number-spec =
+pub answer_number_spec : {M : Type 1} → statement M
+answer_number_spec =
     tie.close
     (tie.spec
     enum-known-a

@@ -12,5 +12,5 @@ link-of-requires c κs = search rules
 returns : tie.Need-returns
 returns c = simp (c.before.selection-of.ensures, c.link-of.ensures)
 
-pub reader-of-spec : {M : Type 1} → statement M
-reader-of-spec = tie.close (tie.spec selection-of-requires link-of-requires returns)
+pub reader_of_spec : {M : Type 1} → statement M
+reader_of_spec = tie.close (tie.spec selection-of-requires link-of-requires returns)

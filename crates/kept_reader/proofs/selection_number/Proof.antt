@@ -36,8 +36,8 @@ returns-4 c = search rules
 returns-5 : tie.Need-returns-5
 returns-5 c = rw (c.refused.ensures, c.before.before.a3.given.1)
 
-pub selection-number-spec : {M : Type 1} → statement M
-selection-number-spec =
+pub selection_number_spec : {M : Type 1} → statement M
+selection_number_spec =
     tie.close
     (tie.spec
     enum-known-a

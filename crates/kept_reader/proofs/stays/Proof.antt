@@ -51,8 +51,8 @@ returns c =
       ((w.1.0, (w.1.1, k.1)), (i.1.0, (i.1.1, l.1))),
     )
 
-pub stays-spec : {M : Type 1} → statement M
-stays-spec =
+pub stays_spec : {M : Type 1} → statement M
+stays_spec =
     tie.close
     (tie.spec
     answer-refuses-requires

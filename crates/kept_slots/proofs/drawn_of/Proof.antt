@@ -9,5 +9,5 @@ card-of-requires c κs = search rules
 returns : tie.Need-returns
 returns c = rw c.card-of.ensures
 
-pub drawn-of-spec : {M : Type 1} → statement M
-drawn-of-spec = tie.close (tie.spec card-of-requires returns)
+pub drawn_of_spec : {M : Type 1} → statement M
+drawn_of_spec = tie.close (tie.spec card-of-requires returns)

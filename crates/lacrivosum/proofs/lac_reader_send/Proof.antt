@@ -2,8 +2,8 @@
 use lib.ListN.{length}
 use native.Mathlib.Omega.{arith}
 use Rattle.reader_link.specs.declared.LinkReader.{LinkReader}
-use Rattle.reader_link.specs.ReaderCalls.{Called, sendCall}
-use Rattle.lacrivosum.specs.LibraryLaws.{reader-short, reader-called, reader-says}
+use Rattle.reader_link.specs.ReaderCalls.{Called, send_call}
+use Rattle.lacrivosum.specs.LibraryLaws.{reader_short, reader_called, reader_says}
 use borrow.Author.Rules.{rules}
 use Rattle.lacrivosum.proofs.lac_reader_send.Statement.{statement}
 use Rattle.lacrivosum.proofs.lac_reader_send.Tie as tie
@@ -14,7 +14,7 @@ refused-requires c κs = search rules
 returns : tie.Need-returns
 returns c =
     let a = c.before.before.before.before.before.args in
-    (reader-short a.state.now a.out.now _ _ c.before.if1.true c.refused.ensures, λ h. absurd (omega arith))
+    (reader_short a.state.now a.out.now _ _ c.before.if1.true c.refused.ensures, λ h. absurd (omega arith))
 
 reader-of-requires : tie.Need-reader-of-requires
 reader-of-requires c κs = search rules
@@ -35,16 +35,16 @@ returns-2 : tie.Need-returns-2
 returns-2 c =
     let a = c.before.before.before.before.before.before.before.before.before.before.before.before.before.before.args in
     let long = c.before.before.before.before.before.before.before.before.before.before.if1.false in
-    let f : LinkReader → Called = λ x. sendCall x a.message.now (length a.out.now) in
+    let f : LinkReader → Called = λ x. send_call x a.message.now (length a.out.now) in
     let e = c.before.before.before.before.before.before.before.before.reader-of.ensures in
     let turn = c.before.before.before.before.before.before.send.ensures.0 in
     let kept = c.before.before.settle.ensures in (
-      reader-called a.state.now a.out.now _ _ f _ _ _ long e turn c.before.before.before.before.before.before.send.ensures.1.0 kept.0 kept.1.0,
-      λ h. reader-says a.state.now _ f _ _ e turn kept.1.1,
+      reader_called a.state.now a.out.now _ _ f _ _ _ long e turn c.before.before.before.before.before.before.send.ensures.1.0 kept.0 kept.1.0,
+      λ h. reader_says a.state.now _ f _ _ e turn kept.1.1,
     )
 
-pub lac-reader-send-spec : {M : Type 1} → statement M
-lac-reader-send-spec =
+pub lac_reader_send_spec : {M : Type 1} → statement M
+lac_reader_send_spec =
     tie.close
     (tie.spec
     refused-requires

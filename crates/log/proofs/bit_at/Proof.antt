@@ -2,7 +2,7 @@
 use borrow.Author.Rules.{rules}
 use mathlib.Core.Path.{sym}
 use native.Mathlib.Omega.{arith}
-use Rattle.log.specs.UnpackLaws.{bit-here, bit_past}
+use Rattle.log.specs.UnpackLaws.{bit_here, bit_past}
 use Rattle.log.proofs.bit_at.Statement.{statement}
 use Rattle.log.proofs.bit_at.Tie as tie
 
@@ -34,10 +34,10 @@ array-read-result c = search rules
 returns-3 : tie.Need-returns-3
 returns-3 c =
     let a = c.before.before.before.before.before.args in
-    rw c.top-bits.ensures (bit-here a.log.now a.start a.i (omega arith))
+    rw c.top_bits_law.ensures (bit_here a.log.now a.start a.i (omega arith))
 
-pub bit-at-spec : {M : Type 1} → statement M
-bit-at-spec =
+pub bit_at_spec : {M : Type 1} → statement M
+bit_at_spec =
     tie.close
     (tie.spec
     returns

@@ -5,7 +5,7 @@ use native.Mathlib.Omega.{arith}
 use lib.ListN.{length}
 use lib.Seq.{length-take-le}
 use Rattle.uid.specs.BytesAtLaws.{bytes_most}
-use Rattle.log.specs.EntryLaws.{entry-made}
+use Rattle.log.specs.EntryLaws.{entry_made}
 use Rattle.log.proofs.entry.Statement.{statement}
 use Rattle.log.proofs.entry.Tie as tie
 
@@ -44,7 +44,7 @@ returns : tie.Need-returns
 returns c =
     let u = c.before.before.before.before.before.before.args.u in
     let n = c.before.before.before.before.byte-count in
-    entry-made u n.result _ (search rules) (omega (arith, bytes_most u.size, n.ensures)) n.ensures c.before.put.ensures
+    entry_made u n.result _ (search rules) (omega (arith, bytes_most u.size, n.ensures)) n.ensures c.before.put.ensures
 
 pub entry_spec : {M : Type 1} → statement M
 entry_spec =

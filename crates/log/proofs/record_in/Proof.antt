@@ -3,26 +3,26 @@ use Prim.Native.Nat.{◌+◌}
 use native.Mathlib.Omega.{arith}
 use lib.ListN.{length}
 use borrow.Author.Tests.{lt-ltb, le-ltb, le-leb, lt-leb}
-use Rattle.log.specs.Reading.{recordAt}
+use Rattle.log.specs.Reading.{record_at}
 use borrow.Author.Rules.{rules}
 use Rattle.log.proofs.record_in.Statement.{statement}
 use Rattle.log.proofs.record_in.Tie as tie
 
 returns : tie.Need-returns
-unfolding recordAt
+unfolding record_at
 returns c = simp (le-leb _ _ c.if1.true)
 
 sub-left : tie.Need-overflow-sub-left
 sub-left c = search rules
 
 returns-2 : tie.Need-returns-2
-unfolding recordAt
+unfolding record_at
 returns-2 c =
     let a = c.before.before.before.args in
     rw (lt-leb _ _ c.before.if1.false, lt-ltb (length a.log.now) (a.at + 2 + a.stamp) (omega arith))
 
 returns-3 : tie.Need-returns-3
-unfolding recordAt
+unfolding record_at
 returns-3 c =
     let a = c.before.before.before.before.args in
     rw (lt-leb _ _ c.before.before.if1.false, lt-ltb (length a.log.now) (a.at + 2 + a.stamp) (omega arith))
@@ -46,13 +46,13 @@ after-header-requires : tie.Need-after-header-requires
 after-header-requires c κs = search rules
 
 returns-4 : tie.Need-returns-4
-unfolding recordAt
+unfolding record_at
 returns-4 c =
     let a = c.before.before.before.before.before.before.before.args in
     rw (lt-leb _ _ c.before.before.before.before.before.if1.false, le-ltb (length a.log.now) (a.at + 2 + a.stamp) (omega arith), c.after-header.ensures)
 
-pub record-in-spec : {M : Type 1} → statement M
-record-in-spec =
+pub record_in_spec : {M : Type 1} → statement M
+record_in_spec =
     tie.close
     (tie.spec
     returns

@@ -4,12 +4,12 @@ use mathlib.Core.Path.{sym}
 use Prim.Native.Nat.{◌+◌}
 use native.Mathlib.Omega.{arith}
 use lib.ListN.{get_or-eq_default}
-use Rattle.log.specs.Reading.{tickAt}
+use Rattle.log.specs.Reading.{tick_at}
 use Rattle.log.proofs.tick_at.Statement.{statement}
 use Rattle.log.proofs.tick_at.Tie as tie
 
 returns : tie.Need-returns
-unfolding tickAt
+unfolding tick_at
 returns c =
     let a = c.before.before.args in
     let l = a.log.now in
@@ -75,11 +75,11 @@ add-result-3 : tie.Need-overflow-add-result-3
 add-result-3 c = search rules
 
 returns-2 : tie.Need-returns-2
-unfolding tickAt
+unfolding tick_at
 returns-2 c = rw (c.before.before.before.byte_at.ensures, c.before.before.byte-at2.ensures, c.before.byte-at3.ensures, c.byte-at4.ensures)
 
-pub tick-at-spec : {M : Type 1} → statement M
-tick-at-spec =
+pub tick_at_spec : {M : Type 1} → statement M
+tick_at_spec =
     tie.close
     (tie.spec
     returns

@@ -1,6 +1,6 @@
 -- `lost_blocks::exchange` meets its contract, by that of `exchange::lossy`. Assumes nothing.
 use borrow.Author.Rules.{rules}
-use Rattle.rows.specs.ListLaws.{bytes-at}
+use Rattle.rows.specs.ListLaws.{bytes_at_law}
 use Rattle.lost_blocks.specs.PromiseLaws.{survives}
 use Rattle.lost_blocks.proofs.exchange.Statement.{statement}
 use Rattle.lost_blocks.proofs.exchange.Tie as tie
@@ -18,7 +18,7 @@ returns : tie.Need-returns
 returns c =
     let a = c.before.before.before.before.before.before.before.before.before.before.before.before.before.before.before.before.args in
     let e = c.before.before.before.before.lossy.ensures in
-    (e, survives a.reader a.card a.message.now a.before.now a.answer.now _ a.down.now a.up.now _ _ c.before.before.before.before.lossy.result e (bytes-at a.message.now c.before.before.before.before.before.before.before.before.before.before.before.before.before.before.before.shared-slice-known.given) (bytes-at a.before.now c.before.before.before.before.before.before.before.before.before.before.before.before.before.before.shared-slice-known2.given) (bytes-at a.answer.now c.before.before.before.before.before.before.before.before.before.before.before.before.before.shared-slice-known3.given))
+    (e, survives a.reader a.card a.message.now a.before.now a.answer.now _ a.down.now a.up.now _ _ c.before.before.before.before.lossy.result e (bytes_at_law a.message.now c.before.before.before.before.before.before.before.before.before.before.before.before.before.before.before.shared-slice-known.given) (bytes_at_law a.before.now c.before.before.before.before.before.before.before.before.before.before.before.before.before.before.shared-slice-known2.given) (bytes_at_law a.answer.now c.before.before.before.before.before.before.before.before.before.before.before.before.before.shared-slice-known3.given))
 
-pub exchange-spec : {M : Type 1} → statement M
-exchange-spec = tie.close (tie.spec lossy-requires same_length same-length-2 returns)
+pub exchange_spec : {M : Type 1} → statement M
+exchange_spec = tie.close (tie.spec lossy-requires same_length same-length-2 returns)

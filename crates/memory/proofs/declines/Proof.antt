@@ -8,5 +8,5 @@ returns : tie.Need-returns
 unfolding refused
 returns c = refl
 
-pub declines-spec : {M : Type 1} → statement M
-declines-spec = tie.close (tie.spec returns)
+pub declines_spec : {M : Type 1} → statement M
+declines_spec = tie.close (tie.spec returns)

@@ -1,9 +1,9 @@
 -- `memory::hear` meets its contract. Assumes nothing.
 use mathlib.Core.Path.{sym, ◌∙◌}
 use borrow.Author.Tests.{not-true, not-false}
-use Rattle.reader.specs.Calls.{rowAfter}
-use Rattle.reader.specs.SakLevelLaws.{completed-valid}
-use Rattle.memory.specs.CallLaws.{hear-not-due, hear-room, hear-due, hear-says, heard-valid, refused-row, refused-valid}
+use Rattle.reader.specs.Calls.{row_after}
+use Rattle.reader.specs.SakLevelLaws.{completed_valid}
+use Rattle.memory.specs.CallLaws.{hear_not_due, hear_room, hear_due, hear_says_law, heard_valid, refused_row_law, refused_valid}
 use borrow.Author.Rules.{rules}
 use Rattle.memory.proofs.hear.Statement.{statement}
 use Rattle.memory.proofs.hear.Tie as tie
@@ -17,8 +17,8 @@ declines-requires c κs = search rules
 returns : tie.Need-returns
 returns c =
     let a = c.before.before.before.before.before.args in
-    let e = c.declines.ensures ∙ sym (hear-not-due a.r a.p a.row.now _ (sym c.before.before.is-awaiting.ensures ∙ not-true _ c.before.if1.true)) in
-    (e, (refused-row a.r a.p _ _ a.out.now c.declines.ensures, (hear-says a.r a.p a.row.now _ _ e, refused-valid a.r a.p _ _ c.declines.ensures)))
+    let e = c.declines.ensures ∙ sym (hear_not_due a.r a.p a.row.now _ (sym c.before.before.is-awaiting.ensures ∙ not-true _ c.before.if1.true)) in
+    (e, (refused_row_law a.r a.p _ _ a.out.now c.declines.ensures, (hear_says_law a.r a.p a.row.now _ _ e, refused_valid a.r a.p _ _ c.declines.ensures)))
 
 declines-requires-2 : tie.Need-declines-requires-2
 declines-requires-2 c κs = search rules
@@ -26,8 +26,8 @@ declines-requires-2 c κs = search rules
 returns-2 : tie.Need-returns-2
 returns-2 c =
     let a = c.before.before.before.before.before.before.args in
-    let e = c.declines2.ensures ∙ sym (hear-room a.r a.p a.row.now _ (sym c.before.before.before.is-awaiting.ensures ∙ not-false _ c.before.before.if1.false) c.before.if2.true) in
-    (e, (refused-row a.r a.p _ _ a.out.now c.declines2.ensures, (hear-says a.r a.p a.row.now _ _ e, refused-valid a.r a.p _ _ c.declines2.ensures)))
+    let e = c.declines2.ensures ∙ sym (hear_room a.r a.p a.row.now _ (sym c.before.before.before.is-awaiting.ensures ∙ not-false _ c.before.before.if1.false) c.before.if2.true) in
+    (e, (refused_row_law a.r a.p _ _ a.out.now c.declines2.ensures, (hear_says_law a.r a.p a.row.now _ _ e, refused_valid a.r a.p _ _ c.declines2.ensures)))
 
 hear-rules-requires : tie.Need-hear-rules-requires
 hear-rules-requires c κs = search rules
@@ -39,24 +39,24 @@ same_length : tie.Need-same-length
 same_length c = search rules
 
 returns-3 : tie.Need-returns-3
-unfolding rowAfter
+unfolding row_after
 returns-3 c =
     let z = c.before.before.before.before.before.before.before.before.before.before.before in
     let a = z.args in
     let m = c.before.before.before.before.before in
-    let e = m.hear-rules.ensures ∙ sym (hear-due a.r a.p a.row.now _ (sym m.before.before.before.is-awaiting.ensures ∙ not-false _ m.before.before.if1.false) m.before.if2.false) in (
+    let e = m.hear-rules.ensures ∙ sym (hear_due a.r a.p a.row.now _ (sym m.before.before.before.is-awaiting.ensures ∙ not-false _ m.before.before.if1.false) m.before.if2.false) in (
       e,
       (
         c.before.before.put-sent.ensures,
         (
-          hear-says a.r a.p a.row.now _ _ e,
-          heard-valid a.r _ a.row.now _ m.hear-rules.ensures (completed-valid a.r (search (rules, z.well-formed.0.1.1)) (search (rules, z.well-formed.0.1.1.1.1.1.1.0)) a.row.now),
+          hear_says_law a.r a.p a.row.now _ _ e,
+          heard_valid a.r _ a.row.now _ m.hear-rules.ensures (completed_valid a.r (search (rules, z.well-formed.0.1.1)) (search (rules, z.well-formed.0.1.1.1.1.1.1.0)) a.row.now),
         ),
       ),
     )
 
-pub hear-spec : {M : Type 1} → statement M
-hear-spec =
+pub hear_spec : {M : Type 1} → statement M
+hear_spec =
     tie.close
     (tie.spec
     is-awaiting-requires

@@ -1,10 +1,10 @@
 -- `memory::start_sweep` meets its contract. Assumes nothing.
 use mathlib.Core.Path.{ap, ◌∙◌}
 use mathlib.Core.List.{[]}
-use Rattle.memory.specs.Calls.{startCall}
+use Rattle.memory.specs.Calls.{start_call}
 use Rattle.memory.specs.Memory.{recall}
-use Rattle.memory.specs.Stored.{memoryOf}
-use Rattle.memory.specs.StoredLaws.{made-memory}
+use Rattle.memory.specs.Stored.{memory_of}
+use Rattle.memory.specs.StoredLaws.{made_memory}
 use borrow.Author.Rules.{rules}
 use Rattle.memory.proofs.start_sweep.Statement.{statement}
 use Rattle.memory.proofs.start_sweep.Tie as tie
@@ -19,11 +19,11 @@ same_length : tie.Need-same-length
 same_length c = search rules
 
 returns : tie.Need-returns
-unfolding startCall
+unfolding start_call
 returns c =
     let e = c.empty in
     let t = c.before.before.before.start-sweep in
-    (made-memory t.result e.result [] e.ensures ∙ ap (λ u. memoryOf (recall u [])) t.ensures.0, (t.ensures.1.0, t.ensures.1.1))
+    (made_memory t.result e.result [] e.ensures ∙ ap (λ u. memory_of (recall u [])) t.ensures.0, (t.ensures.1.0, t.ensures.1.1))
 
-pub start-sweep-spec : {M : Type 1} → statement M
-start-sweep-spec = tie.close (tie.spec start-sweep-requires empty-requires same_length returns)
+pub start_sweep_spec : {M : Type 1} → statement M
+start_sweep_spec = tie.close (tie.spec start-sweep-requires empty-requires same_length returns)

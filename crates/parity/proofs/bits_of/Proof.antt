@@ -3,8 +3,8 @@ use mathlib.Core.Path.{◌≡◌, refl, sym, ◌∙◌}
 use mathlib.Core.List.{◌++◌}
 use native.Mathlib.Omega.{arith}
 use lib.ListN.{length, take, length-set}
-use Rattle.parity.specs.Bits.{bitsOf}
-use Rattle.parity.specs.LoopLaws.{bits-next, bits-done}
+use Rattle.parity.specs.Bits.{bits_of}
+use Rattle.parity.specs.LoopLaws.{bits_next, bits_done}
 use Rattle.parity.proofs.bits_of.Statement.{statement}
 use Rattle.parity.proofs.bits_of.Tie as tie
 
@@ -12,7 +12,7 @@ use Rattle.parity.proofs.bits_of.Tie as tie
 -- Assumes nothing.
 
 abbrev invariant-loop : tie.invariant-loop
-invariant-loop b bits₀ x₀ i₀ bits x i = (i ≤ 8) × (length bits ≡ 8) × (take i bits ++ bitsOf (8 - i) x ≡ bitsOf 8 b)
+invariant-loop b bits₀ x₀ i₀ bits x i = (i ≤ 8) × (length bits ≡ 8) × (take i bits ++ bits_of (8 - i) x ≡ bits_of 8 b)
 
 abbrev decreases-loop : tie.decreases-loop
 decreases-loop b bits₀ x₀ i₀ bits x i = 8 - i
@@ -32,14 +32,14 @@ loop-less c = omega arith
 loop-again : tie.Need-loop-preserved invariant-loop decreases-loop
 loop-again c =
     let l = c.before.loop in
-    (omega arith, simp length-set (omega arith), bits-next 8 l.i l.x l.bits (omega arith) (omega arith) ∙ l.invariant.2)
+    (omega arith, simp length-set (omega arith), bits_next 8 l.i l.x l.bits (omega arith) (omega arith) ∙ l.invariant.2)
 
 returns : tie.Need-returns invariant-loop decreases-loop
 returns c =
     let l = c.before.loop in
-    sym (bits-done 8 l.i l.x l.bits (omega arith) (omega arith)) ∙ l.invariant.2
+    sym (bits_done 8 l.i l.x l.bits (omega arith) (omega arith)) ∙ l.invariant.2
 
-pub bits-of-spec : {M : Type 1} → statement M
-bits-of-spec =
+pub bits_of_spec : {M : Type 1} → statement M
+bits_of_spec =
     tie.close
     (tie.spec invariant-loop decreases-loop loop-holds array-write-bits add-i loop-less loop-again returns)

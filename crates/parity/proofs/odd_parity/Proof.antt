@@ -4,7 +4,7 @@ use native.Mathlib.Omega.{arith}
 use lib.Bits.{bit_xor}
 use Prim.Native.Nat.{ℕ, ◌/◌, ◌%◌}
 use borrow.Author.Rules.{rules}
-use Rattle.parity.specs.Bits.{bitsOf, ones, odd}
+use Rattle.parity.specs.Bits.{bits_of, ones, odd}
 use Rattle.parity.specs.FoldLaws.{halved, one_left}
 use Rattle.parity.proofs.odd_parity.Statement.{statement}
 use Rattle.parity.proofs.odd_parity.Tie as tie
@@ -18,8 +18,8 @@ returns c =
     let b : ℕ = c.args.b in
     let x : ℕ = bit_xor b (b / 16) in
     let y : ℕ = bit_xor x (x / 4) in
-    let e : ones (bitsOf 8 b) % 2 ≡ ones (bitsOf 1 (bit_xor y (y / 2))) % 2 = halved 4 b ∙ halved 2 x ∙ halved 1 y in
+    let e : ones (bits_of 8 b) % 2 ≡ ones (bits_of 1 (bit_xor y (y / 2))) % 2 = halved 4 b ∙ halved 2 x ∙ halved 1 y in
     omega (arith, e, one_left (bit_xor y (y / 2)))
 
-pub odd-parity-spec : {M : Type 1} → statement M
-odd-parity-spec = tie.close (tie.spec add-result returns)
+pub odd_parity_spec : {M : Type 1} → statement M
+odd_parity_spec = tie.close (tie.spec add-result returns)

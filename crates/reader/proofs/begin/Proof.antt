@@ -1,6 +1,6 @@
 use Rattle.reader.specs.Reader.{sends}
-use Rattle.reader.specs.Calls.{beginCall, rowAfter}
-use Rattle.reader.specs.StepLaws.{call-not-due, call-room, call-due, call-says, row-declined}
+use Rattle.reader.specs.Calls.{begin_call, row_after}
+use Rattle.reader.specs.StepLaws.{call_not_due, call_room, call_due, call_says_law, row_declined}
 use mathlib.Core.Path.{◌≡◌, sym, ap, ◌∙◌}
 use borrow.Author.Tests.{not-true, not-false}
 use native.Mathlib.Omega.{arith}
@@ -15,21 +15,21 @@ declines-requires : tie.Need-declines-requires
 declines-requires c κs = search rules
 
 returns : tie.Need-returns
-unfolding beginCall
+unfolding begin_call
 returns c =
     let a = c.before.before.before.before.args in
-    let e = c.declines.ensures ∙ sym (call-not-due _ a.r _ _ (sym c.before.before.is-new.ensures ∙ not-true _ c.before.if1.true)) in
-    (e, (row-declined _ a.r _ a.out.now c.declines.ensures, call-says _ a.r _ _ _ e))
+    let e = c.declines.ensures ∙ sym (call_not_due _ a.r _ _ (sym c.before.before.is-new.ensures ∙ not-true _ c.before.if1.true)) in
+    (e, (row_declined _ a.r _ a.out.now c.declines.ensures, call_says_law _ a.r _ _ _ e))
 
 declines-requires-2 : tie.Need-declines-requires-2
 declines-requires-2 c κs = search rules
 
 returns-2 : tie.Need-returns-2
-unfolding beginCall
+unfolding begin_call
 returns-2 c =
     let a = c.before.before.before.before.before.args in
-    let e = c.declines2.ensures ∙ sym (call-room _ a.r _ _ (sym c.before.before.before.is-new.ensures ∙ not-false _ c.before.before.if1.false) c.before.if2.true) in
-    (e, (row-declined _ a.r _ a.out.now c.declines2.ensures, call-says _ a.r _ _ _ e))
+    let e = c.declines2.ensures ∙ sym (call_room _ a.r _ _ (sym c.before.before.before.is-new.ensures ∙ not-false _ c.before.before.if1.false) c.before.if2.true) in
+    (e, (row_declined _ a.r _ a.out.now c.declines2.ensures, call_says_law _ a.r _ _ _ e))
 
 blank-requires : tie.Need-blank-requires
 blank-requires c κs = search rules
@@ -44,15 +44,15 @@ same_length : tie.Need-same-length
 same_length c = search rules
 
 returns-3 : tie.Need-returns-3
-unfolding beginCall rowAfter
+unfolding begin_call row_after
 returns-3 c =
     let a = c.before.before.before.before.before.before.before.before.before.before.args in
     let n = sym c.before.before.before.before.before.before.before.before.is-new.ensures ∙ not-false _ c.before.before.before.before.before.before.before.if1.false in
-    let e = c.before.before.before.before.sends.ensures ∙ ap sends c.before.before.before.before.before.blank.ensures ∙ sym (call-due _ a.r _ _ n c.before.before.before.before.before.before.if2.false) in
-    (e, (c.before.before.put-sent.ensures, call-says _ a.r _ _ _ e))
+    let e = c.before.before.before.before.sends.ensures ∙ ap sends c.before.before.before.before.before.blank.ensures ∙ sym (call_due _ a.r _ _ n c.before.before.before.before.before.before.if2.false) in
+    (e, (c.before.before.put-sent.ensures, call_says_law _ a.r _ _ _ e))
 
-pub begin-spec : {M : Type 1} → statement M
-begin-spec =
+pub begin_spec : {M : Type 1} → statement M
+begin_spec =
     tie.close
     (tie.spec
     is-new-requires

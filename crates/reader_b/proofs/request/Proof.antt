@@ -1,10 +1,10 @@
 -- `reader_b::request` meets its contract: the definition has the same tests, in the same order. Assumes nothing.
 use mathlib.Core.Path.{sym, ap, ◌∙◌}
 use borrow.Author.Tests.{not-true, not-false}
-use Rattle.reader_b.specs.ReaderB.{isReady}
+use Rattle.reader_b.specs.ReaderB.{is_ready}
 use Rattle.selection_b.specs.TypeB.{request}
 use Rattle.rows.specs.Rows.{overlay}
-use Rattle.reader_b.specs.ReaderBLaws.{refused, sent, not-due, no_room, made, no-slots, requested, says-too}
+use Rattle.reader_b.specs.ReaderBLaws.{refused, sent, not_due, no_room, made, no_slots, requested, says_too}
 use borrow.Author.Rules.{rules}
 use Rattle.reader_b.proofs.request.Statement.{statement}
 use Rattle.reader_b.proofs.request.Tie as tie
@@ -18,7 +18,7 @@ turn-requires c κs = search rules
 returns : tie.Need-returns
 returns c = let i = c.before.before in
     let a = i.before.before.args in
-    says-too _ _ _ _ (refused _ _ _ _ c.turn.ensures (not-due (isReady a.r.phase) a.r _ _ (sym i.is-ready.ensures ∙ not-true _ c.before.if1.true)))
+    says_too _ _ _ _ (refused _ _ _ _ c.turn.ensures (not_due (is_ready a.r.phase) a.r _ _ (sym i.is-ready.ensures ∙ not-true _ c.before.if1.true)))
 
 turn-requires-2 : tie.Need-turn-requires-2
 turn-requires-2 c κs = search rules
@@ -26,7 +26,7 @@ turn-requires-2 c κs = search rules
 returns-2 : tie.Need-returns-2
 returns-2 c = let i = c.before.before.before in
     let a = i.before.before.args in
-    says-too _ _ _ _ (refused _ _ _ _ c.turn2.ensures (no_room (isReady a.r.phase) a.r _ _ (sym i.is-ready.ensures ∙ not-false _ c.before.before.if1.false) c.before.if2.true))
+    says_too _ _ _ _ (refused _ _ _ _ c.turn2.ensures (no_room (is_ready a.r.phase) a.r _ _ (sym i.is-ready.ensures ∙ not-false _ c.before.before.if1.false) c.before.if2.true))
 
 is-slots-requires : tie.Need-is-slots-requires
 is-slots-requires c κs = search rules
@@ -39,7 +39,7 @@ returns-3 c = let s = c.before.before in
     let i = s.before.before.before in
     let a = i.before.before.args in
     let y = sym i.is-ready.ensures ∙ not-false _ s.before.before.if1.false in
-    says-too _ _ _ _ (refused _ _ _ _ c.turn3.ensures (no-slots a.r y a.wake a.n a.afi (sym s.is-slots.ensures ∙ not-true _ c.before.if3.true) ∙ made (isReady a.r.phase) a.r _ _ y s.before.if2.false))
+    says_too _ _ _ _ (refused _ _ _ _ c.turn3.ensures (no_slots a.r y a.wake a.n a.afi (sym s.is-slots.ensures ∙ not-true _ c.before.if3.true) ∙ made (is_ready a.r.phase) a.r _ _ y s.before.if2.false))
 
 request-requires : tie.Need-request-requires
 request-requires c κs = search rules
@@ -63,10 +63,10 @@ returns-4 c = let b = c.before.before.before in
     let i = s.before.before.before in
     let a = i.before.before.args in
     let y = sym i.is-ready.ensures ∙ not-false _ s.before.before.if1.false in
-    says-too _ _ _ _ (sent _ _ _ _ _ c.turn4.ensures (requested a.r y a.wake a.n a.afi (sym s.is-slots.ensures ∙ not-false _ g.before.if3.false) ∙ made (isReady a.r.phase) a.r _ _ y s.before.if2.false) (b.put.ensures ∙ ap (overlay a.out.now 0) g.request.ensures))
+    says_too _ _ _ _ (sent _ _ _ _ _ c.turn4.ensures (requested a.r y a.wake a.n a.afi (sym s.is-slots.ensures ∙ not-false _ g.before.if3.false) ∙ made (is_ready a.r.phase) a.r _ _ y s.before.if2.false) (b.put.ensures ∙ ap (overlay a.out.now 0) g.request.ensures))
 
-pub request-spec : {M : Type 1} → statement M
-request-spec =
+pub request_spec : {M : Type 1} → statement M
+request_spec =
     tie.close
     (tie.spec
     is-ready-requires

@@ -29,8 +29,8 @@ returns-2 c = rw (c.stop.ensures, c.before.enum-told2.given.1)
 returns-3 : tie.Need-returns-3
 returns-3 c = rw (c.stop2.ensures, c.before.enum-told3.given.1)
 
-pub ack-own-spec : {M : Type 1} → statement M
-ack-own-spec =
+pub ack_own_spec : {M : Type 1} → statement M
+ack_own_spec =
     tie.close
     (tie.spec
     enum_told

@@ -20,6 +20,6 @@ returns-2 c = rw c.enum-told2.given.1
 returns-3 : tie.Need-returns-3
 returns-3 c = rw c.enum-told3.given.1
 
-pub asks-again-spec : {M : Type 1} → statement M
-asks-again-spec =
+pub asks_again_spec : {M : Type 1} → statement M
+asks_again_spec =
     tie.close (tie.spec enum_told enum-told-2 enum-told-3 returns returns-2 returns-3)

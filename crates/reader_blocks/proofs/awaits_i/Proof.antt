@@ -11,5 +11,5 @@ returns c = rw (c.last-is-out.ensures, c.before.if1.true)
 returns-2 : tie.Need-returns-2
 returns-2 c = rw c.if1.false
 
-pub awaits-i-spec : {M : Type 1} → statement M
-awaits-i-spec = tie.close (tie.spec last-is-out-requires returns returns-2)
+pub awaits_i_spec : {M : Type 1} → statement M
+awaits_i_spec = tie.close (tie.spec last-is-out-requires returns returns-2)

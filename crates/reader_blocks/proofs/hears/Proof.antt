@@ -1,7 +1,7 @@
 use lib.ListN.{length}
 use native.Mathlib.Omega.{arith}
 use borrow.Author.Rules.{rules}
-use Rattle.reader_blocks.specs.ReaderLaws.{nothing-joins, hears-none, hears-some, hears-joined}
+use Rattle.reader_blocks.specs.ReaderLaws.{nothing_joins, hears_none, hears_some, hears_joined}
 use Rattle.reader_blocks.proofs.hears.Statement.{statement}
 use Rattle.reader_blocks.proofs.hears.Tie as tie
 
@@ -14,8 +14,8 @@ takes-requires c κs = search rules
 returns : tie.Need-returns
 returns c =
     let a = c.before.before.before.before.before.before.args in (
-      rw c.takes.ensures (hears-none a.l a.bytes.now (length a.buffer.now) (length a.message.now) (omega arith)),
-      rw (c.takes.ensures, nothing-joins a.l a.l.phase 0 (length a.buffer.now) (length a.message.now)),
+      rw c.takes.ensures (hears_none a.l a.bytes.now (length a.buffer.now) (length a.message.now) (omega arith)),
+      rw (c.takes.ensures, nothing_joins a.l a.l.phase 0 (length a.buffer.now) (length a.message.now)),
     )
 
 sub-takes : tie.Need-overflow-sub-takes
@@ -43,20 +43,20 @@ returns-2 : tie.Need-returns-2
 returns-2 c =
     let a = c.before.before.before.before.before.before.before.before.before.before.before.before.args in
     let t = c.before.before.before.before.before.before.takes2 in (
-      rw (t.ensures, c.before.before.before.before.before.before.before.before.read-block.ensures) (hears-some a.l a.bytes.now (length a.buffer.now) (length a.message.now) (omega arith)),
+      rw (t.ensures, c.before.before.before.before.before.before.before.before.read-block.ensures) (hears_some a.l a.bytes.now (length a.buffer.now) (length a.message.now) (omega arith)),
       rw c.before.before.before.before.before.if2.true
-          (hears-joined a.l a.l.phase c.before.before.before.before.before.before.before.before.read-block.result a.bytes.now a.buffer.now _ c.before.before.join.result (length a.message.now) (omega arith) (rw (← t.ensures) c.before.before.before.before.before.if2.true) c.before.before.join.ensures.0 c.before.before.join.ensures.1),
+          (hears_joined a.l a.l.phase c.before.before.before.before.before.before.before.before.read-block.result a.bytes.now a.buffer.now _ c.before.before.join.result (length a.message.now) (omega arith) (rw (← t.ensures) c.before.before.before.before.before.if2.true) c.before.before.join.ensures.0 c.before.before.join.ensures.1),
     )
 
 returns-3 : tie.Need-returns-3
 returns-3 c =
     let a = c.before.before.before.before.before.before.before.args in (
-      rw (c.before.takes2.ensures, c.before.before.before.read-block.ensures) (hears-some a.l a.bytes.now (length a.buffer.now) (length a.message.now) (omega arith)),
+      rw (c.before.takes2.ensures, c.before.before.before.read-block.ensures) (hears_some a.l a.bytes.now (length a.buffer.now) (length a.message.now) (omega arith)),
       rw c.if2.false,
     )
 
-pub hears-spec : {M : Type 1} → statement M
-hears-spec =
+pub hears_spec : {M : Type 1} → statement M
+hears_spec =
     tie.close
     (tie.spec
     read-block-requires

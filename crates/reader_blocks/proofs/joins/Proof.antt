@@ -14,5 +14,5 @@ open-requires c κs = search rules
 returns-2 : tie.Need-returns-2
 returns-2 c = rw (c.open.ensures, c.before.if1.false)
 
-pub joins-spec : {M : Type 1} → statement M
-joins-spec = tie.close (tie.spec reader-at-requires returns open-requires returns-2)
+pub joins_spec : {M : Type 1} → statement M
+joins_spec = tie.close (tie.spec reader-at-requires returns open-requires returns-2)

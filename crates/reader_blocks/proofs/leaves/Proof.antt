@@ -65,8 +65,8 @@ returns-6 c = rw (c.stop4.ensures, c.before.enum-told6.given.1)
 returns-7 : tie.Need-returns-7
 returns-7 c = rw (c.stop5.ensures, c.before.enum-told7.given.1)
 
-pub leaves-spec : {M : Type 1} → statement M
-leaves-spec =
+pub leaves_spec : {M : Type 1} → statement M
+leaves_spec =
     tie.close
     (tie.spec
     enum_told

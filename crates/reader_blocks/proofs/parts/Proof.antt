@@ -1,6 +1,6 @@
 use mathlib.Core.Path.{sym, ◌∙◌}
 use borrow.Author.Rules.{rules}
-use Rattle.reader_blocks.specs.ReaderRules.{readerParts}
+use Rattle.reader_blocks.specs.ReaderRules.{reader_parts}
 use Rattle.reader_blocks.proofs.parts.Statement.{statement}
 use Rattle.reader_blocks.proofs.parts.Tie as tie
 
@@ -14,17 +14,17 @@ sends-requires : tie.Need-sends-requires
 sends-requires c κs = search rules
 
 returns : tie.Need-returns
-unfolding readerParts
+unfolding reader_parts
 returns c = rw (c.sends.ensures, c.before.reader_at.ensures, sym c.before.before.before.is_open.ensures ∙ c.before.before.if1.true)
 
 keeps-requires : tie.Need-keeps-requires
 keeps-requires c κs = search rules
 
 returns-2 : tie.Need-returns-2
-unfolding readerParts
+unfolding reader_parts
 returns-2 c = rw (c.keeps.ensures, sym c.before.before.is_open.ensures ∙ c.before.if1.false)
 
-pub parts-spec : {M : Type 1} → statement M
-parts-spec =
+pub parts_spec : {M : Type 1} → statement M
+parts_spec =
     tie.close
     (tie.spec is-open-requires reader-at-requires sends-requires returns keeps-requires returns-2)

@@ -1,6 +1,6 @@
 use borrow.Author.Tests.{le-ltb, lt-ltb}
 use borrow.Author.Rules.{rules}
-use Rattle.reader_blocks.specs.ReaderRules.{readerAgain}
+use Rattle.reader_blocks.specs.ReaderRules.{reader_again}
 use Rattle.reader_blocks.proofs.sends_again.Statement.{statement}
 use Rattle.reader_blocks.proofs.sends_again.Tie as tie
 
@@ -14,17 +14,17 @@ sends-requires : tie.Need-sends-requires
 sends-requires c κs = search rules
 
 returns : tie.Need-returns
-unfolding readerAgain
+unfolding reader_again
 returns c = rw (c.sends.ensures, c.before.reader_at.ensures, lt-ltb c.before.before.before.before.before.args.l.again 2 c.before.before.before.if1.true)
 
 stop-requires : tie.Need-stop-requires
 stop-requires c κs = search rules
 
 returns-2 : tie.Need-returns-2
-unfolding readerAgain
+unfolding reader_again
 returns-2 c = rw (c.stop.ensures, le-ltb c.before.before.before.args.l.again 2 c.before.if1.false)
 
-pub sends-again-spec : {M : Type 1} → statement M
-sends-again-spec =
+pub sends_again_spec : {M : Type 1} → statement M
+sends_again_spec =
     tie.close
     (tie.spec add-reader-at reader-at-requires sends-requires returns stop-requires returns-2)

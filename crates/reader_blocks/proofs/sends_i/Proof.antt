@@ -1,6 +1,6 @@
 use mathlib.Core.Path.{sym, ◌∙◌}
 use borrow.Author.Rules.{rules}
-use Rattle.reader_blocks.specs.ReaderRules.{readerI}
+use Rattle.reader_blocks.specs.ReaderRules.{reader_i}
 use Rattle.reader_blocks.proofs.sends_i.Statement.{statement}
 use Rattle.reader_blocks.proofs.sends_i.Tie as tie
 
@@ -14,7 +14,7 @@ sends-requires : tie.Need-sends-requires
 sends-requires c κs = search rules
 
 returns : tie.Need-returns
-unfolding readerI
+unfolding reader_i
 returns c = rw (c.sends.ensures, c.before.reader_at.ensures, sym c.before.before.before.Has-more.ensures ∙ c.before.before.if1.true)
 
 reader-at-requires-2 : tie.Need-reader-at-requires-2
@@ -24,11 +24,11 @@ sends-requires-2 : tie.Need-sends-requires-2
 sends-requires-2 c κs = search rules
 
 returns-2 : tie.Need-returns-2
-unfolding readerI
+unfolding reader_i
 returns-2 c = rw (c.sends2.ensures, c.before.reader-at2.ensures, sym c.before.before.before.Has-more.ensures ∙ c.before.before.if1.false)
 
-pub sends-i-spec : {M : Type 1} → statement M
-sends-i-spec =
+pub sends_i_spec : {M : Type 1} → statement M
+sends_i_spec =
     tie.close
     (tie.spec
     has-more-requires

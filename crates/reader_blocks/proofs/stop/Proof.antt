@@ -8,5 +8,5 @@ done-requires c κs = search rules
 returns : tie.Need-returns
 returns c = rw c.done.ensures
 
-pub stop-spec : {M : Type 1} → statement M
-stop-spec = tie.close (tie.spec done-requires returns)
+pub stop_spec : {M : Type 1} → statement M
+stop_spec = tie.close (tie.spec done-requires returns)

@@ -51,8 +51,8 @@ returns-4 c = rw (c.keeps2.ensures, c.before.enum-told3.given.1)
 returns-5 : tie.Need-returns-5
 returns-5 c = rw (c.keeps3.ensures, c.before.enum-told4.given.1)
 
-pub takes-spec : {M : Type 1} → statement M
-takes-spec =
+pub takes_spec : {M : Type 1} → statement M
+takes_spec =
     tie.close
     (tie.spec
     enum-known-phase

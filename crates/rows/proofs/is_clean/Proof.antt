@@ -8,7 +8,7 @@ use lib.Dec.{ltb}
 use lib.ListN.{length, drop}
 use borrow.Author.Rules.{rules}
 use Rattle.rows.specs.Rows.{clean}
-use Rattle.rows.specs.HeardLaws.{clean-next, clean-done}
+use Rattle.rows.specs.HeardLaws.{clean_next, clean_done}
 use Rattle.rows.proofs.is_clean.Statement.{statement}
 use Rattle.rows.proofs.is_clean.Tie as tie
 
@@ -36,15 +36,15 @@ loop-less c = omega arith
 loop-again : tie.Need-loop-preserved invariant-loop decreases-loop
 loop-again c =
     let l = c.before.before.before.loop in
-    (omega arith, rw c.larger.ensures (sym (clean-next c.before.before.before.before.before.args.row.now l.i l.most (omega arith)) ∙ l.invariant.1))
+    (omega arith, rw c.larger.ensures (sym (clean_next c.before.before.before.before.before.args.row.now l.i l.most (omega arith)) ∙ l.invariant.1))
 
 returns : tie.Need-returns invariant-loop decreases-loop
 returns c =
     let l = c.before.loop in
-    sym (clean-done c.before.before.before.args.row.now l.i l.most (omega arith)) ∙ l.invariant.1
+    sym (clean_done c.before.before.before.args.row.now l.i l.most (omega arith)) ∙ l.invariant.1
 
-pub is-clean-spec : {M : Type 1} → statement M
-is-clean-spec =
+pub is_clean_spec : {M : Type 1} → statement M
+is_clean_spec =
     tie.close
     (tie.spec
     invariant-loop

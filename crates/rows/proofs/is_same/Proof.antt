@@ -5,7 +5,7 @@ use native.Mathlib.Omega.{arith}
 use lib.ListN.{length, drop}
 use Rattle.rows.specs.Rows.{same}
 use Rattle.rows.specs.ListLaws.{same_length}
-use Rattle.rows.specs.HeardLaws.{same_next, same_here, same-done}
+use Rattle.rows.specs.HeardLaws.{same_next, same_here, same_done}
 use Rattle.rows.proofs.is_same.Statement.{statement}
 use Rattle.rows.proofs.is_same.Tie as tie
 
@@ -53,10 +53,10 @@ returns-3 : tie.Need-returns-3 invariant-loop decreases-loop
 returns-3 c =
     let l = c.before.loop in
     let a = c.before.before.before.args in
-    sym (same-done a.a.now a.b.now l.i (omega arith) (omega arith)) ∙ l.invariant.2
+    sym (same_done a.a.now a.b.now l.i (omega arith) (omega arith)) ∙ l.invariant.2
 
-pub is-same-spec : {M : Type 1} → statement M
-is-same-spec =
+pub is_same_spec : {M : Type 1} → statement M
+is_same_spec =
     tie.close
     (tie.spec
     invariant-loop

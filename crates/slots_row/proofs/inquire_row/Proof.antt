@@ -44,7 +44,7 @@ use denote.Triple.Table.{entered, cited}
 use denote.Triple.Walked.{says, Stays, stay_slice, stay_dropped, walk_of, Goes-slice, Goes-dropped, Walks, ends_at, walked, walk_Meets}
 use denote.Exit.{yes}
 use borrow.Author.Rules.{scaled_Fits}
-use Rattle.limits.specs.Limits.{mostCards}
+use Rattle.limits.specs.Limits.{most_cards}
 use Rattle.field_b.specs.declared.Drawn.{Drawn}
 use Rattle.reader_b.specs.declared.ReaderB.{ReaderB}
 use Rattle.slots_row.specs.declared.RowInquired.{RowInquired}
@@ -68,7 +68,7 @@ use Rattle.slots_row.proofs.pass.opening.Met as opening-thm
 use Rattle.slots_row.specs.contracts.pass.turn as turn
 use Rattle.slots_row.proofs.pass.turn.Symbol as turn-def
 use Rattle.slots_row.proofs.pass.turn.Met as turn-thm
-use Rattle.slots_row.specs.Row.{inquiredRow, requestOf, Promises, blankCard}
+use Rattle.slots_row.specs.Row.{inquired_row, request_of, Promises, blank_card}
 use Rattle.slots_row.specs.Under.{Under, measure, Opened, Ready, Turns}
 use Rattle.slots_row.specs.TurnLaws as law
 use Rattle.sweep_row.proofs.Lent.{slice_at, own_at, Kept, lends, backs}
@@ -105,22 +105,22 @@ abbrev byte : Ty
 byte = ty_int w8
 
 abbrev progress : Tys
-progress = tcons ty_bool (tcons word (tcons R'.mir (tcons ty_bool (tcons word (tcons Q'.mir (tcons (ty_array T'.mir mostCards) tnil))))))
+progress = tcons ty_bool (tcons word (tcons R'.mir (tcons ty_bool (tcons word (tcons Q'.mir (tcons (ty_array T'.mir most_cards) tnil))))))
 
 abbrev turned : Tys
 turned = tcons T'.mir (tcons P'.mir tnil)
 
-abbrev row-ty : Ty
-row-ty = slice_ty (ty_ref (named 0) mut (pointee (T.the_row).written))
+abbrev row_ty : Ty
+row_ty = slice_ty (ty_ref (named 0) mut (pointee (T.the_row).written))
 
-abbrev list-ty : Ty
-list-ty = slice_ty (ty_ref (named 1) mut byte)
+abbrev list_ty : Ty
+list_ty = slice_ty (ty_ref (named 1) mut byte)
 
-abbrev byte-ref : Ty
-byte-ref = ty_ref erased mut byte
+abbrev byte_ref : Ty
+byte_ref = ty_ref erased mut byte
 
-abbrev bytes-ty : Ty
-bytes-ty = slice_ty byte-ref
+abbrev bytes_ty : Ty
+bytes_ty = slice_ty byte_ref
 
 module _ {M : Type 1} {𝓤 : Ura M} (𝓛 : Logic 𝓤) (mem : Memory → SProp 𝓤) (run : Routine → Fun 𝓤) where
   -- the contracts that the proof cites
@@ -135,7 +135,7 @@ module _ {M : Type 1} {𝓤 : Ura M} (𝓛 : Logic 𝓤) (mem : Memory → SProp
   open 𝓛 use {H}
 
   abbrev j : Request
-  j = requestOf r wake slots afi
+  j = request_of r wake slots afi
 
   abbrev n : ℕ
   n = length ys
@@ -168,7 +168,7 @@ module _ {M : Type 1} {𝓤 : Ura M} (𝓛 : Logic 𝓤) (mem : Memory → SProp
   abbrev Out-of : List Drawn → List ℕ → List (Item 𝓤)
   Out-of ws ls = ‵ (fobs γ ((coded_holeys T.the_row).code (heres T.the_row ws))) ∷ ‵ (fbor κ (Held T.the_row (length ws) b o γ)) ∷ ‵ (flft κ q) ∷ list_at ls ∷ ‵ (flft κ₁ q₁) ∷ []
 
-  exits : (ws : List Drawn) (ls : List ℕ) (v : RowInquired) → length ws ≡ n → length ls ≡ n₁ → Promises j ys n list₀ (inquiredRow v ws) ls → Is R.the_row v (minquired v ∷ []) → Room T.the_row n
+  exits : (ws : List Drawn) (ls : List ℕ) (v : RowInquired) → length ws ≡ n → length ls ≡ n₁ → Promises j ys n list₀ (inquired_row v ws) ls → Is R.the_row v (minquired v ∷ []) → Room T.the_row n
       → ent 𝓤 (⋆ 𝓛 (Out-of ws ls)) (Post (minquired v))
   exits ws ls v len len₁ d gv gn =
       qed 𝓛 (Out-of ws ls) ∵
@@ -181,40 +181,40 @@ module _ {M : Type 1} {𝓤 : Ura M} (𝓛 : Logic 𝓤) (mem : Memory → SProp
       owned ! R.the_row (Is R.the_row) (LL.makes R.the_type R'.the_plain 𝓛) v _ gv $ done !
 
   -- what the callees' triples bind outside, the list lent on for ν
-  abbrev to-opening : ℕ → GName → (Opening 𝓛 mem run).Ghost
-  to-opening ν δ = (((ν ∷ [], tt), (full_share, tt), tt, (r, (wake, (slots, (afi, (n, (x₁ δ list₀, tt)))))), (mreader r ∷ [], (vbool wake ∷ [], (vint w8 slots ∷ [], (vint w8 afi ∷ [], (vint w64 n ∷ [], (s₁ ∷ [], tt))))))), tt)
+  abbrev to_opening : ℕ → GName → (Opening 𝓛 mem run).Ghost
+  to_opening ν δ = (((ν ∷ [], tt), (full_share, tt), tt, (r, (wake, (slots, (afi, (n, (x₁ δ list₀, tt)))))), (mreader r ∷ [], (vbool wake ∷ [], (vint w8 slots ∷ [], (vint w8 afi ∷ [], (vint w64 n ∷ [], (s₁ ∷ [], tt))))))), tt)
 
-  abbrev to-turn : ℕ → GName → Progress → Drawn → List ℕ → (Turning 𝓛 mem run).Ghost
-  to-turn ν δ p c ls = (((ν ∷ [], tt), (full_share, tt), tt, (p, (c, (x₁ δ ls, tt))), (mprog p ∷ [], (mcard c ∷ [], (s₁ ∷ [], tt)))), tt)
+  abbrev to_turn : ℕ → GName → Progress → Drawn → List ℕ → (Turning 𝓛 mem run).Ghost
+  to_turn ν δ p c ls = (((ν ∷ [], tt), (full_share, tt), tt, (p, (c, (x₁ δ ls, tt))), (mprog p ∷ [], (mcard c ∷ [], (s₁ ∷ [], tt)))), tt)
 
   abbrev Lent : ℕ → GName → List ℕ → List (Item 𝓤)
   Lent ν δ ls = ‵ (flft (ν ∷ []) full_share) ∷ ‵ (own_at u8 κ₁ q₁ γ₁ b₁ o₁ (named 0) (ν ∷ []) n₁ δ ls) ∷ []
 
-  asks-turn : (ν : ℕ) (δ : GName) (p : Progress) (c : Drawn) (ls : List ℕ) → Is P.the_row p (mprog p ∷ []) → Is T.the_row c (mcard c ∷ []) → Ready p
-      → ent 𝓤 (⋆ 𝓛 (Lent ν δ ls)) ((Turning 𝓛 mem run).pre (to-turn ν δ p c ls))
-  asks-turn ν δ p c ls gp gc ready =
+  asks_turn : (ν : ℕ) (δ : GName) (p : Progress) (c : Drawn) (ls : List ℕ) → Is P.the_row p (mprog p ∷ []) → Is T.the_row c (mcard c ∷ []) → Ready p
+      → ent 𝓤 (⋆ 𝓛 (Lent ν δ ls)) ((Turning 𝓛 mem run).pre (to_turn ν δ p c ls))
+  asks_turn ν δ p c ls gp gc ready =
       qed 𝓛 (Lent ν δ ls) ∵ says ! ready $ nothing ! $ move ! (1 ∷ 0 ∷ []) $ join ! $ frame ! $
       nothing ! $ move ! (1 ∷ 0 ∷ []) $ fjoin ! $ owned ! T.the_row (Is T.the_row) (LL.makes T.the_type T'.the_plain 𝓛) c _ gc $ fjoin ! $
       owned ! P.the_row (Is P.the_row) (LL.makes P.the_type P'.the_plain 𝓛) p _ gp $ fjoin ! $ done !
 
-  asks-opening : (ν : ℕ) (δ : GName) → Is E.the_row r (mreader r ∷ []) → slots < 2 ^ 8 → afi < 2 ^ 8 → Room T.the_row n
-      → ent 𝓤 (⋆ 𝓛 (Lent ν δ list₀)) ((Opening 𝓛 mem run).pre (to-opening ν δ))
-  asks-opening ν δ gr gs ga gn =
+  asks_opening : (ν : ℕ) (δ : GName) → Is E.the_row r (mreader r ∷ []) → slots < 2 ^ 8 → afi < 2 ^ 8 → Room T.the_row n
+      → ent 𝓤 (⋆ 𝓛 (Lent ν δ list₀)) ((Opening 𝓛 mem run).pre (to_opening ν δ))
+  asks_opening ν δ gr gs ga gn =
       qed 𝓛 (Lent ν δ list₀) ∵ nothing ! $ move ! (1 ∷ 0 ∷ []) $ join ! $ nothing ! $ move ! (2 ∷ 0 ∷ []) $ fjoin ! $
       owned ! usize (Is usize) (uint_Makes 𝓛 w64) n _ (refl, gn.0) $ fjoin ! $ owned ! u8 (Is u8) (uint_Makes 𝓛 w8) afi _ (refl, ga) $ fjoin ! $
       owned ! u8 (Is u8) (uint_Makes 𝓛 w8) slots _ (refl, gs) $ fjoin ! $ owned ! bool (Is bool) (bool_Makes 𝓛) wake _ refl $ fjoin ! $
       owned ! E.the_row (Is E.the_row) (LL.makes E.the_type E'.the_plain 𝓛) r _ gr $ fjoin ! $ move ! (1 ∷ 0 ∷ []) $ join ! $ frame ! $ done !
 
   -- the list as it is lent on, and what is kept of it
-  abbrev list-lent : List ℕ → ℕ → GName → Item 𝓤
-  list-lent ls ν δ = ‵ (flft (ν ∷ []) full_share) ⊛ (‵ (own_at u8 κ₁ q₁ γ₁ b₁ o₁ (named 0) (ν ∷ []) n₁ δ ls) ⊛ ‵ (Kept u8 κ₁ q₁ γ₁ b₁ o₁ n₁ ν δ ls))
+  abbrev list_lent : List ℕ → ℕ → GName → Item 𝓤
+  list_lent ls ν δ = ‵ (flft (ν ∷ []) full_share) ⊛ (‵ (own_at u8 κ₁ q₁ γ₁ b₁ o₁ (named 0) (ν ∷ []) n₁ δ ls) ⊛ ‵ (Kept u8 κ₁ q₁ γ₁ b₁ o₁ n₁ ν δ ls))
 
   module _ (𝓣 : Tables 𝓤 H) (known-opening : Triple 𝓤 (𝓣.C opening-def.name) (Opening 𝓛 mem run)) (known-turn : Triple 𝓤 (𝓣.C turn-def.name) (Turning 𝓛 mem run))
       (gn : Room T.the_row n) (gn₁ : Room u8 n₁) (gr : Is E.the_row r (mreader r ∷ [])) (gs : slots < 2 ^ 8) (ga : afi < 2 ^ 8)
       (l₀ l₁ l₂ l₃ l₄ l₅ l₆ l₇ l₈ l₉ l₁₀ l₁₁ l₁₂ l₁₃ l₁₄ l₁₅ l₁₆ l₁₇ l₁₈ : ℕ) where
     abbrev En : Env 𝓤 H
-    En = (R'.mir, l₀) ∷ (E'.mir, l₁) ∷ (ty_bool, l₂) ∷ (byte, l₃) ∷ (byte, l₄) ∷ (row-ty, l₅) ∷ (list-ty, l₆) ∷ (P'.mir, l₇) ∷ (S'.mir, l₈) ∷ (word, l₉) ∷ (byte-ref, l₁₀) ∷ (bytes-ty, l₁₁)
-        ∷ (ty_bool, l₁₂) ∷ (word, l₁₃) ∷ (ty_ptr, l₁₄) ∷ (T'.mir, l₁₅) ∷ (byte-ref, l₁₆) ∷ (bytes-ty, l₁₇) ∷ (ty_ptr, l₁₈) ∷ []
+    En = (R'.mir, l₀) ∷ (E'.mir, l₁) ∷ (ty_bool, l₂) ∷ (byte, l₃) ∷ (byte, l₄) ∷ (row_ty, l₅) ∷ (list_ty, l₆) ∷ (P'.mir, l₇) ∷ (S'.mir, l₈) ∷ (word, l₉) ∷ (byte_ref, l₁₀) ∷ (bytes_ty, l₁₁)
+        ∷ (ty_bool, l₁₂) ∷ (word, l₁₃) ∷ (ty_ptr, l₁₄) ∷ (T'.mir, l₁₅) ∷ (byte_ref, l₁₆) ∷ (bytes_ty, l₁₇) ∷ (ty_ptr, l₁₈) ∷ []
 
     abbrev has : Ty → ℕ → Val → Item 𝓤
     has t l v = ‵ (fat full_share t l 0 v)
@@ -224,14 +224,14 @@ module _ {M : Type 1} {𝓤 : Ura M} (𝓛 : Logic 𝓤) (mem : Memory → SProp
 
     -- what no turn touches, from place 14 on
     abbrev Frame : List (Item 𝓤)
-    Frame = vac R'.mir l₀ ∷ vac E'.mir l₁ ∷ vac ty_bool l₂ ∷ vac byte l₃ ∷ vac byte l₄ ∷ vac word l₉ ∷ vac byte-ref l₁₀ ∷ vac bytes-ty l₁₁
+    Frame = vac R'.mir l₀ ∷ vac E'.mir l₁ ∷ vac ty_bool l₂ ∷ vac byte l₃ ∷ vac byte l₄ ∷ vac word l₉ ∷ vac byte_ref l₁₀ ∷ vac bytes_ty l₁₁
         ∷ ‵ (fobor κ q (Held T.the_row n b o γ)) ∷ ‵ (fobs γ ((coded_holeys T.the_row).code (heres T.the_row ys))) ∷ ‵ (fauth γ ((coded_holeys T.the_row).code (heres T.the_row ys)))
-        ∷ ‵ (fdies R'.mir l₀) ∷ ‵ (fdies E'.mir l₁) ∷ ‵ (fdies ty_bool l₂) ∷ ‵ (fdies byte l₃) ∷ ‵ (fdies byte l₄) ∷ ‵ (fdies row-ty l₅) ∷ ‵ (fdies list-ty l₆) ∷ ‵ (fdies P'.mir l₇) ∷ ‵ (fdies S'.mir l₈) ∷ ‵ (fdies word l₉) ∷ ‵ (fdies byte-ref l₁₀) ∷ ‵ (fdies bytes-ty l₁₁)
-        ∷ ‵ (fdies ty_bool l₁₂) ∷ ‵ (fdies word l₁₃) ∷ ‵ (fdies ty_ptr l₁₄) ∷ ‵ (fdies T'.mir l₁₅) ∷ ‵ (fdies byte-ref l₁₆) ∷ ‵ (fdies bytes-ty l₁₇) ∷ ‵ (fdies ty_ptr l₁₈) ∷ []
+        ∷ ‵ (fdies R'.mir l₀) ∷ ‵ (fdies E'.mir l₁) ∷ ‵ (fdies ty_bool l₂) ∷ ‵ (fdies byte l₃) ∷ ‵ (fdies byte l₄) ∷ ‵ (fdies row_ty l₅) ∷ ‵ (fdies list_ty l₆) ∷ ‵ (fdies P'.mir l₇) ∷ ‵ (fdies S'.mir l₈) ∷ ‵ (fdies word l₉) ∷ ‵ (fdies byte_ref l₁₀) ∷ ‵ (fdies bytes_ty l₁₁)
+        ∷ ‵ (fdies ty_bool l₁₂) ∷ ‵ (fdies word l₁₃) ∷ ‵ (fdies ty_ptr l₁₄) ∷ ‵ (fdies T'.mir l₁₅) ∷ ‵ (fdies byte_ref l₁₆) ∷ ‵ (fdies bytes_ty l₁₇) ∷ ‵ (fdies ty_ptr l₁₈) ∷ []
 
     abbrev At : Progress → List Drawn → List ℕ → List (Item 𝓤)
     At p ws ls = ‵ (row T.the_row full_share ws b o) ∷ list_at ls ∷ ‵ (flft κ₁ q₁) ∷ has P'.mir l₇ (mprog p) ∷ vac S'.mir l₈ ∷ vac ty_bool l₁₂ ∷ vac word l₁₃ ∷ vac ty_ptr l₁₄ ∷ vac T'.mir l₁₅
-        ∷ vac byte-ref l₁₆ ∷ vac bytes-ty l₁₇ ∷ vac ty_ptr l₁₈ ∷ has row-ty l₅ s ∷ has list-ty l₆ s₁ ∷ Frame
+        ∷ vac byte_ref l₁₆ ∷ vac bytes_ty l₁₇ ∷ vac ty_ptr l₁₈ ∷ has row_ty l₅ s ∷ has list_ty l₆ s₁ ∷ Frame
 
     -- what is known where the loop's test is made, and t bounds the turns to come
     pub record Facts (t : ℕ) (p : Progress) (ws : List Drawn) (ls : List ℕ) : Type 0 where
@@ -250,20 +250,20 @@ module _ {M : Type 1} {𝓤 : Ura M} (𝓛 : Logic 𝓤) (mem : Memory → SProp
     abbrev Left : Out → SProp 𝓤
     Left = after_block 𝓤 H (after_seq 𝓤 H (Wp 𝓤 H 𝓣.C 𝓣.Λ En m.t-6 (at_return 𝓤 H En Post)) (at_return 𝓤 H En Post))
 
-    is-card : (t : Turned) (u : Val) → Is S.the_row t (u ∷ []) → Is T.the_row t.card (mcard t.card ∷ [])
-    is-card t u got = (LL.owed S.the_type S'.the_laws t (u ∷ []) got).0
+    is_card : (t : Turned) (u : Val) → Is S.the_row t (u ∷ []) → Is T.the_row t.card (mcard t.card ∷ [])
+    is_card t u got = (LL.owed S.the_type S'.the_laws t (u ∷ []) got).0
 
-    is-next : (t : Turned) (u : Val) → Is S.the_row t (u ∷ []) → Is P.the_row t.next (mprog t.next ∷ [])
-    is-next t u got = (LL.owed S.the_type S'.the_laws t (u ∷ []) got).1.0
+    is_next : (t : Turned) (u : Val) → Is S.the_row t (u ∷ []) → Is P.the_row t.next (mprog t.next ∷ [])
+    is_next t u got = (LL.owed S.the_type S'.the_laws t (u ∷ []) got).1.0
 
     -- a turn that goes on
     more : (p : Progress) (ws : List Drawn) (ls : List ℕ) (X : SProp 𝓤) → p.going ≡ true → p.at < length ws → length ws ≡ n → length ls ≡ n₁ → Is P.the_row p (mprog p ∷ []) → Ready p
-        → ((t : Turned) (ls' : List ℕ) → Turns p (get_or ws p.at blankCard) ls t ls' → length ls' ≡ n₁ → Is P.the_row t.next (mprog t.next ∷ []) → ent 𝓤 (⋆ 𝓛 (At t.next (set ws p.at t.card) ls')) X)
+        → ((t : Turned) (ls' : List ℕ) → Turns p (get_or ws p.at blank_card) ls t ls' → length ls' ≡ n₁ → Is P.the_row t.next (mprog t.next ∷ []) → ent 𝓤 (⋆ 𝓛 (At t.next (set ws p.at t.card) ls')) X)
         → ent 𝓤 (⋆ 𝓛 (At p ws ls)) (Wp 𝓤 H 𝓣.C 𝓣.Λ En m.turn-1 (after_turn 𝓤 H X Left))
     unfolding after_turn
     more p ws ls X g l len len₁ gp ready k =
         let i : ℕ = p.at in
-        let c : Drawn = get_or ws i blankCard in
+        let c : Drawn = get_or ws i blank_card in
         let small : i < n = subst (λ (m : ℕ). i < m) len l in
         qed 𝓛 (At p ws ls) ∵ exec ! 𝓣.C 𝓣.Λ En m.turn-1 (any_q (after_turn 𝓤 H X Left)) $
         assigns ! (of_opd ! (load ! (from ! (fld ! {τ = ty_bool} {d = 0} refl (stop !))) (look_in ! 3 {τ = ty_bool} (sub ! {τs = progress} 0 {τ = ty_bool} {d = 0} refl (whole !))))) (from ! (stop !)) (init ! 5 refl (tt, tt)) $
@@ -272,15 +272,15 @@ module _ {M : Type 1} {𝓤 : Ura M} (𝓛 : Logic 𝓤) (mem : Memory → SProp
         assigns ! (bin ! (load ! (from ! (fld ! {τ = word} {d = 8} refl (stop !))) (look_in ! 3 {τ = word} (sub ! {τs = progress} 1 {τ = word} {d = 8} refl (whole !)))) (lit ! tt) (scaled_Fits i n size small gn.1)) (from ! (stop !)) (init ! 6 refl (tt, scaled_Fits i n size small gn.1)) $
         assigns ! (bin ! (load ! (from ! (fld ! refl (stop !))) (look_in ! 12 (sub ! 0 refl (whole !)))) (load ! (from ! (stop !)) (look ! 6 refl)) tt) (from ! (stop !)) (init ! 7 refl (tt, tt)) $
         rewrite ! 7 (λ (a : ℕ). has ty_ptr l₁₄ (vptr b a)) (sym (place_is size o i)) refl $
-        elem_out ! T.the_row (Is T.the_row) (shows 𝓛 T.the_row) (LL.vals T.the_type T'.the_laws) (LL.tells T.the_type T'.the_laws) full_share ws i blankCard b o l (λ is.
+        elem_out ! T.the_row (Is T.the_row) (shows 𝓛 T.the_row) (LL.vals T.the_type T'.the_laws) (LL.tells T.the_type T'.the_laws) full_share ws i blank_card b o l (λ is.
         -- [cards[i]; what it owns; the others; the list; its token; _7; _8; _12; _13; _14; _15; _16; _17; _18; _5; _6; ...]
         assigns ! (of_opd ! (load ! (from ! (hop ! (look ! 9 refl) (stop !))) (look_raw ! 0 refl))) (from ! (stop !)) (init ! 10 refl ((LL.lawful T.the_type T'.the_laws 𝓛).typed c _ is).0) $
         assigns ! (addr ! (from ! (fld ! refl (hop ! (look_in ! 15 (sub ! 0 refl (whole !))) (stop !))))) (from ! (stop !)) (init ! 11 refl (tt, tt)) $
         assigns ! (agg ! (and_then ! (load ! (from ! (stop !)) (look ! 11 refl)) (and_then ! (load ! (from ! (fld ! refl (stop !))) (look_in ! 15 (sub ! 1 refl (whole !)))) (no_more !)))) (from ! (stop !)) (init ! 12 refl (tt, (tt, (record { fits = gn₁.0 }, tt)))) $
-        move ! (3 ∷ 4 ∷ []) $ use2 𝓛 (later (some (λ (ν : ℕ). some (list-lent ls ν)))) (lends u8 κ₁ q₁ γ₁ b₁ o₁ 𝓛 (named 1) (named 0) ls n₁ len₁) $ await ! tt $ pick ! (λ ν. pick ! (λ δ. split ! $ move ! (1 ∷ []) $ split ! $
+        move ! (3 ∷ 4 ∷ []) $ use2 𝓛 (later (some (λ (ν : ℕ). some (list_lent ls ν)))) (lends u8 κ₁ q₁ γ₁ b₁ o₁ 𝓛 (named 1) (named 0) ls n₁ len₁) $ await ! tt $ pick ! (λ ν. pick ! (λ δ. split ! $ move ! (1 ∷ []) $ split ! $
         -- [the list lent on; what is kept; ν; cards[i]; what it owns; the others; _7; ...]
-        move ! (2 ∷ 0 ∷ []) $ group ! 2 $ use1 𝓛 (raw ((Turning 𝓛 mem run).pre (to-turn ν δ p c ls))) (asks-turn ν δ p c ls gp is ready) $
-        calls_at ! (fm_of 𝓤 H 𝓛.laws 𝓣) (Turning 𝓛 mem run) known-turn (to-turn ν δ p c ls)
+        move ! (2 ∷ 0 ∷ []) $ group ! 2 $ use1 𝓛 (raw ((Turning 𝓛 mem run).pre (to_turn ν δ p c ls))) (asks_turn ν δ p c ls gp is ready) $
+        calls_at ! (fm_of 𝓤 H 𝓛.laws 𝓣) (Turning 𝓛 mem run) known-turn (to_turn ν δ p c ls)
         (and_then ! (load ! (from ! (stop !)) (look ! 5 refl)) (and_then ! (load ! (from ! (stop !)) (look ! 10 refl)) (and_then ! (load ! (from ! (stop !)) (look ! 12 refl)) (no_more !)))) (λ u.
         use1 𝓛 (later (some (λ (t : Turned). ((‵ (flft (ν ∷ []) full_share) ⊛ ‵ ftrue) ⊛ ‵ ((S.the_row).own_val t (u ∷ [])))
         ⊛ raw (ensured 𝓛 turn.ended (turn.clauses 𝓛 mem run) (ν ∷ [], tt) (p, (c, (x₁ δ ls, tt))) tt t)))) (id⊢ 𝓤 _) $ await ! tt $ pick ! (λ t.
@@ -298,14 +298,14 @@ module _ {M : Type 1} {𝓤 : Ura M} (𝓛 : Logic 𝓤) (mem : Memory → SProp
         assigns ! (bin ! (load ! (from ! (fld ! {τ = word} {d = 8} refl (stop !))) (look_in ! 5 {τ = word} (sub ! {τs = progress} 1 {τ = word} {d = 8} refl (whole !)))) (lit ! tt) (scaled_Fits i n size small gn.1)) (from ! (stop !)) (store ! 8 refl (tt, scaled_Fits i n size small gn.1)) $
         assigns ! (bin ! (load ! (from ! (fld ! refl (stop !))) (look_in ! 14 (sub ! 0 refl (whole !)))) (load ! (from ! (stop !)) (look ! 8 refl)) tt) (from ! (stop !)) (init ! 13 refl (tt, tt)) $
         rewrite ! 13 (λ (a : ℕ). has ty_ptr l₁₈ (vptr b a)) (sym (place_is size o i)) refl $
-        assigns ! (of_opd ! (load ! (from ! (fld ! {τ = T'.mir} {d = 0} refl (stop !))) (look_in ! 6 {τ = T'.mir} (sub ! {τs = turned} 0 {τ = T'.mir} {d = 0} refl (whole !))))) (from ! (hop ! (look ! 13 refl) (stop !))) (store_raw ! 0 refl ((LL.lawful T.the_type T'.the_laws 𝓛).typed t.card _ (is-card t u got)).0) $
-        move ! (1 ∷ []) $ drop ! $ owned ! T.the_row (Is T.the_row) (LL.makes T.the_type T'.the_plain 𝓛) t.card _ (is-card t u got) $ move ! (1 ∷ 0 ∷ []) $ elem_put ! T.the_row full_share ws i t.card (mcard t.card ∷ []) b o l $
-        assigns_last ! (of_opd ! (load ! (from ! (fld ! {τ = P'.mir} {d = 16} refl (stop !))) (look_in ! 4 {τ = P'.mir} (sub ! {τs = turned} 1 {τ = P'.mir} {d = 16} refl (whole !))))) (from ! (stop !)) (store ! 3 refl ((LL.lawful P.the_type P'.the_laws 𝓛).typed t.next _ (is-next t u got)).0) $
+        assigns ! (of_opd ! (load ! (from ! (fld ! {τ = T'.mir} {d = 0} refl (stop !))) (look_in ! 6 {τ = T'.mir} (sub ! {τs = turned} 0 {τ = T'.mir} {d = 0} refl (whole !))))) (from ! (hop ! (look ! 13 refl) (stop !))) (store_raw ! 0 refl ((LL.lawful T.the_type T'.the_laws 𝓛).typed t.card _ (is_card t u got)).0) $
+        move ! (1 ∷ []) $ drop ! $ owned ! T.the_row (Is T.the_row) (LL.makes T.the_type T'.the_plain 𝓛) t.card _ (is_card t u got) $ move ! (1 ∷ 0 ∷ []) $ elem_put ! T.the_row full_share ws i t.card (mcard t.card ∷ []) b o l $
+        assigns_last ! (of_opd ! (load ! (from ! (fld ! {τ = P'.mir} {d = 16} refl (stop !))) (look_in ! 4 {τ = P'.mir} (sub ! {τs = turned} 1 {τ = P'.mir} {d = 16} refl (whole !))))) (from ! (stop !)) (store ! 3 refl ((LL.lawful P.the_type P'.the_laws 𝓛).typed t.next _ (is_next t u got)).0) $
         forget ! 4 refl $ forget ! 5 refl $ forget ! 6 refl $ forget ! 7 refl $ forget ! 8 refl $ forget ! 9 refl $ forget ! 10 refl $ forget ! 11 refl $
-        by ! (k t zs.1.1.0 e (e₁ ∙ len₁) (is-next t u got)))))))))))
+        by ! (k t zs.1.1.0 e (e₁ ∙ len₁) (is_next t u got)))))))))))
 
     -- the turn that leaves the loop, and the rest of the body
-    ends : (p : Progress) (ws : List Drawn) (ls : List ℕ) (X : SProp 𝓤) → p.going ≡ false → length ws ≡ n → length ls ≡ n₁ → Is P.the_row p (mprog p ∷ []) → Promises j ys n list₀ (inquiredRow p.inquired ws) ls
+    ends : (p : Progress) (ws : List Drawn) (ls : List ℕ) (X : SProp 𝓤) → p.going ≡ false → length ws ≡ n → length ls ≡ n₁ → Is P.the_row p (mprog p ∷ []) → Promises j ys n list₀ (inquired_row p.inquired ws) ls
         → ent 𝓤 (⋆ 𝓛 (At p ws ls)) (Wp 𝓤 H 𝓣.C 𝓣.Λ En m.turn-1 (after_turn 𝓤 H X Left))
     unfolding after_turn
     ends p ws ls X g len len₁ gp d =
@@ -350,8 +350,8 @@ module _ {M : Type 1} {𝓤 : Ura M} (𝓛 : Logic 𝓤) (mem : Memory → SProp
 
     -- what stands in memory once the parameters are passed
     abbrev Passed : List (Item 𝓤)
-    Passed = vac ty_ptr l₁₈ ∷ ‵ (fdies ty_ptr l₁₈) ∷ vac bytes-ty l₁₇ ∷ ‵ (fdies bytes-ty l₁₇) ∷ vac byte-ref l₁₆ ∷ ‵ (fdies byte-ref l₁₆) ∷ vac T'.mir l₁₅ ∷ ‵ (fdies T'.mir l₁₅) ∷ vac ty_ptr l₁₄ ∷ ‵ (fdies ty_ptr l₁₄) ∷ vac word l₁₃ ∷ ‵ (fdies word l₁₃) ∷ vac ty_bool l₁₂ ∷ ‵ (fdies ty_bool l₁₂)
-        ∷ vac bytes-ty l₁₁ ∷ ‵ (fdies bytes-ty l₁₁) ∷ vac byte-ref l₁₀ ∷ ‵ (fdies byte-ref l₁₀) ∷ vac word l₉ ∷ ‵ (fdies word l₉) ∷ vac S'.mir l₈ ∷ ‵ (fdies S'.mir l₈) ∷ vac P'.mir l₇ ∷ ‵ (fdies P'.mir l₇) ∷ has list-ty l₆ s₁ ∷ ‵ (fdies list-ty l₆) ∷ has row-ty l₅ s ∷ ‵ (fdies row-ty l₅)
+    Passed = vac ty_ptr l₁₈ ∷ ‵ (fdies ty_ptr l₁₈) ∷ vac bytes_ty l₁₇ ∷ ‵ (fdies bytes_ty l₁₇) ∷ vac byte_ref l₁₆ ∷ ‵ (fdies byte_ref l₁₆) ∷ vac T'.mir l₁₅ ∷ ‵ (fdies T'.mir l₁₅) ∷ vac ty_ptr l₁₄ ∷ ‵ (fdies ty_ptr l₁₄) ∷ vac word l₁₃ ∷ ‵ (fdies word l₁₃) ∷ vac ty_bool l₁₂ ∷ ‵ (fdies ty_bool l₁₂)
+        ∷ vac bytes_ty l₁₁ ∷ ‵ (fdies bytes_ty l₁₁) ∷ vac byte_ref l₁₀ ∷ ‵ (fdies byte_ref l₁₀) ∷ vac word l₉ ∷ ‵ (fdies word l₉) ∷ vac S'.mir l₈ ∷ ‵ (fdies S'.mir l₈) ∷ vac P'.mir l₇ ∷ ‵ (fdies P'.mir l₇) ∷ has list_ty l₆ s₁ ∷ ‵ (fdies list_ty l₆) ∷ has row_ty l₅ s ∷ ‵ (fdies row_ty l₅)
         ∷ has byte l₄ (vint w8 afi) ∷ ‵ (fdies byte l₄) ∷ has byte l₃ (vint w8 slots) ∷ ‵ (fdies byte l₃) ∷ has ty_bool l₂ (vbool wake) ∷ ‵ (fdies ty_bool l₂) ∷ has E'.mir l₁ (mreader r) ∷ ‵ (fdies E'.mir l₁) ∷ vac R'.mir l₀ ∷ ‵ (fdies R'.mir l₀)
         ∷ (‵ (flft κ q) ⊛ (‵ (flft κ₁ q₁) ⊛ ‵ ftrue)) ∷ ‵ (owns (E.the_row ∷ bool ∷ u8 ∷ u8 ∷ MutSlice (named 0) κ T.the_row ∷ MutSlice (named 1) κ₁ u8 ∷ []) x at) ∷ []
 
@@ -365,9 +365,9 @@ module _ {M : Type 1} {𝓤 : Ura M} (𝓛 : Logic 𝓤) (mem : Memory → SProp
         -- [the row; the open borrow; obs; auth; the list's token; the list; the locals]
         move ! (4 ∷ []) $ split ! $ move ! (6 ∷ []) $ fsplit ! $ move ! (1 ∷ 3 ∷ []) $ drop ! $ drop ! $
         -- [the list; its token; the row; the open borrow; obs; auth; the locals]
-        use2 𝓛 (later (some (λ (ν : ℕ). some (list-lent list₀ ν)))) (lends u8 κ₁ q₁ γ₁ b₁ o₁ 𝓛 (named 1) (named 0) list₀ n₁ refl) $ await ! tt $ pick ! (λ ν. pick ! (λ δ. split ! $ move ! (1 ∷ []) $ split ! $
-        move ! (2 ∷ 0 ∷ []) $ group ! 2 $ use1 𝓛 (raw ((Opening 𝓛 mem run).pre (to-opening ν δ))) (asks-opening ν δ gr gs ga gn) $
-        calls_at ! (fm_of 𝓤 H 𝓛.laws 𝓣) (Opening 𝓛 mem run) known-opening (to-opening ν δ)
+        use2 𝓛 (later (some (λ (ν : ℕ). some (list_lent list₀ ν)))) (lends u8 κ₁ q₁ γ₁ b₁ o₁ 𝓛 (named 1) (named 0) list₀ n₁ refl) $ await ! tt $ pick ! (λ ν. pick ! (λ δ. split ! $ move ! (1 ∷ []) $ split ! $
+        move ! (2 ∷ 0 ∷ []) $ group ! 2 $ use1 𝓛 (raw ((Opening 𝓛 mem run).pre (to_opening ν δ))) (asks_opening ν δ gr gs ga gn) $
+        calls_at ! (fm_of 𝓤 H 𝓛.laws 𝓣) (Opening 𝓛 mem run) known-opening (to_opening ν δ)
         (and_then ! (load ! (from ! (stop !)) (look ! 40 refl)) (and_then ! (load ! (from ! (stop !)) (look ! 38 refl)) (and_then ! (load ! (from ! (stop !)) (look ! 36 refl)) (and_then ! (load ! (from ! (stop !)) (look ! 34 refl)) (and_then ! (load ! (from ! (stop !)) (look ! 24 refl)) (and_then ! (load ! (from ! (stop !)) (look ! 20 refl)) (no_more !))))))) (λ u.
         use1 𝓛 (later (some (λ (p : Progress). ((‵ (flft (ν ∷ []) full_share) ⊛ ‵ ftrue) ⊛ ‵ ((P.the_row).own_val p (u ∷ [])))
         ⊛ raw (ensured 𝓛 opening.ended (opening.clauses 𝓛 mem run) (ν ∷ [], tt) (r, (wake, (slots, (afi, (n, (x₁ δ list₀, tt)))))) tt p)))) (id⊢ 𝓤 _) $ await ! tt $ pick ! (λ p.
@@ -397,8 +397,8 @@ module _ {M : Type 1} {𝓤 : Ura M} (𝓛 : Logic 𝓤) (mem : Memory → SProp
     (known-opening : Triple 𝓤 (𝓣.C opening-def.name) (Opening 𝓛 mem run)) (known-turn : Triple 𝓤 (𝓣.C turn-def.name) (Turning 𝓛 mem run)) where
   open 𝓛 use {H}
 
-  row-walks : Walks 𝓛 self.ended stayed (WpFn 𝓤 H 𝓣.C 𝓣.Λ code.function) (self.clauses 𝓛 mem run)
-  row-walks = walked 𝓛 self.ended stayed (self.clauses 𝓛 mem run) (WpFn 𝓤 H 𝓣.C 𝓣.Λ code.function)
+  row_walks : Walks 𝓛 self.ended stayed (WpFn 𝓤 H 𝓣.C 𝓣.Λ code.function) (self.clauses 𝓛 mem run)
+  row_walks = walked 𝓛 self.ended stayed (self.clauses 𝓛 mem run) (WpFn 𝓤 H 𝓣.C 𝓣.Λ code.function)
       (λ κs. (LL.vals E.the_type E'.the_laws, (bool_vals, (uint_vals w8, (uint_vals w8, (mut_slice_vals, (mut_slice_vals, tt)))))))
       (λ κs. (LL.tells E.the_type E'.the_laws, (bool_Tells, (uint_Tells w8, (uint_Tells w8, (mut_slice_Tells (named 0) κs.0 T.the_row, (mut_slice_Tells (named 1) κs.1.0 u8, tt)))))))
       (λ κs qs bounds a g are. via 𝓤 _ (fst∗ 𝓤 _ (emp 𝓤))
@@ -406,17 +406,17 @@ module _ {M : Type 1} {𝓤 : Ura M} (𝓛 : Logic 𝓤) (mem : Memory → SProp
       a.1.1.1.1.1.0.ref_ptr.0 a.1.1.1.1.1.0.ref_ptr.1 a.1.1.1.1.1.0.ghost_name a.1.1.1.1.1.0.now a.0 a.1.0 a.1.1.0 a.1.1.1.0
       𝓣 known-opening known-turn are.1.1.1.1.0.0.1 are.1.1.1.1.1.0.0.1 are.0 are.1.1.0.1 are.1.1.1.0.1))
 
-  row-meets : Meets 𝓛 self.signature (WpFn 𝓤 H 𝓣.C 𝓣.Λ code.function) (self.spec 𝓛 mem run)
-  row-meets =
+  row_meets : Meets 𝓛 self.signature (WpFn 𝓤 H 𝓣.C 𝓣.Λ code.function) (self.spec 𝓛 mem run)
+  row_meets =
       walk_Meets 𝓛 self.ended stayed
       (Goes-dropped 𝓛 2 (plain (λ _. E.the_row)) yes (λ κs x f. refl), (Goes-dropped 𝓛 2 (plain (λ _. bool)) yes (λ κs x f. refl), (Goes-dropped 𝓛 2 (plain (λ _. u8)) yes (λ κs x f. refl), (Goes-dropped 𝓛 2 (plain (λ _. u8)) yes (λ κs x f. refl), (Goes-slice 𝓛 2 0 tt (plain (λ _. T.the_row)), (Goes-slice 𝓛 2 1 tt (plain (λ _. u8)), tt))))))
-      (self.clauses 𝓛 mem run) (WpFn 𝓤 H 𝓣.C 𝓣.Λ code.function) (WpFn-mono 𝓤 H 𝓛.laws 𝓣 code.function) row-walks
+      (self.clauses 𝓛 mem run) (WpFn 𝓤 H 𝓣.C 𝓣.Λ code.function) (WpFn-mono 𝓤 H 𝓛.laws 𝓣 code.function) row_walks
 
-pub inquire-row-spec : {M : Type 1} → stated.statement M
+pub inquire_row_spec : {M : Type 1} → stated.statement M
 unfolding code.routine tables_of
-inquire-row-spec 𝓤 𝓛 𝓜 𝓡 =
+inquire_row_spec 𝓤 𝓛 𝓜 𝓡 =
     entered 𝓤 𝓛.H (triple_of 𝓛 self.signature (self.spec 𝓛 𝓜.mem 𝓡.run))
     (tables 𝓤 𝓛.H 𝓜 𝓡 code.env).C (tables 𝓤 𝓛.H 𝓜 𝓡 code.env).Λ #inquire-row code.function (code.unfolded 𝓤 𝓛.H 𝓜 𝓡)
-    (row-meets 𝓛 𝓜.mem 𝓡.run (tables_of 𝓤 𝓛.H 𝓜 (tables 𝓤 𝓛.H 𝓜 𝓡 code.env))
+    (row_meets 𝓛 𝓜.mem 𝓡.run (tables_of 𝓤 𝓛.H 𝓜 (tables 𝓤 𝓛.H 𝓜 𝓡 code.env))
     (cited 𝓤 𝓛.H (Opening 𝓛 𝓜.mem 𝓡.run) 𝓜 𝓡 code.env opening-def.name opening-def.routine code.calls-slots-row::pass::opening (opening-thm.met 𝓤 𝓛 𝓜 𝓡))
     (cited 𝓤 𝓛.H (Turning 𝓛 𝓜.mem 𝓡.run) 𝓜 𝓡 code.env turn-def.name turn-def.routine code.calls-slots-row::pass::turn (turn-thm.met 𝓤 𝓛 𝓜 𝓡)))

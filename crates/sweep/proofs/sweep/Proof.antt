@@ -3,15 +3,15 @@ use mathlib.Core.Bool.{false}
 use borrow.Author.Rules.{rules}
 use lib.ListN.{take}
 use Rattle.sweep_rules.specs.Run.{sweep}
-use Rattle.sweep_steps.specs.Loop.{sweptIf}
-use Rattle.sweep_steps.specs.LoopLaws.{swept-plain}
-use Rattle.sweep.specs.CallLaws.{same-run}
-use Rattle.sweep.proofs.Kept.{loop-fits, promised}
+use Rattle.sweep_steps.specs.Loop.{swept_if}
+use Rattle.sweep_steps.specs.LoopLaws.{swept_plain}
+use Rattle.sweep.specs.CallLaws.{same_run}
+use Rattle.sweep.proofs.Kept.{loop_fits, promised}
 use Rattle.sweep.proofs.sweep.Statement.{statement}
 use Rattle.sweep.proofs.sweep.Tie as tie
 
 call-requires : tie.Need-call-requires
-call-requires c κs = let a = c.before.before.before.before.args in loop-fits (take a.n a.cards)
+call-requires c κs = let a = c.before.before.before.before.args in loop_fits (take a.n a.cards)
 
 same_length : tie.Need-same-length
 same_length c = search rules
@@ -24,8 +24,8 @@ returns c =
     let a = c.before.before.before.before.before.before.before.before.before.args in
     let k = c.before.before.before.before.call in
     promised a.start a.cards a.n a.log.now a.list.now k.result k.new.1.1.1.1.0 k.new.1.1.1.1.1.0
-    (k.ensures.0 ∙ same-run (sweptIf false) sweep a.start a.cards a.n a.log.now a.list.now (swept-plain (take a.n a.cards)))
+    (k.ensures.0 ∙ same_run (swept_if false) sweep a.start a.cards a.n a.log.now a.list.now (swept_plain (take a.n a.cards)))
     k.ensures.1
 
-pub sweep-spec : {M : Type 1} → statement M
-sweep-spec = tie.close (tie.spec call-requires same_length same-length-2 returns)
+pub sweep_spec : {M : Type 1} → statement M
+sweep_spec = tie.close (tie.spec call-requires same_length same-length-2 returns)

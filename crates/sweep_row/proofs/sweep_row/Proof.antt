@@ -69,7 +69,7 @@ use Rattle.sweep_row.specs.contracts.within.turn as turn
 use Rattle.sweep_row.proofs.within.turn.Symbol as turn-def
 use Rattle.sweep_row.proofs.within.turn.Met as turn-thm
 use Rattle.sweep.specs.CallLaws.{Promised}
-use Rattle.sweep_row.specs.Row.{noCard, sweptRow, Ready, Turns}
+use Rattle.sweep_row.specs.Row.{no_card, swept_row, Ready, Turns}
 use Rattle.sweep_row.specs.Under.{Opened, Under, measure}
 use Rattle.sweep_row.proofs.Carried.{promised}
 use Rattle.sweep_row.proofs.Turning as law
@@ -113,17 +113,17 @@ progress = tcons ty_bool (tcons word (tcons R'.mir (tcons ty_bool (tcons word (t
 abbrev turned : Tys
 turned = tcons T'.mir (tcons P'.mir tnil)
 
-abbrev row-ty : Ty
-row-ty = slice_ty (ty_ref (named 0) mut (pointee (T.the_row).written))
+abbrev row_ty : Ty
+row_ty = slice_ty (ty_ref (named 0) mut (pointee (T.the_row).written))
 
-abbrev lent-ty : ℕ → Ty
-lent-ty k = slice_ty (ty_ref (named k) mut (ty_int w8))
+abbrev lent_ty : ℕ → Ty
+lent_ty k = slice_ty (ty_ref (named k) mut (ty_int w8))
 
-abbrev byte-ref : Ty
-byte-ref = ty_ref erased mut (ty_int w8)
+abbrev byte_ref : Ty
+byte_ref = ty_ref erased mut (ty_int w8)
 
-abbrev bytes-ty : Ty
-bytes-ty = slice_ty byte-ref
+abbrev bytes_ty : Ty
+bytes_ty = slice_ty byte_ref
 
 module _ {M : Type 1} {𝓤 : Ura M} (𝓛 : Logic 𝓤) (mem : Memory → SProp 𝓤) (run : Routine → Fun 𝓤) where
   -- the contracts that the proof cites
@@ -171,16 +171,16 @@ module _ {M : Type 1} {𝓤 : Ura M} (𝓛 : Logic 𝓤) (mem : Memory → SProp
   Post = (walk_of 𝓛 self.ended stayed (self.clauses 𝓛 mem run)).post (((κ, (κ₁, (κ₂, tt))), (q, (q₁, (q₂, tt))), tt, x, at), tt)
 
   -- log and list, held
-  abbrev log-at : List ℕ → Item 𝓤
-  log-at lg = ‵ (own_at u8 κ₁ q₁ γ₁ b₁ o₁ (named 1) κ₁ n₁ γ₁ lg)
+  abbrev log_at : List ℕ → Item 𝓤
+  log_at lg = ‵ (own_at u8 κ₁ q₁ γ₁ b₁ o₁ (named 1) κ₁ n₁ γ₁ lg)
 
   abbrev list_at : List ℕ → Item 𝓤
   list_at ls = ‵ (own_at u8 κ₂ q₂ γ₂ b₂ o₂ (named 2) κ₂ n₂ γ₂ ls)
 
   abbrev Out-of : List Card → List ℕ → List ℕ → List (Item 𝓤)
-  Out-of ws lg ls = ‵ (fobs γ ((coded_holeys T.the_row).code (heres T.the_row ws))) ∷ ‵ (fbor κ (Held T.the_row (length ws) b o γ)) ∷ ‵ (flft κ q) ∷ log-at lg ∷ ‵ (flft κ₁ q₁) ∷ list_at ls ∷ ‵ (flft κ₂ q₂) ∷ []
+  Out-of ws lg ls = ‵ (fobs γ ((coded_holeys T.the_row).code (heres T.the_row ws))) ∷ ‵ (fbor κ (Held T.the_row (length ws) b o γ)) ∷ ‵ (flft κ q) ∷ log_at lg ∷ ‵ (flft κ₁ q₁) ∷ list_at ls ∷ ‵ (flft κ₂ q₂) ∷ []
 
-  exits : (ws : List Card) (lg ls : List ℕ) (v : RowSwept) → length ws ≡ n → length lg ≡ n₁ → length ls ≡ n₂ → Promised r ys n log₀ list₀ (sweptRow v ws) lg ls → Is R.the_row v (mswept v ∷ []) → Is E.the_row r (mstart r ∷ []) → Room T.the_row n
+  exits : (ws : List Card) (lg ls : List ℕ) (v : RowSwept) → length ws ≡ n → length lg ≡ n₁ → length ls ≡ n₂ → Promised r ys n log₀ list₀ (swept_row v ws) lg ls → Is R.the_row v (mswept v ∷ []) → Is E.the_row r (mstart r ∷ []) → Room T.the_row n
       → ent 𝓤 (⋆ 𝓛 (Out-of ws lg ls)) (Post (mswept v))
   exits ws lg ls v len len₁ len₂ d gv gr gn =
       qed 𝓛 (Out-of ws lg ls) ∵
@@ -194,42 +194,42 @@ module _ {M : Type 1} {𝓤 : Ura M} (𝓛 : Logic 𝓤) (mem : Memory → SProp
       owned ! R.the_row (Is R.the_row) (LL.makes R.the_type R'.the_plain 𝓛) v _ gv $ done !
 
   -- what the callees' triples bind outside, log and list lent on for ν₁ and ν₂
-  abbrev to-opening : ℕ → GName → ℕ → GName → (Opening 𝓛 mem run).Ghost
-  to-opening ν₁ δ₁ ν₂ δ₂ = (((ν₁ ∷ [], (ν₂ ∷ [], tt)), (full_share, (full_share, tt)), tt, (false, (r, (n, (x₁ δ₁ log₀, (x₂ δ₂ list₀, tt))))), (vbool false ∷ [], (mstart r ∷ [], (vint w64 n ∷ [], (s₁ ∷ [], (s₂ ∷ [], tt)))))), tt)
+  abbrev to_opening : ℕ → GName → ℕ → GName → (Opening 𝓛 mem run).Ghost
+  to_opening ν₁ δ₁ ν₂ δ₂ = (((ν₁ ∷ [], (ν₂ ∷ [], tt)), (full_share, (full_share, tt)), tt, (false, (r, (n, (x₁ δ₁ log₀, (x₂ δ₂ list₀, tt))))), (vbool false ∷ [], (mstart r ∷ [], (vint w64 n ∷ [], (s₁ ∷ [], (s₂ ∷ [], tt)))))), tt)
 
-  abbrev to-turn : ℕ → GName → ℕ → GName → Progress → Card → List ℕ → List ℕ → (Turning 𝓛 mem run).Ghost
-  to-turn ν₁ δ₁ ν₂ δ₂ p c lg ls = (((ν₁ ∷ [], (ν₂ ∷ [], tt)), (full_share, (full_share, tt)), tt, (p, (c, (x₁ δ₁ lg, (x₂ δ₂ ls, tt)))), (mprog p ∷ [], (mcard c ∷ [], (s₁ ∷ [], (s₂ ∷ [], tt))))), tt)
+  abbrev to_turn : ℕ → GName → ℕ → GName → Progress → Card → List ℕ → List ℕ → (Turning 𝓛 mem run).Ghost
+  to_turn ν₁ δ₁ ν₂ δ₂ p c lg ls = (((ν₁ ∷ [], (ν₂ ∷ [], tt)), (full_share, (full_share, tt)), tt, (p, (c, (x₁ δ₁ lg, (x₂ δ₂ ls, tt)))), (mprog p ∷ [], (mcard c ∷ [], (s₁ ∷ [], (s₂ ∷ [], tt))))), tt)
 
   abbrev Lent : ℕ → GName → ℕ → GName → List ℕ → List ℕ → List (Item 𝓤)
   Lent ν₁ δ₁ ν₂ δ₂ lg ls = ‵ (flft (ν₁ ∷ []) full_share) ∷ ‵ (own_at u8 κ₁ q₁ γ₁ b₁ o₁ (named 0) (ν₁ ∷ []) n₁ δ₁ lg) ∷ ‵ (flft (ν₂ ∷ []) full_share) ∷ ‵ (own_at u8 κ₂ q₂ γ₂ b₂ o₂ (named 1) (ν₂ ∷ []) n₂ δ₂ ls) ∷ []
 
-  asks-turn : (ν₁ : ℕ) (δ₁ : GName) (ν₂ : ℕ) (δ₂ : GName) (p : Progress) (c : Card) (lg ls : List ℕ) → Is P.the_row p (mprog p ∷ []) → Is T.the_row c (mcard c ∷ []) → Ready p c lg ls
-      → ent 𝓤 (⋆ 𝓛 (Lent ν₁ δ₁ ν₂ δ₂ lg ls)) ((Turning 𝓛 mem run).pre (to-turn ν₁ δ₁ ν₂ δ₂ p c lg ls))
-  asks-turn ν₁ δ₁ ν₂ δ₂ p c lg ls gp gc ready =
+  asks_turn : (ν₁ : ℕ) (δ₁ : GName) (ν₂ : ℕ) (δ₂ : GName) (p : Progress) (c : Card) (lg ls : List ℕ) → Is P.the_row p (mprog p ∷ []) → Is T.the_row c (mcard c ∷ []) → Ready p c lg ls
+      → ent 𝓤 (⋆ 𝓛 (Lent ν₁ δ₁ ν₂ δ₂ lg ls)) ((Turning 𝓛 mem run).pre (to_turn ν₁ δ₁ ν₂ δ₂ p c lg ls))
+  asks_turn ν₁ δ₁ ν₂ δ₂ p c lg ls gp gc ready =
       qed 𝓛 (Lent ν₁ δ₁ ν₂ δ₂ lg ls) ∵ says ! ready $ nothing ! $ move ! (3 ∷ 0 ∷ []) $ join ! $ move ! (1 ∷ 0 ∷ []) $ join ! $ frame ! $
       nothing ! $ move ! (2 ∷ 0 ∷ []) $ fjoin ! $ move ! (1 ∷ 0 ∷ []) $ fjoin ! $ owned ! T.the_row (Is T.the_row) (LL.makes T.the_type T'.the_plain 𝓛) c _ gc $ fjoin ! $
       owned ! P.the_row (Is P.the_row) (LL.makes P.the_type P'.the_plain 𝓛) p _ gp $ fjoin ! $ done !
 
-  asks-opening : (ν₁ : ℕ) (δ₁ : GName) (ν₂ : ℕ) (δ₂ : GName) → Is E.the_row r (mstart r ∷ []) → Room T.the_row n
-      → ent 𝓤 (⋆ 𝓛 (Lent ν₁ δ₁ ν₂ δ₂ log₀ list₀)) ((Opening 𝓛 mem run).pre (to-opening ν₁ δ₁ ν₂ δ₂))
-  asks-opening ν₁ δ₁ ν₂ δ₂ gr gn =
+  asks_opening : (ν₁ : ℕ) (δ₁ : GName) (ν₂ : ℕ) (δ₂ : GName) → Is E.the_row r (mstart r ∷ []) → Room T.the_row n
+      → ent 𝓤 (⋆ 𝓛 (Lent ν₁ δ₁ ν₂ δ₂ log₀ list₀)) ((Opening 𝓛 mem run).pre (to_opening ν₁ δ₁ ν₂ δ₂))
+  asks_opening ν₁ δ₁ ν₂ δ₂ gr gn =
       qed 𝓛 (Lent ν₁ δ₁ ν₂ δ₂ log₀ list₀) ∵ nothing ! $ move ! (3 ∷ 0 ∷ []) $ join ! $ move ! (1 ∷ 0 ∷ []) $ join ! $
       nothing ! $ move ! (3 ∷ 0 ∷ []) $ fjoin ! $ move ! (2 ∷ 0 ∷ []) $ fjoin ! $ owned ! usize (Is usize) (uint_Makes 𝓛 w64) n _ (refl, gn.0) $ fjoin ! $
       owned ! E.the_row (Is E.the_row) (LL.makes E.the_type E'.the_plain 𝓛) r _ gr $ fjoin ! $ owned ! bool (Is bool) (bool_Makes 𝓛) false _ refl $ fjoin ! $ move ! (1 ∷ 0 ∷ []) $ join ! $ frame ! $ done !
 
   -- log and list as they are lent on, and what is kept of them
-  abbrev log-lent : List ℕ → ℕ → GName → Item 𝓤
-  log-lent lg ν δ = ‵ (flft (ν ∷ []) full_share) ⊛ (‵ (own_at u8 κ₁ q₁ γ₁ b₁ o₁ (named 0) (ν ∷ []) n₁ δ lg) ⊛ ‵ (Kept u8 κ₁ q₁ γ₁ b₁ o₁ n₁ ν δ lg))
+  abbrev log_lent : List ℕ → ℕ → GName → Item 𝓤
+  log_lent lg ν δ = ‵ (flft (ν ∷ []) full_share) ⊛ (‵ (own_at u8 κ₁ q₁ γ₁ b₁ o₁ (named 0) (ν ∷ []) n₁ δ lg) ⊛ ‵ (Kept u8 κ₁ q₁ γ₁ b₁ o₁ n₁ ν δ lg))
 
-  abbrev list-lent : List ℕ → ℕ → GName → Item 𝓤
-  list-lent ls ν δ = ‵ (flft (ν ∷ []) full_share) ⊛ (‵ (own_at u8 κ₂ q₂ γ₂ b₂ o₂ (named 1) (ν ∷ []) n₂ δ ls) ⊛ ‵ (Kept u8 κ₂ q₂ γ₂ b₂ o₂ n₂ ν δ ls))
+  abbrev list_lent : List ℕ → ℕ → GName → Item 𝓤
+  list_lent ls ν δ = ‵ (flft (ν ∷ []) full_share) ⊛ (‵ (own_at u8 κ₂ q₂ γ₂ b₂ o₂ (named 1) (ν ∷ []) n₂ δ ls) ⊛ ‵ (Kept u8 κ₂ q₂ γ₂ b₂ o₂ n₂ ν δ ls))
 
   module _ (𝓣 : Tables 𝓤 H) (known-opening : Triple 𝓤 (𝓣.C opening-def.name) (Opening 𝓛 mem run)) (known-turn : Triple 𝓤 (𝓣.C turn-def.name) (Turning 𝓛 mem run))
       (gn : Room T.the_row n) (gn₁ : Room u8 n₁) (gn₂ : Room u8 n₂) (gr : Is E.the_row r (mstart r ∷ []))
       (l₀ l₁ l₂ l₃ l₄ l₅ l₆ l₇ l₈ l₉ l₁₀ l₁₁ l₁₂ l₁₃ l₁₄ l₁₅ l₁₆ l₁₇ l₁₈ l₁₉ l₂₀ : ℕ) where
     abbrev En : Env 𝓤 H
-    En = (R'.mir, l₀) ∷ (E'.mir, l₁) ∷ (row-ty, l₂) ∷ (lent-ty 1, l₃) ∷ (lent-ty 2, l₄) ∷ (P'.mir, l₅) ∷ (S'.mir, l₆) ∷ (word, l₇) ∷ (byte-ref, l₈) ∷ (bytes-ty, l₉) ∷ (byte-ref, l₁₀) ∷ (bytes-ty, l₁₁)
-        ∷ (ty_bool, l₁₂) ∷ (word, l₁₃) ∷ (ty_ptr, l₁₄) ∷ (T'.mir, l₁₅) ∷ (byte-ref, l₁₆) ∷ (bytes-ty, l₁₇) ∷ (byte-ref, l₁₈) ∷ (bytes-ty, l₁₉) ∷ (ty_ptr, l₂₀) ∷ []
+    En = (R'.mir, l₀) ∷ (E'.mir, l₁) ∷ (row_ty, l₂) ∷ (lent_ty 1, l₃) ∷ (lent_ty 2, l₄) ∷ (P'.mir, l₅) ∷ (S'.mir, l₆) ∷ (word, l₇) ∷ (byte_ref, l₈) ∷ (bytes_ty, l₉) ∷ (byte_ref, l₁₀) ∷ (bytes_ty, l₁₁)
+        ∷ (ty_bool, l₁₂) ∷ (word, l₁₃) ∷ (ty_ptr, l₁₄) ∷ (T'.mir, l₁₅) ∷ (byte_ref, l₁₆) ∷ (bytes_ty, l₁₇) ∷ (byte_ref, l₁₈) ∷ (bytes_ty, l₁₉) ∷ (ty_ptr, l₂₀) ∷ []
 
     abbrev has : Ty → ℕ → Val → Item 𝓤
     has t l v = ‵ (fat full_share t l 0 v)
@@ -239,14 +239,14 @@ module _ {M : Type 1} {𝓤 : Ura M} (𝓛 : Logic 𝓤) (mem : Memory → SProp
 
     -- what no turn touches, from place 19 on
     abbrev Frame : List (Item 𝓤)
-    Frame = vac R'.mir l₀ ∷ vac E'.mir l₁ ∷ vac word l₇ ∷ vac byte-ref l₈ ∷ vac bytes-ty l₉ ∷ vac byte-ref l₁₀ ∷ vac bytes-ty l₁₁
+    Frame = vac R'.mir l₀ ∷ vac E'.mir l₁ ∷ vac word l₇ ∷ vac byte_ref l₈ ∷ vac bytes_ty l₉ ∷ vac byte_ref l₁₀ ∷ vac bytes_ty l₁₁
         ∷ ‵ (fobor κ q (Held T.the_row n b o γ)) ∷ ‵ (fobs γ ((coded_holeys T.the_row).code (heres T.the_row ys))) ∷ ‵ (fauth γ ((coded_holeys T.the_row).code (heres T.the_row ys)))
-        ∷ ‵ (fdies R'.mir l₀) ∷ ‵ (fdies E'.mir l₁) ∷ ‵ (fdies row-ty l₂) ∷ ‵ (fdies (lent-ty 1) l₃) ∷ ‵ (fdies (lent-ty 2) l₄) ∷ ‵ (fdies P'.mir l₅) ∷ ‵ (fdies S'.mir l₆) ∷ ‵ (fdies word l₇) ∷ ‵ (fdies byte-ref l₈) ∷ ‵ (fdies bytes-ty l₉) ∷ ‵ (fdies byte-ref l₁₀) ∷ ‵ (fdies bytes-ty l₁₁)
-        ∷ ‵ (fdies ty_bool l₁₂) ∷ ‵ (fdies word l₁₃) ∷ ‵ (fdies ty_ptr l₁₄) ∷ ‵ (fdies T'.mir l₁₅) ∷ ‵ (fdies byte-ref l₁₆) ∷ ‵ (fdies bytes-ty l₁₇) ∷ ‵ (fdies byte-ref l₁₈) ∷ ‵ (fdies bytes-ty l₁₉) ∷ ‵ (fdies ty_ptr l₂₀) ∷ []
+        ∷ ‵ (fdies R'.mir l₀) ∷ ‵ (fdies E'.mir l₁) ∷ ‵ (fdies row_ty l₂) ∷ ‵ (fdies (lent_ty 1) l₃) ∷ ‵ (fdies (lent_ty 2) l₄) ∷ ‵ (fdies P'.mir l₅) ∷ ‵ (fdies S'.mir l₆) ∷ ‵ (fdies word l₇) ∷ ‵ (fdies byte_ref l₈) ∷ ‵ (fdies bytes_ty l₉) ∷ ‵ (fdies byte_ref l₁₀) ∷ ‵ (fdies bytes_ty l₁₁)
+        ∷ ‵ (fdies ty_bool l₁₂) ∷ ‵ (fdies word l₁₃) ∷ ‵ (fdies ty_ptr l₁₄) ∷ ‵ (fdies T'.mir l₁₅) ∷ ‵ (fdies byte_ref l₁₆) ∷ ‵ (fdies bytes_ty l₁₇) ∷ ‵ (fdies byte_ref l₁₈) ∷ ‵ (fdies bytes_ty l₁₉) ∷ ‵ (fdies ty_ptr l₂₀) ∷ []
 
     abbrev At : Progress → List Card → List ℕ → List ℕ → List (Item 𝓤)
-    At p ws lg ls = ‵ (row T.the_row full_share ws b o) ∷ log-at lg ∷ ‵ (flft κ₁ q₁) ∷ list_at ls ∷ ‵ (flft κ₂ q₂) ∷ has P'.mir l₅ (mprog p) ∷ vac S'.mir l₆ ∷ vac ty_bool l₁₂ ∷ vac word l₁₃ ∷ vac ty_ptr l₁₄ ∷ vac T'.mir l₁₅
-        ∷ vac byte-ref l₁₆ ∷ vac bytes-ty l₁₇ ∷ vac byte-ref l₁₈ ∷ vac bytes-ty l₁₉ ∷ vac ty_ptr l₂₀ ∷ has row-ty l₂ s ∷ has (lent-ty 1) l₃ s₁ ∷ has (lent-ty 2) l₄ s₂ ∷ Frame
+    At p ws lg ls = ‵ (row T.the_row full_share ws b o) ∷ log_at lg ∷ ‵ (flft κ₁ q₁) ∷ list_at ls ∷ ‵ (flft κ₂ q₂) ∷ has P'.mir l₅ (mprog p) ∷ vac S'.mir l₆ ∷ vac ty_bool l₁₂ ∷ vac word l₁₃ ∷ vac ty_ptr l₁₄ ∷ vac T'.mir l₁₅
+        ∷ vac byte_ref l₁₆ ∷ vac bytes_ty l₁₇ ∷ vac byte_ref l₁₈ ∷ vac bytes_ty l₁₉ ∷ vac ty_ptr l₂₀ ∷ has row_ty l₂ s ∷ has (lent_ty 1) l₃ s₁ ∷ has (lent_ty 2) l₄ s₂ ∷ Frame
 
     -- what is known where the loop's test is made, and t bounds the turns to come
     pub record Facts (t : ℕ) (p : Progress) (ws : List Card) (lg ls : List ℕ) : Type 0 where
@@ -266,20 +266,20 @@ module _ {M : Type 1} {𝓤 : Ura M} (𝓛 : Logic 𝓤) (mem : Memory → SProp
     abbrev Left : Out → SProp 𝓤
     Left = after_block 𝓤 H (after_seq 𝓤 H (Wp 𝓤 H 𝓣.C 𝓣.Λ En m.t-8 (at_return 𝓤 H En Post)) (at_return 𝓤 H En Post))
 
-    is-card : (t : Turned) (u : Val) → Is S.the_row t (u ∷ []) → Is T.the_row t.card (mcard t.card ∷ [])
-    is-card t u got = (LL.owed S.the_type S'.the_laws t (u ∷ []) got).0
+    is_card : (t : Turned) (u : Val) → Is S.the_row t (u ∷ []) → Is T.the_row t.card (mcard t.card ∷ [])
+    is_card t u got = (LL.owed S.the_type S'.the_laws t (u ∷ []) got).0
 
-    is-next : (t : Turned) (u : Val) → Is S.the_row t (u ∷ []) → Is P.the_row t.next (mprog t.next ∷ [])
-    is-next t u got = (LL.owed S.the_type S'.the_laws t (u ∷ []) got).1.0
+    is_next : (t : Turned) (u : Val) → Is S.the_row t (u ∷ []) → Is P.the_row t.next (mprog t.next ∷ [])
+    is_next t u got = (LL.owed S.the_type S'.the_laws t (u ∷ []) got).1.0
 
     -- a turn that goes on
-    more : (p : Progress) (ws : List Card) (lg ls : List ℕ) (X : SProp 𝓤) → p.going ≡ true → p.at < length ws → length ws ≡ n → length lg ≡ n₁ → length ls ≡ n₂ → Is P.the_row p (mprog p ∷ []) → Ready p (get_or ws p.at noCard) lg ls
-        → ((t : Turned) (lg' ls' : List ℕ) → Turns p (get_or ws p.at noCard) lg ls t lg' ls' → length lg' ≡ n₁ → length ls' ≡ n₂ → Is P.the_row t.next (mprog t.next ∷ []) → ent 𝓤 (⋆ 𝓛 (At t.next (set ws p.at t.card) lg' ls')) X)
+    more : (p : Progress) (ws : List Card) (lg ls : List ℕ) (X : SProp 𝓤) → p.going ≡ true → p.at < length ws → length ws ≡ n → length lg ≡ n₁ → length ls ≡ n₂ → Is P.the_row p (mprog p ∷ []) → Ready p (get_or ws p.at no_card) lg ls
+        → ((t : Turned) (lg' ls' : List ℕ) → Turns p (get_or ws p.at no_card) lg ls t lg' ls' → length lg' ≡ n₁ → length ls' ≡ n₂ → Is P.the_row t.next (mprog t.next ∷ []) → ent 𝓤 (⋆ 𝓛 (At t.next (set ws p.at t.card) lg' ls')) X)
         → ent 𝓤 (⋆ 𝓛 (At p ws lg ls)) (Wp 𝓤 H 𝓣.C 𝓣.Λ En m.turn-1 (after_turn 𝓤 H X Left))
     unfolding after_turn
     more p ws lg ls X g l len len₁ len₂ gp ready k =
         let i : ℕ = p.at in
-        let c : Card = get_or ws i noCard in
+        let c : Card = get_or ws i no_card in
         let small : i < n = subst (λ (m : ℕ). i < m) len l in
         qed 𝓛 (At p ws lg ls) ∵ exec ! 𝓣.C 𝓣.Λ En m.turn-1 (any_q (after_turn 𝓤 H X Left)) $
         assigns ! (of_opd ! (load ! (from ! (fld ! {τ = ty_bool} {d = 0} refl (stop !))) (look_in ! 5 {τ = ty_bool} (sub ! {τs = progress} 0 {τ = ty_bool} {d = 0} refl (whole !))))) (from ! (stop !)) (init ! 7 refl (tt, tt)) $
@@ -288,19 +288,19 @@ module _ {M : Type 1} {𝓤 : Ura M} (𝓛 : Logic 𝓤) (mem : Memory → SProp
         assigns ! (bin ! (load ! (from ! (fld ! {τ = word} {d = 8} refl (stop !))) (look_in ! 5 {τ = word} (sub ! {τs = progress} 1 {τ = word} {d = 8} refl (whole !)))) (lit ! tt) (scaled_Fits i n size small gn.1)) (from ! (stop !)) (init ! 8 refl (tt, scaled_Fits i n size small gn.1)) $
         assigns ! (bin ! (load ! (from ! (fld ! refl (stop !))) (look_in ! 16 (sub ! 0 refl (whole !)))) (load ! (from ! (stop !)) (look ! 8 refl)) tt) (from ! (stop !)) (init ! 9 refl (tt, tt)) $
         rewrite ! 9 (λ (a : ℕ). has ty_ptr l₁₄ (vptr b a)) (sym (place_is size o i)) refl $
-        elem_out ! T.the_row (Is T.the_row) (shows 𝓛 T.the_row) (LL.vals T.the_type T'.the_laws) (LL.tells T.the_type T'.the_laws) full_share ws i noCard b o l (λ is.
+        elem_out ! T.the_row (Is T.the_row) (shows 𝓛 T.the_row) (LL.vals T.the_type T'.the_laws) (LL.tells T.the_type T'.the_laws) full_share ws i no_card b o l (λ is.
         -- [cards[i]; what it owns; the others; log; its token; list; its token; _5; _6; _12; _13; _14; _15; _16; _17; _18; _19; _20; _2; _3; _4; ...]
         assigns ! (of_opd ! (load ! (from ! (hop ! (look ! 11 refl) (stop !))) (look_raw ! 0 refl))) (from ! (stop !)) (init ! 12 refl ((LL.lawful T.the_type T'.the_laws 𝓛).typed c _ is).0) $
         assigns ! (addr ! (from ! (fld ! refl (hop ! (look_in ! 19 (sub ! 0 refl (whole !))) (stop !))))) (from ! (stop !)) (init ! 13 refl (tt, tt)) $
         assigns ! (agg ! (and_then ! (load ! (from ! (stop !)) (look ! 13 refl)) (and_then ! (load ! (from ! (fld ! refl (stop !))) (look_in ! 19 (sub ! 1 refl (whole !)))) (no_more !)))) (from ! (stop !)) (init ! 14 refl (tt, (tt, (record { fits = gn₁.0 }, tt)))) $
         assigns ! (addr ! (from ! (fld ! refl (hop ! (look_in ! 20 (sub ! 0 refl (whole !))) (stop !))))) (from ! (stop !)) (init ! 15 refl (tt, tt)) $
         assigns ! (agg ! (and_then ! (load ! (from ! (stop !)) (look ! 15 refl)) (and_then ! (load ! (from ! (fld ! refl (stop !))) (look_in ! 20 (sub ! 1 refl (whole !)))) (no_more !)))) (from ! (stop !)) (init ! 16 refl (tt, (tt, (record { fits = gn₂.0 }, tt)))) $
-        move ! (3 ∷ 4 ∷ []) $ use2 𝓛 (later (some (λ (ν : ℕ). some (log-lent lg ν)))) (lends u8 κ₁ q₁ γ₁ b₁ o₁ 𝓛 (named 1) (named 0) lg n₁ len₁) $ await ! tt $ pick ! (λ ν₁. pick ! (λ δ₁. split ! $ move ! (1 ∷ []) $ split ! $
+        move ! (3 ∷ 4 ∷ []) $ use2 𝓛 (later (some (λ (ν : ℕ). some (log_lent lg ν)))) (lends u8 κ₁ q₁ γ₁ b₁ o₁ 𝓛 (named 1) (named 0) lg n₁ len₁) $ await ! tt $ pick ! (λ ν₁. pick ! (λ δ₁. split ! $ move ! (1 ∷ []) $ split ! $
         -- [log lent on; what is kept; ν₁; cards[i]; what it owns; the others; list; its token; ...]
-        move ! (6 ∷ 7 ∷ []) $ use2 𝓛 (later (some (λ (ν : ℕ). some (list-lent ls ν)))) (lends u8 κ₂ q₂ γ₂ b₂ o₂ 𝓛 (named 2) (named 1) ls n₂ len₂) $ await ! tt $ pick ! (λ ν₂. pick ! (λ δ₂. split ! $ move ! (1 ∷ []) $ split ! $
+        move ! (6 ∷ 7 ∷ []) $ use2 𝓛 (later (some (λ (ν : ℕ). some (list_lent ls ν)))) (lends u8 κ₂ q₂ γ₂ b₂ o₂ 𝓛 (named 2) (named 1) ls n₂ len₂) $ await ! tt $ pick ! (λ ν₂. pick ! (λ δ₂. split ! $ move ! (1 ∷ []) $ split ! $
         -- [list lent on; what is kept; ν₂; log lent on; what is kept; ν₁; cards[i]; ...]
-        move ! (5 ∷ 3 ∷ 2 ∷ 0 ∷ []) $ group ! 4 $ use1 𝓛 (raw ((Turning 𝓛 mem run).pre (to-turn ν₁ δ₁ ν₂ δ₂ p c lg ls))) (asks-turn ν₁ δ₁ ν₂ δ₂ p c lg ls gp is ready) $
-        calls_at ! (fm_of 𝓤 H 𝓛.laws 𝓣) (Turning 𝓛 mem run) known-turn (to-turn ν₁ δ₁ ν₂ δ₂ p c lg ls)
+        move ! (5 ∷ 3 ∷ 2 ∷ 0 ∷ []) $ group ! 4 $ use1 𝓛 (raw ((Turning 𝓛 mem run).pre (to_turn ν₁ δ₁ ν₂ δ₂ p c lg ls))) (asks_turn ν₁ δ₁ ν₂ δ₂ p c lg ls gp is ready) $
+        calls_at ! (fm_of 𝓤 H 𝓛.laws 𝓣) (Turning 𝓛 mem run) known-turn (to_turn ν₁ δ₁ ν₂ δ₂ p c lg ls)
         (and_then ! (load ! (from ! (stop !)) (look ! 6 refl)) (and_then ! (load ! (from ! (stop !)) (look ! 11 refl)) (and_then ! (load ! (from ! (stop !)) (look ! 13 refl)) (and_then ! (load ! (from ! (stop !)) (look ! 15 refl)) (no_more !))))) (λ u.
         use1 𝓛 (later (some (λ (t : Turned). ((‵ (flft (ν₁ ∷ []) full_share) ⊛ (‵ (flft (ν₂ ∷ []) full_share) ⊛ ‵ ftrue)) ⊛ ‵ ((S.the_row).own_val t (u ∷ [])))
         ⊛ raw (ensured 𝓛 turn.ended (turn.clauses 𝓛 mem run) (ν₁ ∷ [], (ν₂ ∷ [], tt)) (p, (c, (x₁ δ₁ lg, (x₂ δ₂ ls, tt)))) tt t)))) (id⊢ 𝓤 _) $ await ! tt $ pick ! (λ t.
@@ -313,20 +313,20 @@ module _ {M : Type 1} {𝓤 : Ura M} (𝓛 : Logic 𝓤) (mem : Memory → SProp
         land ! (from ! (stop !)) (init ! 13 refl ((LL.lawful S.the_type S'.the_laws 𝓛).typed t _ got).0) $
         rewrite ! 13 (λ (w : Val). has S'.mir l₆ w) (ap only (LL.tells S.the_type S'.the_laws t (u ∷ []) got)) refl $ drop ! $
         move ! (0 ∷ 6 ∷ 3 ∷ []) $ use3 𝓛 (later (list_at zs.1.1.1.0 ⊛ ‵ (flft κ₂ q₂))) (backs u8 κ₂ q₂ γ₂ b₂ o₂ 𝓛 (named 2) (named 1) ls ν₂ δ₂ zs.1.1.1.0 n₂ len₂ e₂ gn₂) $ await ! tt $ split ! $
-        move ! (3 ∷ 6 ∷ 5 ∷ []) $ use3 𝓛 (later (log-at zs.1.1.0 ⊛ ‵ (flft κ₁ q₁))) (backs u8 κ₁ q₁ γ₁ b₁ o₁ 𝓛 (named 1) (named 0) lg ν₁ δ₁ zs.1.1.0 n₁ len₁ e₁ gn₁) $ await ! tt $ split ! $
+        move ! (3 ∷ 6 ∷ 5 ∷ []) $ use3 𝓛 (later (log_at zs.1.1.0 ⊛ ‵ (flft κ₁ q₁))) (backs u8 κ₁ q₁ γ₁ b₁ o₁ 𝓛 (named 1) (named 0) lg ν₁ δ₁ zs.1.1.0 n₁ len₁ e₁ gn₁) $ await ! tt $ split ! $
         move ! (4 ∷ 5 ∷ []) $ drop ! $ drop ! $ move ! (4 ∷ 5 ∷ 6 ∷ []) $
         -- [cards[i]; what it owned; the others; log; its token; list; its token; _5; _6; _12; _13; _14; _15; _16; _17; _18; _19; _20; _2; _3; _4; ...]
         assigns ! (bin ! (load ! (from ! (fld ! {τ = word} {d = 8} refl (stop !))) (look_in ! 7 {τ = word} (sub ! {τs = progress} 1 {τ = word} {d = 8} refl (whole !)))) (lit ! tt) (scaled_Fits i n size small gn.1)) (from ! (stop !)) (store ! 10 refl (tt, scaled_Fits i n size small gn.1)) $
         assigns ! (bin ! (load ! (from ! (fld ! refl (stop !))) (look_in ! 18 (sub ! 0 refl (whole !)))) (load ! (from ! (stop !)) (look ! 10 refl)) tt) (from ! (stop !)) (init ! 17 refl (tt, tt)) $
         rewrite ! 17 (λ (a : ℕ). has ty_ptr l₂₀ (vptr b a)) (sym (place_is size o i)) refl $
-        assigns ! (of_opd ! (load ! (from ! (fld ! {τ = T'.mir} {d = 0} refl (stop !))) (look_in ! 8 {τ = T'.mir} (sub ! {τs = turned} 0 {τ = T'.mir} {d = 0} refl (whole !))))) (from ! (hop ! (look ! 17 refl) (stop !))) (store_raw ! 0 refl ((LL.lawful T.the_type T'.the_laws 𝓛).typed t.card _ (is-card t u got)).0) $
-        move ! (1 ∷ []) $ drop ! $ owned ! T.the_row (Is T.the_row) (LL.makes T.the_type T'.the_plain 𝓛) t.card _ (is-card t u got) $ move ! (1 ∷ 0 ∷ []) $ elem_put ! T.the_row full_share ws i t.card (mcard t.card ∷ []) b o l $
-        assigns_last ! (of_opd ! (load ! (from ! (fld ! {τ = P'.mir} {d = 16} refl (stop !))) (look_in ! 6 {τ = P'.mir} (sub ! {τs = turned} 1 {τ = P'.mir} {d = 16} refl (whole !))))) (from ! (stop !)) (store ! 5 refl ((LL.lawful P.the_type P'.the_laws 𝓛).typed t.next _ (is-next t u got)).0) $
+        assigns ! (of_opd ! (load ! (from ! (fld ! {τ = T'.mir} {d = 0} refl (stop !))) (look_in ! 8 {τ = T'.mir} (sub ! {τs = turned} 0 {τ = T'.mir} {d = 0} refl (whole !))))) (from ! (hop ! (look ! 17 refl) (stop !))) (store_raw ! 0 refl ((LL.lawful T.the_type T'.the_laws 𝓛).typed t.card _ (is_card t u got)).0) $
+        move ! (1 ∷ []) $ drop ! $ owned ! T.the_row (Is T.the_row) (LL.makes T.the_type T'.the_plain 𝓛) t.card _ (is_card t u got) $ move ! (1 ∷ 0 ∷ []) $ elem_put ! T.the_row full_share ws i t.card (mcard t.card ∷ []) b o l $
+        assigns_last ! (of_opd ! (load ! (from ! (fld ! {τ = P'.mir} {d = 16} refl (stop !))) (look_in ! 6 {τ = P'.mir} (sub ! {τs = turned} 1 {τ = P'.mir} {d = 16} refl (whole !))))) (from ! (stop !)) (store ! 5 refl ((LL.lawful P.the_type P'.the_laws 𝓛).typed t.next _ (is_next t u got)).0) $
         forget ! 6 refl $ forget ! 7 refl $ forget ! 8 refl $ forget ! 9 refl $ forget ! 10 refl $ forget ! 11 refl $ forget ! 12 refl $ forget ! 13 refl $ forget ! 14 refl $ forget ! 15 refl $
-        by ! (k t zs.1.1.0 zs.1.1.1.0 e (e₁ ∙ len₁) (e₂ ∙ len₂) (is-next t u got))))))))))))))
+        by ! (k t zs.1.1.0 zs.1.1.1.0 e (e₁ ∙ len₁) (e₂ ∙ len₂) (is_next t u got))))))))))))))
 
     -- the turn that leaves the loop, and the rest of the body
-    ends : (p : Progress) (ws : List Card) (lg ls : List ℕ) (X : SProp 𝓤) → p.going ≡ false → length ws ≡ n → length lg ≡ n₁ → length ls ≡ n₂ → Is P.the_row p (mprog p ∷ []) → Promised r ys n log₀ list₀ (sweptRow p.swept ws) lg ls
+    ends : (p : Progress) (ws : List Card) (lg ls : List ℕ) (X : SProp 𝓤) → p.going ≡ false → length ws ≡ n → length lg ≡ n₁ → length ls ≡ n₂ → Is P.the_row p (mprog p ∷ []) → Promised r ys n log₀ list₀ (swept_row p.swept ws) lg ls
         → ent 𝓤 (⋆ 𝓛 (At p ws lg ls)) (Wp 𝓤 H 𝓣.C 𝓣.Λ En m.turn-1 (after_turn 𝓤 H X Left))
     unfolding after_turn
     ends p ws lg ls X g len len₁ len₂ gp d =
@@ -356,7 +356,7 @@ module _ {M : Type 1} {𝓤 : Ura M} (𝓛 : Logic 𝓤) (mem : Memory → SProp
     turn_at t p ws lg ls f = go p.going refl
       where
         go : (g : Bool) → p.going ≡ g → ent 𝓤 (⋆ 𝓛 (At p ws lg ls)) (Wp 𝓤 H 𝓣.C 𝓣.Λ En m.turn-1 (after_turn 𝓤 H (Below t) Left))
-        go false g = ends p ws lg ls (Below t) g f.rows f.logs f.lists f.is (promised r ys log₀ list₀ (sweptRow p.swept ws) lg ls (law.ended false r ys log₀ list₀ p ws lg ls f.under g))
+        go false g = ends p ws lg ls (Below t) g f.rows f.logs f.lists f.is (promised r ys log₀ list₀ (swept_row p.swept ws) lg ls (law.ended false r ys log₀ list₀ p ws lg ls f.under g))
         go true g = more p ws lg ls (Below t) g (subst (λ (m : ℕ). p.at < m) (sym f.rows) (law.here false r ys log₀ list₀ p ws lg ls f.under g)) f.rows f.logs f.lists f.is (law.ready false r ys log₀ list₀ p ws lg ls f.under g) (λ k lg' ls' e e₁ e₂ gk.
             let less : measure k.next < t = subst (λ (j : ℕ). measure k.next < j) f.turns (law.fewer false r ys log₀ list₀ p ws lg ls f.under g k lg' ls' e) in
             via 𝓤 (Inv (measure k.next)) (inv_at (measure k.next) k.next (set ws p.at k.card) lg' ls'
@@ -372,7 +372,7 @@ module _ {M : Type 1} {𝓤 : Ura M} (𝓛 : Logic 𝓤) (mem : Memory → SProp
 
     -- what stands in memory once the parameters are passed
     abbrev Passed : List (Item 𝓤)
-    Passed = vac ty_ptr l₂₀ ∷ ‵ (fdies ty_ptr l₂₀) ∷ vac bytes-ty l₁₉ ∷ ‵ (fdies bytes-ty l₁₉) ∷ vac byte-ref l₁₈ ∷ ‵ (fdies byte-ref l₁₈) ∷ vac bytes-ty l₁₇ ∷ ‵ (fdies bytes-ty l₁₇) ∷ vac byte-ref l₁₆ ∷ ‵ (fdies byte-ref l₁₆) ∷ vac T'.mir l₁₅ ∷ ‵ (fdies T'.mir l₁₅) ∷ vac ty_ptr l₁₄ ∷ ‵ (fdies ty_ptr l₁₄) ∷ vac word l₁₃ ∷ ‵ (fdies word l₁₃) ∷ vac ty_bool l₁₂ ∷ ‵ (fdies ty_bool l₁₂) ∷ vac bytes-ty l₁₁ ∷ ‵ (fdies bytes-ty l₁₁) ∷ vac byte-ref l₁₀ ∷ ‵ (fdies byte-ref l₁₀) ∷ vac bytes-ty l₉ ∷ ‵ (fdies bytes-ty l₉) ∷ vac byte-ref l₈ ∷ ‵ (fdies byte-ref l₈) ∷ vac word l₇ ∷ ‵ (fdies word l₇) ∷ vac S'.mir l₆ ∷ ‵ (fdies S'.mir l₆) ∷ vac P'.mir l₅ ∷ ‵ (fdies P'.mir l₅) ∷ has (lent-ty 2) l₄ s₂ ∷ ‵ (fdies (lent-ty 2) l₄) ∷ has (lent-ty 1) l₃ s₁ ∷ ‵ (fdies (lent-ty 1) l₃) ∷ has row-ty l₂ s ∷ ‵ (fdies row-ty l₂) ∷ has E'.mir l₁ (mstart r) ∷ ‵ (fdies E'.mir l₁) ∷ vac R'.mir l₀ ∷ ‵ (fdies R'.mir l₀)
+    Passed = vac ty_ptr l₂₀ ∷ ‵ (fdies ty_ptr l₂₀) ∷ vac bytes_ty l₁₉ ∷ ‵ (fdies bytes_ty l₁₉) ∷ vac byte_ref l₁₈ ∷ ‵ (fdies byte_ref l₁₈) ∷ vac bytes_ty l₁₇ ∷ ‵ (fdies bytes_ty l₁₇) ∷ vac byte_ref l₁₆ ∷ ‵ (fdies byte_ref l₁₆) ∷ vac T'.mir l₁₅ ∷ ‵ (fdies T'.mir l₁₅) ∷ vac ty_ptr l₁₄ ∷ ‵ (fdies ty_ptr l₁₄) ∷ vac word l₁₃ ∷ ‵ (fdies word l₁₃) ∷ vac ty_bool l₁₂ ∷ ‵ (fdies ty_bool l₁₂) ∷ vac bytes_ty l₁₁ ∷ ‵ (fdies bytes_ty l₁₁) ∷ vac byte_ref l₁₀ ∷ ‵ (fdies byte_ref l₁₀) ∷ vac bytes_ty l₉ ∷ ‵ (fdies bytes_ty l₉) ∷ vac byte_ref l₈ ∷ ‵ (fdies byte_ref l₈) ∷ vac word l₇ ∷ ‵ (fdies word l₇) ∷ vac S'.mir l₆ ∷ ‵ (fdies S'.mir l₆) ∷ vac P'.mir l₅ ∷ ‵ (fdies P'.mir l₅) ∷ has (lent_ty 2) l₄ s₂ ∷ ‵ (fdies (lent_ty 2) l₄) ∷ has (lent_ty 1) l₃ s₁ ∷ ‵ (fdies (lent_ty 1) l₃) ∷ has row_ty l₂ s ∷ ‵ (fdies row_ty l₂) ∷ has E'.mir l₁ (mstart r) ∷ ‵ (fdies E'.mir l₁) ∷ vac R'.mir l₀ ∷ ‵ (fdies R'.mir l₀)
         ∷ (‵ (flft κ q) ⊛ (‵ (flft κ₁ q₁) ⊛ (‵ (flft κ₂ q₂) ⊛ ‵ ftrue))) ∷ ‵ (owns (E.the_row ∷ MutSlice (named 0) κ T.the_row ∷ MutSlice (named 1) κ₁ u8 ∷ MutSlice (named 2) κ₂ u8 ∷ []) x at) ∷ []
 
     begins : Sq 𝓛 Passed (runs 𝓣.C 𝓣.Λ En m.t-1 (at_ret En Post))
@@ -387,10 +387,10 @@ module _ {M : Type 1} {𝓤 : Ura M} (𝓛 : Logic 𝓤) (mem : Memory → SProp
         -- [the row; the open borrow; obs; auth; the other tokens; log and list; the locals]
         move ! (4 ∷ []) $ split ! $ move ! (1 ∷ []) $ split ! $ move ! (7 ∷ []) $ fsplit ! $ move ! (1 ∷ []) $ fsplit ! $ move ! (1 ∷ 4 ∷ []) $ drop ! $ drop ! $
         -- [list; log; list's token; log's token; the row; the open borrow; obs; auth; the locals]
-        move ! (1 ∷ 3 ∷ []) $ use2 𝓛 (later (some (λ (ν : ℕ). some (log-lent log₀ ν)))) (lends u8 κ₁ q₁ γ₁ b₁ o₁ 𝓛 (named 1) (named 0) log₀ n₁ refl) $ await ! tt $ pick ! (λ ν₁. pick ! (λ δ₁. split ! $ move ! (1 ∷ []) $ split ! $
-        move ! (3 ∷ 4 ∷ []) $ use2 𝓛 (later (some (λ (ν : ℕ). some (list-lent list₀ ν)))) (lends u8 κ₂ q₂ γ₂ b₂ o₂ 𝓛 (named 2) (named 1) list₀ n₂ refl) $ await ! tt $ pick ! (λ ν₂. pick ! (λ δ₂. split ! $ move ! (1 ∷ []) $ split ! $
-        move ! (5 ∷ 3 ∷ 2 ∷ 0 ∷ []) $ group ! 4 $ use1 𝓛 (raw ((Opening 𝓛 mem run).pre (to-opening ν₁ δ₁ ν₂ δ₂))) (asks-opening ν₁ δ₁ ν₂ δ₂ gr gn) $
-        calls_at ! (fm_of 𝓤 H 𝓛.laws 𝓣) (Opening 𝓛 mem run) known-opening (to-opening ν₁ δ₁ ν₂ δ₂)
+        move ! (1 ∷ 3 ∷ []) $ use2 𝓛 (later (some (λ (ν : ℕ). some (log_lent log₀ ν)))) (lends u8 κ₁ q₁ γ₁ b₁ o₁ 𝓛 (named 1) (named 0) log₀ n₁ refl) $ await ! tt $ pick ! (λ ν₁. pick ! (λ δ₁. split ! $ move ! (1 ∷ []) $ split ! $
+        move ! (3 ∷ 4 ∷ []) $ use2 𝓛 (later (some (λ (ν : ℕ). some (list_lent list₀ ν)))) (lends u8 κ₂ q₂ γ₂ b₂ o₂ 𝓛 (named 2) (named 1) list₀ n₂ refl) $ await ! tt $ pick ! (λ ν₂. pick ! (λ δ₂. split ! $ move ! (1 ∷ []) $ split ! $
+        move ! (5 ∷ 3 ∷ 2 ∷ 0 ∷ []) $ group ! 4 $ use1 𝓛 (raw ((Opening 𝓛 mem run).pre (to_opening ν₁ δ₁ ν₂ δ₂))) (asks_opening ν₁ δ₁ ν₂ δ₂ gr gn) $
+        calls_at ! (fm_of 𝓤 H 𝓛.laws 𝓣) (Opening 𝓛 mem run) known-opening (to_opening ν₁ δ₁ ν₂ δ₂)
         (and_then ! (false_lit !) (and_then ! (load ! (from ! (stop !)) (look ! 45 refl)) (and_then ! (load ! (from ! (stop !)) (look ! 33 refl)) (and_then ! (load ! (from ! (stop !)) (look ! 29 refl)) (and_then ! (load ! (from ! (stop !)) (look ! 25 refl)) (no_more !)))))) (λ u.
         use1 𝓛 (later (some (λ (p : Progress). ((‵ (flft (ν₁ ∷ []) full_share) ⊛ (‵ (flft (ν₂ ∷ []) full_share) ⊛ ‵ ftrue)) ⊛ ‵ ((P.the_row).own_val p (u ∷ [])))
         ⊛ raw (ensured 𝓛 opening.ended (opening.clauses 𝓛 mem run) (ν₁ ∷ [], (ν₂ ∷ [], tt)) (false, (r, (n, (x₁ δ₁ log₀, (x₂ δ₂ list₀, tt))))) tt p)))) (id⊢ 𝓤 _) $ await ! tt $ pick ! (λ p.
@@ -401,7 +401,7 @@ module _ {M : Type 1} {𝓤 : Ura M} (𝓛 : Logic 𝓤) (mem : Memory → SProp
         land ! (from ! (stop !)) (init ! 43 refl ((LL.lawful P.the_type P'.the_laws 𝓛).typed p _ got).0) $
         rewrite ! 43 (λ (w : Val). has P'.mir l₅ w) (ap only (LL.tells P.the_type P'.the_laws p (u ∷ []) got)) refl $ drop ! $
         move ! (0 ∷ 6 ∷ 3 ∷ []) $ use3 𝓛 (later (list_at zs.1.1.1.1.0 ⊛ ‵ (flft κ₂ q₂))) (backs u8 κ₂ q₂ γ₂ b₂ o₂ 𝓛 (named 2) (named 1) list₀ ν₂ δ₂ zs.1.1.1.1.0 n₂ refl e₂ gn₂) $ await ! tt $ split ! $
-        move ! (3 ∷ 6 ∷ 5 ∷ []) $ use3 𝓛 (later (log-at zs.1.1.1.0 ⊛ ‵ (flft κ₁ q₁))) (backs u8 κ₁ q₁ γ₁ b₁ o₁ 𝓛 (named 1) (named 0) log₀ ν₁ δ₁ zs.1.1.1.0 n₁ refl e₁ gn₁) $ await ! tt $ split ! $
+        move ! (3 ∷ 6 ∷ 5 ∷ []) $ use3 𝓛 (later (log_at zs.1.1.1.0 ⊛ ‵ (flft κ₁ q₁))) (backs u8 κ₁ q₁ γ₁ b₁ o₁ 𝓛 (named 1) (named 0) log₀ ν₁ δ₁ zs.1.1.1.0 n₁ refl e₁ gn₁) $ await ! tt $ split ! $
         move ! (4 ∷ 5 ∷ []) $ drop ! $ drop ! $ forget ! 46 refl $ forget ! 34 refl $ forget ! 32 refl $ forget ! 30 refl $ forget ! 28 refl $ forget ! 26 refl $
         keep ! (4 ∷ 0 ∷ 1 ∷ 2 ∷ 3 ∷ 38 ∷ 36 ∷ 24 ∷ 22 ∷ 20 ∷ 18 ∷ 16 ∷ 14 ∷ 12 ∷ 10 ∷ 8 ∷ 44 ∷ 42 ∷ 40 ∷ 48 ∷ 46 ∷ 34 ∷ 32 ∷ 30 ∷ 28 ∷ 26 ∷ 5 ∷ 6 ∷ 7 ∷ 49 ∷ 47 ∷ 45 ∷ 43 ∷ 41 ∷ 39 ∷ 37 ∷ 35 ∷ 33 ∷ 31 ∷ 29 ∷ 27 ∷ 25 ∷ 23 ∷ 21 ∷ 19 ∷ 17 ∷ 15 ∷ 13 ∷ 11 ∷ 9 ∷ []) $
         by ! (loops p zs.1.1.1.0 zs.1.1.1.1.0 e e₁ e₂ (subst (λ (vs : List Val). Is P.the_row p vs) (LL.tells P.the_type P'.the_laws p (u ∷ []) got) got)))))))))))))
@@ -420,8 +420,8 @@ module _ {M : Type 1} {𝓤 : Ura M} (𝓛 : Logic 𝓤) (mem : Memory → SProp
     (known-opening : Triple 𝓤 (𝓣.C opening-def.name) (Opening 𝓛 mem run)) (known-turn : Triple 𝓤 (𝓣.C turn-def.name) (Turning 𝓛 mem run)) where
   open 𝓛 use {H}
 
-  row-walks : Walks 𝓛 self.ended stayed (WpFn 𝓤 H 𝓣.C 𝓣.Λ code.function) (self.clauses 𝓛 mem run)
-  row-walks = walked 𝓛 self.ended stayed (self.clauses 𝓛 mem run) (WpFn 𝓤 H 𝓣.C 𝓣.Λ code.function)
+  row_walks : Walks 𝓛 self.ended stayed (WpFn 𝓤 H 𝓣.C 𝓣.Λ code.function) (self.clauses 𝓛 mem run)
+  row_walks = walked 𝓛 self.ended stayed (self.clauses 𝓛 mem run) (WpFn 𝓤 H 𝓣.C 𝓣.Λ code.function)
       (λ κs. (LL.vals E.the_type E'.the_laws, (mut_slice_vals, (mut_slice_vals, (mut_slice_vals, tt)))))
       (λ κs. (LL.tells E.the_type E'.the_laws, (mut_slice_Tells (named 0) κs.0 T.the_row, (mut_slice_Tells (named 1) κs.1.0 u8, (mut_slice_Tells (named 2) κs.1.1.0 u8, tt)))))
       (λ κs qs bounds a g are. via 𝓤 _ (fst∗ 𝓤 _ (emp 𝓤))
@@ -429,16 +429,16 @@ module _ {M : Type 1} {𝓤 : Ura M} (𝓛 : Logic 𝓤) (mem : Memory → SProp
       a.1.1.0.ref_ptr.0 a.1.1.0.ref_ptr.1 a.1.1.0.ghost_name a.1.1.0.now a.1.1.1.0.ref_ptr.0 a.1.1.1.0.ref_ptr.1 a.1.1.1.0.ghost_name a.1.1.1.0.now a.0
       𝓣 known-opening known-turn are.1.0.0.1 are.1.1.0.0.1 are.1.1.1.0.0.1 are.0))
 
-  row-meets : Meets 𝓛 self.signature (WpFn 𝓤 H 𝓣.C 𝓣.Λ code.function) (self.spec 𝓛 mem run)
-  row-meets =
+  row_meets : Meets 𝓛 self.signature (WpFn 𝓤 H 𝓣.C 𝓣.Λ code.function) (self.spec 𝓛 mem run)
+  row_meets =
       walk_Meets 𝓛 self.ended stayed (Goes-none 𝓛 3 (λ _. E.the_row) yes (λ κs x f. refl), (Goes-slice 𝓛 3 0 tt (plain (λ _. T.the_row)), (Goes-slice 𝓛 3 1 tt (plain (λ _. u8)), (Goes-slice 𝓛 3 2 tt (plain (λ _. u8)), tt)))) (self.clauses 𝓛 mem run)
-      (WpFn 𝓤 H 𝓣.C 𝓣.Λ code.function) (WpFn-mono 𝓤 H 𝓛.laws 𝓣 code.function) row-walks
+      (WpFn 𝓤 H 𝓣.C 𝓣.Λ code.function) (WpFn-mono 𝓤 H 𝓛.laws 𝓣 code.function) row_walks
 
-pub sweep-row-spec : {M : Type 1} → stated.statement M
+pub sweep_row_spec : {M : Type 1} → stated.statement M
 unfolding code.routine tables_of
-sweep-row-spec 𝓤 𝓛 𝓜 𝓡 =
+sweep_row_spec 𝓤 𝓛 𝓜 𝓡 =
     entered 𝓤 𝓛.H (triple_of 𝓛 self.signature (self.spec 𝓛 𝓜.mem 𝓡.run))
     (tables 𝓤 𝓛.H 𝓜 𝓡 code.env).C (tables 𝓤 𝓛.H 𝓜 𝓡 code.env).Λ #sweep-row code.function (code.unfolded 𝓤 𝓛.H 𝓜 𝓡)
-    (row-meets 𝓛 𝓜.mem 𝓡.run (tables_of 𝓤 𝓛.H 𝓜 (tables 𝓤 𝓛.H 𝓜 𝓡 code.env))
+    (row_meets 𝓛 𝓜.mem 𝓡.run (tables_of 𝓤 𝓛.H 𝓜 (tables 𝓤 𝓛.H 𝓜 𝓡 code.env))
     (cited 𝓤 𝓛.H (Opening 𝓛 𝓜.mem 𝓡.run) 𝓜 𝓡 code.env opening-def.name opening-def.routine code.calls-sweep-row::within::opening (opening-thm.met 𝓤 𝓛 𝓜 𝓡))
     (cited 𝓤 𝓛.H (Turning 𝓛 𝓜.mem 𝓡.run) 𝓜 𝓡 code.env turn-def.name turn-def.routine code.calls-sweep-row::within::turn (turn-thm.met 𝓤 𝓛 𝓜 𝓡)))

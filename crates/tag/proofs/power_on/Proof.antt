@@ -12,5 +12,5 @@ with-state-requires c κs = search rules
 returns : tie.Need-returns
 returns c = rw (c.with-state.ensures, c.before.powered.ensures)
 
-pub power-on-spec : {M : Type 1} → statement M
-power-on-spec = tie.close (tie.spec powered-requires with-state-requires returns)
+pub power_on_spec : {M : Type 1} → statement M
+power_on_spec = tie.close (tie.spec powered-requires with-state-requires returns)

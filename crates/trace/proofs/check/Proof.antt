@@ -1,7 +1,7 @@
 use mathlib.Core.Path.{◌∙◌, ap, sym}
 use borrow.Author.Rules.{rules}
-use Rattle.rows.specs.ListLaws.{bytes-at}
-use Rattle.trace_rules.specs.Check.{checkedSays}
+use Rattle.rows.specs.ListLaws.{bytes_at_law}
+use Rattle.trace_rules.specs.Check.{checked_says}
 use Rattle.trace_rules.specs.FaithLaws.{faithful, says}
 use Rattle.trace.proofs.check.Statement.{statement}
 use Rattle.trace.proofs.check.Tie as tie
@@ -13,7 +13,7 @@ returns : tie.Need-returns
 returns c =
     let s = c.before.before.args.input.now in
     let e = c.check-input.ensures in
-    (e, (ap checkedSays e ∙ says s, rw e (faithful s (bytes-at s c.before.shared-slice-known.given))))
+    (e, (ap checked_says e ∙ says s, rw e (faithful s (bytes_at_law s c.before.shared-slice-known.given))))
 
-pub check-spec : {M : Type 1} → statement M
-check-spec = tie.close (tie.spec check-input-requires returns)
+pub check_spec : {M : Type 1} → statement M
+check_spec = tie.close (tie.spec check-input-requires returns)

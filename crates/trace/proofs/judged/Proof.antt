@@ -8,5 +8,5 @@ replay-requires c κs = search rules
 returns : tie.Need-returns
 returns c = rw c.replay.ensures
 
-pub judged-spec : {M : Type 1} → statement M
-judged-spec = tie.close (tie.spec replay-requires returns)
+pub judged_spec : {M : Type 1} → statement M
+judged_spec = tie.close (tie.spec replay-requires returns)

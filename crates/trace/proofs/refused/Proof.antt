@@ -16,5 +16,5 @@ returns : tie.Need-returns
 unfolding refused
 returns c = c.checked.ensures ∙ ap (checked (Fault 0 c.before.before.args.e)) c.before.start.ensures
 
-pub refused-spec : {M : Type 1} → statement M
-refused-spec = tie.close (tie.spec start-requires checked-requires returns)
+pub refused_spec : {M : Type 1} → statement M
+refused_spec = tie.close (tie.spec start-requires checked-requires returns)

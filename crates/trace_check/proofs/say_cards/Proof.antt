@@ -39,8 +39,8 @@ loop-again c = omega arith
 returns : tie.Need-returns invariant-loop decreases-loop
 returns c = tt
 
-pub say-cards-spec : {M : Type 1} → statement M
-say-cards-spec =
+pub say_cards_spec : {M : Type 1} → statement M
+say_cards_spec =
     tie.close
     (tie.spec
     invariant-loop

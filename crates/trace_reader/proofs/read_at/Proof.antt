@@ -38,7 +38,7 @@ use denote.Triple.Table.{entered, cited}
 use denote.Triple.Walked.{says, Stays, stay_none, stay_none_slice, walk_of, Goes-none, Goes-none_slice, Walks, ends_at, walked, walk_Meets}
 use denote.Exit.{yes}
 use denote.Triple.Clauses.{ensured, lasts}
-use Rattle.log.specs.Reading.{recordAt}
+use Rattle.log.specs.Reading.{record_at}
 use Rattle.trace_reader.specs.declared.Trace.{Trace}
 use Rattle.log.specs.declared.Record.{Record}
 use Rattle.trace_reader.specs.contracts.Trace as T
@@ -54,7 +54,7 @@ use Rattle.trace_reader.proofs.next_record.Symbol as next-def
 use Rattle.trace_reader.proofs.next_record.Symbol.{name as #trace-reader·next-record}
 use Rattle.trace_reader.proofs.next_record.Met as next-thm
 use Rattle.trace_reader.specs.contracts.read_at.Key.{name as #trace-reader·read-at}
-use Rattle.trace_reader.specs.contracts.read_at as read_at
+use Rattle.trace_reader.specs.contracts.read_at as read_at_law
 use Rattle.trace_reader.proofs.read_at.Statement as stated
 use Rattle.trace_reader.proofs.read_at.Code as code
 
@@ -62,7 +62,7 @@ use Rattle.trace_reader.proofs.read_at.Code as code
 abbrev B : Lfts 1 → RattleType
 B κs = T.the_row (named_lft 1 0 tt κs)
 
-abbrev stayed : Stays (read_at.ended).signature.params (read_at.ended).kept
+abbrev stayed : Stays (read_at_law.ended).signature.params (read_at_law.ended).kept
 stayed = (stay_none_slice (0 ∷ []) tt (plain (λ _. u8)) yes, (stay_none (λ _. usize) yes, (stay_none (λ _. usize) yes, tt)))
 
 module _ {M : Type 1} {𝓤 : Ura M} (𝓛 : Logic 𝓤) (mem : Memory → SProp 𝓤) (run : Routine → Fun 𝓤) where
@@ -81,9 +81,9 @@ module _ {M : Type 1} {𝓤 : Ura M} (𝓛 : Logic 𝓤) (mem : Memory → SProp
   v = slice_val s.ref_ptr (length s.now)
 
   abbrev found : Record
-  found = recordAt n s.now m
+  found = record_at n s.now m
 
-  abbrev at : Vals read_at.signature (κ, tt)
+  abbrev at : Vals read_at_law.signature (κ, tt)
   at = (v ∷ [], (vint w64 n ∷ [], (vint w64 m ∷ [], tt)))
 
   -- the struct's type as a local of a body has it
@@ -91,82 +91,82 @@ module _ {M : Type 1} {𝓤 : Ura M} (𝓛 : Logic 𝓤) (mem : Memory → SProp
   αᵉ = record { mir = erased; lft = κ }
 
   abbrev Post : Val → SProp 𝓤
-  Post = (walk_of 𝓛 read_at.ended stayed (read_at.clauses 𝓛 mem run)).post (((κ, tt), (q, tt), tt, (s, (n, (m, tt))), at), tt)
+  Post = (walk_of 𝓛 read_at_law.ended stayed (read_at_law.clauses 𝓛 mem run)).post (((κ, tt), (q, tt), tt, (s, (n, (m, tt))), at), tt)
 
   abbrev Own : Fml
   Own = (ShrSlice (named 0) κ u8).own_val s (v ∷ [])
 
   -- the call of `new`: what it is passed, what it asks, and what is known of its result
-  abbrev to-new : (New 𝓛 mem run).Ghost
-  to-new = (((κ, tt), (q, tt), tt, (s, (m, tt)), (v ∷ [], (vint w64 m ∷ [], tt))), tt)
+  abbrev to_new : (New 𝓛 mem run).Ghost
+  to_new = (((κ, tt), (q, tt), tt, (s, (m, tt)), (v ∷ [], (vint w64 m ∷ [], tt))), tt)
 
-  goes-new : ent 𝓤 (on_entry 𝓛 read_at.signature (κ, tt) (q, tt) (s, (n, (m, tt))) at) (sep 𝓤 ((New 𝓛 mem run).pre to-new) (sem 𝓛 Own))
-  goes-new =
+  goes_new : ent 𝓤 (on_entry 𝓛 read_at_law.signature (κ, tt) (q, tt) (s, (n, (m, tt))) at) (sep 𝓤 ((New 𝓛 mem run).pre to_new) (sem 𝓛 Own))
+  goes_new =
       qed 𝓛 ((‵ (flft κ q) ⊛ ‵ ftrue) ∷ ‵ (owns (ShrSlice (named 0) κ u8 ∷ usize ∷ usize ∷ []) (s, (n, (m, tt))) at) ∷ []) ∵
       move ! (1 ∷ []) $ fsplit ! $ move ! (1 ∷ []) $ drop ! $ use1 𝓛 (‵ Own ⊛ ‵ Own) ((shr_slice_copy 𝓛 (named 0) κ u8).twice s (v ∷ [])) $ split ! $
       nothing ! $ owned ! usize (Is usize) (uint_Makes 𝓛 w64) m _ (refl, okm) $ fjoin ! $ move ! (1 ∷ 0 ∷ []) $ fjoin ! $ move ! (2 ∷ 0 ∷ []) $
-      use2 𝓛 (raw ((New 𝓛 mem run).pre to-new)) (qed 𝓛 ((‵ (flft κ q) ⊛ ‵ ftrue) ∷ ‵ (owns (ShrSlice (named 0) κ u8 ∷ usize ∷ []) (s, (m, tt)) (v ∷ [], (vint w64 m ∷ [], tt))) ∷ []) ∵ join ! $ frame ! $ done !) $ frame ! $ done !
+      use2 𝓛 (raw ((New 𝓛 mem run).pre to_new)) (qed 𝓛 ((‵ (flft κ q) ⊛ ‵ ftrue) ∷ ‵ (owns (ShrSlice (named 0) κ u8 ∷ usize ∷ []) (s, (m, tt)) (v ∷ [], (vint w64 m ∷ [], tt))) ∷ []) ∵ join ! $ frame ! $ done !) $ frame ! $ done !
 
-  new-said : (r : Trace) → ent 𝓤 (ensured 𝓛 new.ended (new.clauses 𝓛 mem run) (κ, tt) (s, (m, tt)) tt r) (fact 𝓤 ((r.log ≡ s) × (r.at ≡ m)))
-  new-said r = ex_e 𝓤 _ (λ ws. snd∗ 𝓤 (sem 𝓛 (lasts new.ended (κ, tt) (s, (m, tt)) ws)) (fact 𝓤 ((r.log ≡ s) × (r.at ≡ m))))
+  new_said : (r : Trace) → ent 𝓤 (ensured 𝓛 new.ended (new.clauses 𝓛 mem run) (κ, tt) (s, (m, tt)) tt r) (fact 𝓤 ((r.log ≡ s) × (r.at ≡ m)))
+  new_said r = ex_e 𝓤 _ (λ ws. snd∗ 𝓤 (sem 𝓛 (lasts new.ended (κ, tt) (s, (m, tt)) ws)) (fact 𝓤 ((r.log ≡ s) × (r.at ≡ m))))
 
   -- the call of `next`, at the struct r with the machine value u
-  abbrev to-next : Trace → Val → (Next 𝓛 mem run).Ghost
-  to-next r u = (((κ, tt), (q, tt), tt, (r, (n, tt)), (u ∷ [], (vint w64 n ∷ [], tt))), tt)
+  abbrev to_next : Trace → Val → (Next 𝓛 mem run).Ghost
+  to_next r u = (((κ, tt), (q, tt), tt, (r, (n, tt)), (u ∷ [], (vint w64 n ∷ [], tt))), tt)
 
-  goes-next : (r : Trace) (u : Val) → ent 𝓤 (⋆ 𝓛 (‵ ((B (κ, tt)).own r (u ∷ [])) ∷ (‵ (flft κ q) ⊛ ‵ ftrue) ∷ [])) ((Next 𝓛 mem run).pre (to-next r u))
-  goes-next r u = qed 𝓛 (‵ ((B (κ, tt)).own r (u ∷ [])) ∷ (‵ (flft κ q) ⊛ ‵ ftrue) ∷ []) ∵ nothing ! $ owned ! usize (Is usize) (uint_Makes 𝓛 w64) n _ (refl, okn) $ fjoin ! $ move ! (1 ∷ 0 ∷ []) $ fjoin ! $ move ! (1 ∷ 0 ∷ []) $ join ! $ frame ! $ done !
+  goes_next : (r : Trace) (u : Val) → ent 𝓤 (⋆ 𝓛 (‵ ((B (κ, tt)).own r (u ∷ [])) ∷ (‵ (flft κ q) ⊛ ‵ ftrue) ∷ [])) ((Next 𝓛 mem run).pre (to_next r u))
+  goes_next r u = qed 𝓛 (‵ ((B (κ, tt)).own r (u ∷ [])) ∷ (‵ (flft κ q) ⊛ ‵ ftrue) ∷ []) ∵ nothing ! $ owned ! usize (Is usize) (uint_Makes 𝓛 w64) n _ (refl, okn) $ fjoin ! $ move ! (1 ∷ 0 ∷ []) $ fjoin ! $ move ! (1 ∷ 0 ∷ []) $ join ! $ frame ! $ done !
 
-  next-said : (r : Trace) (t : Record) → ent 𝓤 (ensured 𝓛 next.ended (next.clauses 𝓛 mem run) (κ, tt) (r, (n, tt)) tt t) (fact 𝓤 (t ≡ recordAt n r.log.now r.at))
-  next-said r t = ex_e 𝓤 _ (λ ws. snd∗ 𝓤 (sem 𝓛 (lasts next.ended (κ, tt) (r, (n, tt)) ws)) (fact 𝓤 (t ≡ recordAt n r.log.now r.at)))
+  next_said : (r : Trace) (t : Record) → ent 𝓤 (ensured 𝓛 next.ended (next.clauses 𝓛 mem run) (κ, tt) (r, (n, tt)) tt t) (fact 𝓤 (t ≡ record_at n r.log.now r.at))
+  next_said r t = ex_e 𝓤 _ (λ ws. snd∗ 𝓤 (sem 𝓛 (lasts next.ended (κ, tt) (r, (n, tt)) ws)) (fact 𝓤 (t ≡ record_at n r.log.now r.at)))
 
   exits : (t : Record) (u : Val) → t ≡ found → ent 𝓤 (⋆ 𝓛 (‵ ((S.the_row).own_val t (u ∷ [])) ∷ (‵ (flft κ q) ⊛ ‵ ftrue) ∷ ‵ Own ∷ [])) (Post u)
   exits t u e =
       qed 𝓛 (‵ ((S.the_row).own_val t (u ∷ [])) ∷ (‵ (flft κ q) ⊛ ‵ ftrue) ∷ ‵ Own ∷ []) ∵
-      suffices ! _ (ends_at 𝓛 read_at.ended stayed (read_at.clauses 𝓛 mem run) (((κ, tt), (q, tt), tt, (s, (n, (m, tt))), at), tt) u t (tt, (tt, (tt, tt))) (tt, (tt, (tt, tt)))) $ says ! e $
+      suffices ! _ (ends_at 𝓛 read_at_law.ended stayed (read_at_law.clauses 𝓛 mem run) (((κ, tt), (q, tt), tt, (s, (n, (m, tt))), at), tt) u t (tt, (tt, (tt, tt))) (tt, (tt, (tt, tt)))) $ says ! e $
       move ! (1 ∷ []) $ frame ! $ nothing ! $ owned ! usize (Is usize) (uint_Makes 𝓛 w64) m _ (refl, okm) $ fjoin ! $ owned ! usize (Is usize) (uint_Makes 𝓛 w64) n _ (refl, okn) $ fjoin ! $ move ! (2 ∷ 0 ∷ []) $ fjoin ! $ frame ! $ done !
 
   module _ (C : Calls 𝓤 H) (Λ : Loops 𝓤 H) (fm : FmC 𝓤 H 𝓛.laws C) (known-new : Triple 𝓤 (C #trace-reader·start-at) (New 𝓛 mem run)) (known_next : Triple 𝓤 (C #trace-reader·next-record) (Next 𝓛 mem run)) where
-    walk : Is (ShrSlice (named 0) κ u8) s (v ∷ []) → ent 𝓤 (on_entry 𝓛 read_at.signature (κ, tt) (q, tt) (s, (n, (m, tt))) at) (WpFn 𝓤 H C Λ code.function (v ∷ vint w64 n ∷ vint w64 m ∷ []) Post)
+    walk : Is (ShrSlice (named 0) κ u8) s (v ∷ []) → ent 𝓤 (on_entry 𝓛 read_at_law.signature (κ, tt) (q, tt) (s, (n, (m, tt))) at) (WpFn 𝓤 H C Λ code.function (v ∷ vint w64 n ∷ vint w64 m ∷ []) Post)
     walk p =
-        qed 𝓛 (raw (on_entry 𝓛 read_at.signature (κ, tt) (q, tt) (s, (n, (m, tt))) at) ∷ []) ∵ enter ! C Λ code.function (v ∷ vint w64 n ∷ vint w64 m ∷ []) _ $
+        qed 𝓛 (raw (on_entry 𝓛 read_at_law.signature (κ, tt) (q, tt) (s, (n, (m, tt))) at) ∷ []) ∵ enter ! C Λ code.function (v ∷ vint w64 n ∷ vint w64 m ∷ []) _ $
         alloc1 ! (λ l₀. alloc1 ! (λ l₁. alloc1 ! (λ l₂. alloc1 ! (λ l₃. alloc1 ! (λ l₄. alloc0 ! $ params1 ! $ pass1 ! (init ! 6 refl ((shr_slice_Lawful 𝓛 (named 0) κ u8).typed s (v ∷ []) p).0) $ pass1 ! (init ! 4 refl (tt, record { fits = okn })) $ pass1 ! (init ! 2 refl (tt, record { fits = okm })) $ pass0 ! $
-        move ! (10 ∷ []) $ use1 𝓛 (raw ((New 𝓛 mem run).pre to-new) ⊛ ‵ Own) goes-new $ split ! $
-        calls_at ! fm (New 𝓛 mem run) known-new to-new (and_then ! (load ! (from ! (stop !)) (look ! 8 refl)) (and_then ! (load ! (from ! (stop !)) (look ! 4 refl)) (no_more !))) (λ u.
+        move ! (10 ∷ []) $ use1 𝓛 (raw ((New 𝓛 mem run).pre to_new) ⊛ ‵ Own) goes_new $ split ! $
+        calls_at ! fm (New 𝓛 mem run) known-new to_new (and_then ! (load ! (from ! (stop !)) (look ! 8 refl)) (and_then ! (load ! (from ! (stop !)) (look ! 4 refl)) (no_more !))) (λ u.
         use1 𝓛 (later (some (λ (r : Trace). ((‵ (flft κ q) ⊛ ‵ ftrue) ⊛ ‵ ((B (κ, tt)).own r (u ∷ []))) ⊛ raw (ensured 𝓛 new.ended (new.clauses 𝓛 mem run) (κ, tt) (s, (m, tt)) tt r)))) (id⊢ 𝓤 _) $ await ! tt $ pick ! (λ r.
-        split ! $ move ! (1 ∷ []) $ use1 𝓛 (raw (fact 𝓤 ((r.log ≡ s) × (r.at ≡ m)))) (new-said r) $ heard ! ((r.log ≡ s) × (r.at ≡ m)) (λ e. split ! $ move ! (1 ∷ []) $
+        split ! $ move ! (1 ∷ []) $ use1 𝓛 (raw (fact 𝓤 ((r.log ≡ s) × (r.at ≡ m)))) (new_said r) $ heard ! ((r.log ≡ s) × (r.at ≡ m)) (λ e. split ! $ move ! (1 ∷ []) $
         -- [what the struct owns; the token; what s owns; room for _2; …; _1; …; room for _0; …]
         peeks ! (B (κ, tt)) (Is (B (κ, tt))) (shows 𝓛 (B (κ, tt))) r (u ∷ []) (λ is.
         land ! (from ! (stop !)) (init ! 3 refl ((LL.lawful (T.the_type αᵉ) (T'.the_laws αᵉ) 𝓛).typed r _ is).0) $
-        use2 𝓛 (raw ((Next 𝓛 mem run).pre (to-next r u))) (goes-next r u) $
-        calls_at ! fm (Next 𝓛 mem run) known_next (to-next r u) (and_then ! (load ! (from ! (stop !)) (look ! 2 refl)) (and_then ! (load ! (from ! (stop !)) (look ! 6 refl)) (no_more !))) (λ u'.
+        use2 𝓛 (raw ((Next 𝓛 mem run).pre (to_next r u))) (goes_next r u) $
+        calls_at ! fm (Next 𝓛 mem run) known_next (to_next r u) (and_then ! (load ! (from ! (stop !)) (look ! 2 refl)) (and_then ! (load ! (from ! (stop !)) (look ! 6 refl)) (no_more !))) (λ u'.
         use1 𝓛 (later (some (λ (t : Record). ((‵ (flft κ q) ⊛ ‵ ftrue) ⊛ ‵ ((S.the_row).own_val t (u' ∷ []))) ⊛ raw (ensured 𝓛 next.ended (next.clauses 𝓛 mem run) (κ, tt) (r, (n, tt)) tt t)))) (id⊢ 𝓤 _) $ await ! tt $ pick ! (λ t.
-        split ! $ move ! (1 ∷ []) $ use1 𝓛 (raw (fact 𝓤 (t ≡ recordAt n r.log.now r.at))) (next-said r t) $ heard ! (t ≡ recordAt n r.log.now r.at) (λ e'. split ! $ move ! (1 ∷ []) $
+        split ! $ move ! (1 ∷ []) $ use1 𝓛 (raw (fact 𝓤 (t ≡ record_at n r.log.now r.at))) (next_said r t) $ heard ! (t ≡ record_at n r.log.now r.at) (λ e'. split ! $ move ! (1 ∷ []) $
         -- [the result; the token; what s owns; _2; …; _1; …; room for _0; …]
         peeks ! S.the_row (Is S.the_row) (shows 𝓛 S.the_row) t (u' ∷ []) (λ is'.
         land ! (from ! (stop !)) (init ! 11 refl ((EL.lawful S.the_type S'.the_laws 𝓛 tt).typed t _ is').0) $
         returns ! (look ! 11 refl) $ forget ! 3 refl $ forget ! 5 refl $ forget ! 7 refl $ forget ! 9 refl $ forget ! 11 refl $ move ! (11 ∷ 12 ∷ []) $ free1 ! $ move ! (9 ∷ 10 ∷ []) $ free1 ! $ move ! (7 ∷ 8 ∷ []) $ free1 ! $ move ! (5 ∷ 6 ∷ []) $ free1 ! $ move ! (3 ∷ 4 ∷ []) $ free1 ! $ free0 ! $
-        by ! (exits t u' (e' ∙ (ap (λ (x : Bor (List ℕ)). recordAt n x.now r.at) e.0 ∙ ap (recordAt n s.now) e.1))))))))))))))))
+        by ! (exits t u' (e' ∙ (ap (λ (x : Bor (List ℕ)). record_at n x.now r.at) e.0 ∙ ap (record_at n s.now) e.1))))))))))))))))
 
 module _ {M : Type 1} {𝓤 : Ura M} (𝓛 : Logic 𝓤) (mem : Memory → SProp 𝓤) (run : Routine → Fun 𝓤) where
   open 𝓛 use {H}
 
-  read-at-walks : (C : Calls 𝓤 H) (Λ : Loops 𝓤 H) → FmC 𝓤 H 𝓛.laws C → Triple 𝓤 (C #trace-reader·start-at) (New 𝓛 mem run) → Triple 𝓤 (C #trace-reader·next-record) (Next 𝓛 mem run)
-      → Walks 𝓛 read_at.ended stayed (WpFn 𝓤 H C Λ code.function) (read_at.clauses 𝓛 mem run)
-  read-at-walks C Λ fm known-new known_next = walked 𝓛 read_at.ended stayed (read_at.clauses 𝓛 mem run) (WpFn 𝓤 H C Λ code.function) (λ κs. (shr_slice_vals, (uint_vals w64, (uint_vals w64, tt)))) (λ κs. (shr_slice_Tells (named 0) κs.0 u8, (uint_Tells w64, (uint_Tells w64, tt))))
+  read_at_walks : (C : Calls 𝓤 H) (Λ : Loops 𝓤 H) → FmC 𝓤 H 𝓛.laws C → Triple 𝓤 (C #trace-reader·start-at) (New 𝓛 mem run) → Triple 𝓤 (C #trace-reader·next-record) (Next 𝓛 mem run)
+      → Walks 𝓛 read_at_law.ended stayed (WpFn 𝓤 H C Λ code.function) (read_at_law.clauses 𝓛 mem run)
+  read_at_walks C Λ fm known-new known_next = walked 𝓛 read_at_law.ended stayed (read_at_law.clauses 𝓛 mem run) (WpFn 𝓤 H C Λ code.function) (λ κs. (shr_slice_vals, (uint_vals w64, (uint_vals w64, tt)))) (λ κs. (shr_slice_Tells (named 0) κs.0 u8, (uint_Tells w64, (uint_Tells w64, tt))))
       (λ κs qs bounds a g are. via 𝓤 _ (fst∗ 𝓤 _ (emp 𝓤)) (walk 𝓛 mem run κs.0 qs.0 a.0 a.1.0 a.1.1.0 are.1.0.1 are.1.1.0.1 C Λ fm known-new known_next are.0))
 
-read-at-meets : {M : Type 1} {𝓤 : Ura M} (𝓛 : Logic 𝓤) (mem : Memory → SProp 𝓤) (run : Routine → Fun 𝓤) (𝓣 : Tables 𝓤 𝓛.H)
+read_at_meets : {M : Type 1} {𝓤 : Ura M} (𝓛 : Logic 𝓤) (mem : Memory → SProp 𝓤) (run : Routine → Fun 𝓤) (𝓣 : Tables 𝓤 𝓛.H)
     → Triple 𝓤 (𝓣.C #trace-reader·start-at) (New 𝓛 mem run) → Triple 𝓤 (𝓣.C #trace-reader·next-record) (Next 𝓛 mem run)
-    → Meets 𝓛 read_at.signature (WpFn 𝓤 𝓛.H 𝓣.C 𝓣.Λ code.function) (read_at.spec 𝓛 mem run)
-read-at-meets {𝓤 = 𝓤} 𝓛 mem run 𝓣 known-new known_next = walk_Meets 𝓛 read_at.ended stayed (Goes-none_slice 𝓛 1 (0 ∷ []) tt (plain (λ _. u8)) yes, (Goes-none 𝓛 1 (λ _. usize) yes (λ κs x f. refl), (Goes-none 𝓛 1 (λ _. usize) yes (λ κs x f. refl), tt))) (read_at.clauses 𝓛 mem run) (WpFn 𝓤 𝓛.H 𝓣.C 𝓣.Λ code.function) (WpFn-mono 𝓤 𝓛.H 𝓛.laws 𝓣 code.function)
-    (read-at-walks 𝓛 mem run 𝓣.C 𝓣.Λ (fm_of 𝓤 𝓛.H 𝓛.laws 𝓣) known-new known_next)
+    → Meets 𝓛 read_at_law.signature (WpFn 𝓤 𝓛.H 𝓣.C 𝓣.Λ code.function) (read_at_law.spec 𝓛 mem run)
+read_at_meets {𝓤 = 𝓤} 𝓛 mem run 𝓣 known-new known_next = walk_Meets 𝓛 read_at_law.ended stayed (Goes-none_slice 𝓛 1 (0 ∷ []) tt (plain (λ _. u8)) yes, (Goes-none 𝓛 1 (λ _. usize) yes (λ κs x f. refl), (Goes-none 𝓛 1 (λ _. usize) yes (λ κs x f. refl), tt))) (read_at_law.clauses 𝓛 mem run) (WpFn 𝓤 𝓛.H 𝓣.C 𝓣.Λ code.function) (WpFn-mono 𝓤 𝓛.H 𝓛.laws 𝓣 code.function)
+    (read_at_walks 𝓛 mem run 𝓣.C 𝓣.Λ (fm_of 𝓤 𝓛.H 𝓛.laws 𝓣) known-new known_next)
 
-pub read-at-spec : {M : Type 1} → stated.statement M
+pub read_at_spec : {M : Type 1} → stated.statement M
 unfolding code.routine tables_of
-read-at-spec 𝓤 𝓛 𝓜 𝓡 =
-    entered 𝓤 𝓛.H (triple_of 𝓛 read_at.signature (read_at.spec 𝓛 𝓜.mem 𝓡.run))
+read_at_spec 𝓤 𝓛 𝓜 𝓡 =
+    entered 𝓤 𝓛.H (triple_of 𝓛 read_at_law.signature (read_at_law.spec 𝓛 𝓜.mem 𝓡.run))
     (tables 𝓤 𝓛.H 𝓜 𝓡 code.env).C (tables 𝓤 𝓛.H 𝓜 𝓡 code.env).Λ #trace-reader·read-at code.function (code.unfolded 𝓤 𝓛.H 𝓜 𝓡)
-    (read-at-meets 𝓛 𝓜.mem 𝓡.run (tables_of 𝓤 𝓛.H 𝓜 (tables 𝓤 𝓛.H 𝓜 𝓡 code.env))
+    (read_at_meets 𝓛 𝓜.mem 𝓡.run (tables_of 𝓤 𝓛.H 𝓜 (tables 𝓤 𝓛.H 𝓜 𝓡 code.env))
     (cited 𝓤 𝓛.H (New 𝓛 𝓜.mem 𝓡.run) 𝓜 𝓡 code.env #trace-reader·start-at new-def.routine code.calls-trace-reader::start-at (new-thm.met 𝓤 𝓛 𝓜 𝓡))
     (cited 𝓤 𝓛.H (Next 𝓛 𝓜.mem 𝓡.run) 𝓜 𝓡 code.env #trace-reader·next-record next-def.routine code.calls-trace-reader::next-record (next-thm.met 𝓤 𝓛 𝓜 𝓡)))

@@ -2,16 +2,16 @@
 use borrow.Author.Rules.{rules}
 use mathlib.Core.Path.{refl, sym, ap, ◌∙◌}
 use native.Mathlib.Omega.{arith}
-use Rattle.uid.specs.Calls.{airRowSays}
-use Rattle.uid.specs.SaysLaws.{air-no-room, air-has-room}
-use Rattle.uid.specs.BytesAtLaws.{levels-most}
+use Rattle.uid.specs.Calls.{air_row_says}
+use Rattle.uid.specs.SaysLaws.{air_no_room, air_has_room}
+use Rattle.uid.specs.BytesAtLaws.{levels_most}
 use Rattle.uid.specs.AirLaws.{row_made}
 use Rattle.uid.specs.declared.AirRow.TheVariants.{Bits}
 use Rattle.uid.proofs.air_row.Statement.{statement}
 use Rattle.uid.proofs.air_row.Tie as tie
 
 returns : tie.Need-returns
-returns c = (sym (air-no-room _ c.before.before.args.u c.if1.true), refl)
+returns c = (sym (air_no_room _ c.before.before.args.u c.if1.true), refl)
 
 level-count-requires : tie.Need-level-count-requires
 level-count-requires c κs = search rules
@@ -21,10 +21,10 @@ levels-requires c κs = search rules
 
 put-levels-requires : tie.Need-put-levels-requires
 put-levels-requires c κs =
-    (omega (arith, levels-most c.before.before.before.before.before.args.u.size, c.before.before.level-count.ensures), omega arith)
+    (omega (arith, levels_most c.before.before.before.before.before.args.u.size, c.before.before.level-count.ensures), omega arith)
 
 mul-t6 : tie.Need-overflow-mul-t6
-mul-t6 c = omega (arith, levels-most c.before.before.before.before.before.before.before.before.args.u.size, c.before.before.before.before.before.level-count.ensures)
+mul-t6 c = omega (arith, levels_most c.before.before.before.before.before.before.before.before.args.u.size, c.before.before.before.before.before.level-count.ensures)
 
 same_length : tie.Need-same-length
 same_length c = search rules
@@ -34,10 +34,10 @@ returns-2 c =
     let u = c.before.before.before.before.before.before.before.before.args.u in
     let p = c.before.before.put-levels in
     let r = row_made u _ _ c.before.before.before.before.before.level-count.ensures c.before.before.before.before.levels.ensures in
-    (ap (λ n. airRowSays (Bits n)) (sym (rw r at p.ensures.1)) ∙ sym (air-has-room _ u c.before.before.before.before.before.before.if1.false), rw r at p.ensures.0)
+    (ap (λ n. air_row_says (Bits n)) (sym (rw r at p.ensures.1)) ∙ sym (air_has_room _ u c.before.before.before.before.before.before.if1.false), rw r at p.ensures.0)
 
-pub air-row-spec : {M : Type 1} → statement M
-air-row-spec =
+pub air_row_spec : {M : Type 1} → statement M
+air_row_spec =
     tie.close
     (tie.spec
     returns

@@ -8,5 +8,5 @@ returns : tie.Need-returns
 unfolding check
 returns c = rw xor_zero_r
 
-pub check-byte-spec : {M : Type 1} → statement M
-check-byte-spec = tie.close (tie.spec returns)
+pub check_byte_spec : {M : Type 1} → statement M
+check_byte_spec = tie.close (tie.spec returns)

@@ -31,8 +31,8 @@ returns-3 : tie.Need-returns-3
 unfolding valid
 returns-3 c = rw c.enum-told3.given.1
 
-pub is-valid-spec : {M : Type 1} → statement M
-is-valid-spec =
+pub is_valid_spec : {M : Type 1} → statement M
+is_valid_spec =
     tie.close
     (tie.spec
     enum_told

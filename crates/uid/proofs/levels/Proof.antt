@@ -3,8 +3,8 @@ use borrow.Author.Rules.{rules}
 use mathlib.Core.Path.{◌≡◌}
 use native.Mathlib.Omega.{arith}
 use lib.ListN.{length}
-use Rattle.uid.specs.Uid.{levels, threeLevels}
-use Rattle.uid.specs.BytesAtLaws.{three-at, four-at}
+use Rattle.uid.specs.Uid.{levels, three_levels}
+use Rattle.uid.specs.BytesAtLaws.{three_at, four_at}
 use Rattle.uid.proofs.levels.Statement.{statement}
 use Rattle.uid.proofs.levels.Tie as tie
 
@@ -99,14 +99,14 @@ level-row-requires-6 : tie.Need-level-row-requires-6
 level-row-requires-6 c κs = search rules
 
 returns : tie.Need-returns
-unfolding threeLevels levels
+unfolding three_levels levels
 returns c =
     let b = c.before.before.before.before.args.u.bytes in
     let e : length b ≡ 10 = search rules in
-    rw (c.level-row.ensures, c.before.enum_told.given.1, four-at 0 b (omega arith))
+    rw (c.level_row_law.ensures, c.before.enum_told.given.1, four_at 0 b (omega arith))
 
 returns-2 : tie.Need-returns-2
-unfolding threeLevels levels
+unfolding three_levels levels
 returns-2 c =
     let b = c.before.before.before.before.before.args.u.bytes in
     let e : length b ≡ 10 = search rules in
@@ -114,12 +114,12 @@ returns-2 c =
       c.level-row3.ensures,
       c.before.level-row2.ensures,
       c.before.before.enum-told2.given.1,
-      three-at 0 b (omega arith),
-      four-at 3 b (omega arith),
+      three_at 0 b (omega arith),
+      four_at 3 b (omega arith),
     )
 
 returns-3 : tie.Need-returns-3
-unfolding threeLevels levels
+unfolding three_levels levels
 returns-3 c =
     let b = c.before.before.before.before.before.before.args.u.bytes in
     let e : length b ≡ 10 = search rules in
@@ -128,13 +128,13 @@ returns-3 c =
       c.before.level-row5.ensures,
       c.before.before.level-row4.ensures,
       c.before.before.before.enum-told3.given.1,
-      three-at 0 b (omega arith),
-      three-at 3 b (omega arith),
-      four-at 6 b (omega arith),
+      three_at 0 b (omega arith),
+      three_at 3 b (omega arith),
+      four_at 6 b (omega arith),
     )
 
-pub levels-spec : {M : Type 1} → statement M
-levels-spec =
+pub levels_spec : {M : Type 1} → statement M
+levels_spec =
     tie.close
     (tie.spec
     enum_told

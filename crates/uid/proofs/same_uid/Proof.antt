@@ -4,7 +4,7 @@ use mathlib.Core.Path.{◌≡◌, sym}
 use native.Mathlib.Omega.{arith}
 use lib.ListN.{length}
 use lib.Seq.{length-take-le}
-use Rattle.uid.specs.Uid.{uidBytes}
+use Rattle.uid.specs.Uid.{uid_bytes}
 use Rattle.uid.specs.BytesAtLaws.{bytes_most}
 use Rattle.uid.proofs.same_uid.Statement.{statement}
 use Rattle.uid.proofs.same_uid.Tie as tie
@@ -43,11 +43,11 @@ is-same-requires : tie.Need-is-same-requires
 is-same-requires c κs = search rules
 
 returns : tie.Need-returns
-unfolding uidBytes
+unfolding uid_bytes
 returns c = rw (c.is_same.ensures, c.before.before.before.before.before.byte-count2.ensures, c.before.before.before.before.before.before.byte-count.ensures)
 
-pub same-uid-spec : {M : Type 1} → statement M
-same-uid-spec =
+pub same_uid_spec : {M : Type 1} → statement M
+same_uid_spec =
     tie.close
     (tie.spec
     byte-count-requires

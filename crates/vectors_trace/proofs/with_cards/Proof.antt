@@ -33,8 +33,8 @@ loop-again c = omega arith
 returns : tie.Need-returns invariant-loop decreases-loop
 returns c = tt
 
-pub with-cards-spec : {M : Type 1} → statement M
-with-cards-spec =
+pub with_cards_spec : {M : Type 1} → statement M
+with_cards_spec =
     tie.close
     (tie.spec
     invariant-loop

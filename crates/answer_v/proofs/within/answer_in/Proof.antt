@@ -1,7 +1,7 @@
 -- `answer_v::within::answer_in` meets its contract: the definition has the same tests. Assumes nothing.
 use borrow.Author.Tests.{eq-eqb, ne_eqb, le-leb, lt-leb, lt-ltb, le-ltb, not-true, not-false}
 use mathlib.Core.Path.{◌≡◌, refl, sym, ap, ◌∙◌}
-use Rattle.rows.specs.HeardLaws.{clean-take, clean_drop}
+use Rattle.rows.specs.HeardLaws.{clean_take, clean_drop}
 use Rattle.answer_v.specs.Heard.{answer_in}
 use borrow.Author.Rules.{rules}
 use native.Mathlib.Omega.{arith}
@@ -16,10 +16,10 @@ unfolding answer_in
 returns c = rw (sym c.before.is-good.ensures ∙ not-true _ c.if1.true)
 
 byte-at-requires : tie.Need-byte-at-requires
-byte-at-requires c κs = (omega (arith, c.before.before.before.requires.1), clean-take 8 _ c.before.before.before.requires.2)
+byte-at-requires c κs = (omega (arith, c.before.before.before.requires.1), clean_take 8 _ c.before.before.before.requires.2)
 
 byte-at-requires-2 : tie.Need-byte-at-requires-2
-byte-at-requires-2 c κs = (omega (arith, c.before.before.before.before.requires.1), clean-take 8 _ (clean_drop 8 _ c.before.before.before.before.requires.2))
+byte-at-requires-2 c κs = (omega (arith, c.before.before.before.before.requires.1), clean_take 8 _ (clean_drop 8 _ c.before.before.before.before.requires.2))
 
 sub-value-of : tie.Need-overflow-sub-value-of
 sub-value-of c = search rules
@@ -31,8 +31,8 @@ returns-2 : tie.Need-returns-2
 unfolding answer_in
 returns-2 c = rw (sym c.before.before.before.before.is-good.ensures ∙ not-false _ c.before.before.before.if1.false, ← c.before.before.byte_at.ensures, ← c.before.byte-at2.ensures) c.value_of_lem.ensures
 
-pub answer-in-spec : {M : Type 1} → statement M
-answer-in-spec =
+pub answer_in_spec : {M : Type 1} → statement M
+answer_in_spec =
     tie.close
     (tie.spec
     is-good-requires

@@ -17,5 +17,5 @@ nobody-requires-2 c κs = search rules
 returns-2 : tie.Need-returns-2
 returns-2 c = rw c.before.if1.false c.nobody2.ensures
 
-pub collided-spec : {M : Type 1} → statement M
-collided-spec = tie.close (tie.spec nobody-requires returns nobody-requires-2 returns-2)
+pub collided_spec : {M : Type 1} → statement M
+collided_spec = tie.close (tie.spec nobody-requires returns nobody-requires-2 returns-2)

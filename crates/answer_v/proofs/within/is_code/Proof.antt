@@ -30,5 +30,5 @@ returns-6 : tie.Need-returns-6
 unfolding is_code
 returns-6 c = rw (le-leb 1 c.before.before.before.before.before.args.e (omega arith), lt-leb c.before.before.before.before.before.args.e 3 (omega arith), le-leb 0x0F c.before.before.before.before.before.args.e (omega arith), lt-leb c.before.before.before.before.before.args.e 0x14 (omega arith), le-leb 0xA0 c.before.before.before.before.before.args.e (omega arith))
 
-pub is-code-spec : {M : Type 1} → statement M
-is-code-spec = tie.close (tie.spec returns returns-2 returns-3 returns-4 returns-5 returns-6)
+pub is_code_spec : {M : Type 1} → statement M
+is_code_spec = tie.close (tie.spec returns returns-2 returns-3 returns-4 returns-5 returns-6)

@@ -14,5 +14,5 @@ returns c = rw c.before.if1.true c.is-data.ensures
 returns-2 : tie.Need-returns-2
 returns-2 c = rw c.if1.false
 
-pub is-fit-spec : {M : Type 1} → statement M
-is-fit-spec = tie.close (tie.spec is-data-requires returns returns-2)
+pub is_fit_spec : {M : Type 1} → statement M
+is_fit_spec = tie.close (tie.spec is-data-requires returns returns-2)

@@ -3,7 +3,7 @@ use borrow.Author.Tests.{eq-eqb, ne_eqb, le-leb, lt-leb, lt-ltb, le-ltb, not-tru
 use mathlib.Core.Path.{◌≡◌, refl, sym, ap, ◌∙◌}
 use Prim.Native.Nat.{◌+◌, ◌-◌}
 use lib.ListN.{length-take}
-use Rattle.rows.specs.HeardLaws.{clean-take, clean_drop}
+use Rattle.rows.specs.HeardLaws.{clean_take, clean_drop}
 use Rattle.answer_v.specs.Heard.{fits}
 use borrow.Author.Rules.{rules}
 use native.Mathlib.Omega.{arith}
@@ -48,14 +48,14 @@ part-number-of-end : tie.Need-slice-bounds-number-of-end
 part-number-of-end c = omega (arith, c.before.before.before.before.before.before.before.before.before.requires.0)
 
 number-of-requires : tie.Need-number-of-requires
-number-of-requires c κs = let e : 16 + c.before.before.before.before.before.before.before.before.before.before.args.k.len + 4 - (16 + c.before.before.before.before.before.before.before.before.before.before.args.k.len) ≡ 4 = omega arith in (rw (e, length-take) (omega arith), clean-take (16 + c.before.before.before.before.before.before.before.before.before.before.args.k.len + 4 - (16 + c.before.before.before.before.before.before.before.before.before.before.args.k.len)) _ (clean_drop (16 + c.before.before.before.before.before.before.before.before.before.before.args.k.len) _ c.before.before.before.before.before.before.before.before.before.before.requires.1))
+number-of-requires c κs = let e : 16 + c.before.before.before.before.before.before.before.before.before.before.args.k.len + 4 - (16 + c.before.before.before.before.before.before.before.before.before.before.args.k.len) ≡ 4 = omega arith in (rw (e, length-take) (omega arith), clean_take (16 + c.before.before.before.before.before.before.before.before.before.before.args.k.len + 4 - (16 + c.before.before.before.before.before.before.before.before.before.before.args.k.len)) _ (clean_drop (16 + c.before.before.before.before.before.before.before.before.before.before.args.k.len) _ c.before.before.before.before.before.before.before.before.before.before.requires.1))
 
 returns-5 : tie.Need-returns-5
 unfolding fits
 returns-5 c = let e : 16 + c.before.before.before.before.before.before.before.before.before.before.before.before.args.k.len + 4 - (16 + c.before.before.before.before.before.before.before.before.before.before.before.before.args.k.len) ≡ 4 = omega arith in rw (le-leb c.before.before.before.before.before.before.before.before.before.before.before.before.args.k.len 64 c.before.before.before.before.before.before.before.before.before.if1.false, sym c.before.before.before.before.before.before.is-matching.ensures ∙ not-false _ c.before.before.before.before.before.if2.false, c.before.before.before.before.if3.false, le-leb c.before.before.before.before.before.before.before.before.before.before.before.before.args.k.len 60 c.before.before.before.if4.false, c.before.number_of_lem.ensures, e)
 
-pub is-fitting-spec : {M : Type 1} → statement M
-is-fitting-spec =
+pub is_fitting_spec : {M : Type 1} → statement M
+is_fitting_spec =
     tie.close
     (tie.spec
     returns

@@ -37,8 +37,8 @@ returns-6 : tie.Need-returns-6
 unfolding value_of
 returns-6 c = rw (ne_eqb _ 0 c.before.before.before.before.if1.false, eq-eqb _ 1 c.before.before.before.if3.false, eq-eqb _ 1 c.before.before.if4.false, sym c.before.is_code.ensures ∙ c.if5.false)
 
-pub value-of-spec : {M : Type 1} → statement M
-value-of-spec =
+pub value_of_spec : {M : Type 1} → statement M
+value_of_spec =
     tie.close
     (tie.spec
     is-fit-requires

@@ -2,12 +2,12 @@
 use mathlib.Core.Path.{sym, ap}
 use lib.ListN.{get_or}
 use borrow.Author.Rules.{rules}
-use Rattle.rows.specs.ListLaws.{is-nil}
+use Rattle.rows.specs.ListLaws.{is_nil_law}
 use Rattle.bench.proofs.within.first.Statement.{statement}
 use Rattle.bench.proofs.within.first.Tie as tie
 
 returns : tie.Need-returns
-returns c = sym (ap (λ l. get_or l 0 0) (is-nil c.before.args.text.now c.if1.true))
+returns c = sym (ap (λ l. get_or l 0 0) (is_nil_law c.before.args.text.now c.if1.true))
 
 shared-slice-read-result : tie.Need-shared-slice-read-result
 shared-slice-read-result c = search rules

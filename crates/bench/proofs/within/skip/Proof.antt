@@ -3,13 +3,13 @@ use Prim.Native.Nat.{◌≤◌, ◌-◌}
 use mathlib.Core.Path.{◌≡◌, refl, sym, ◌∙◌}
 use native.Mathlib.Omega.{arith}
 use lib.ListN.{length, drop}
-use Rattle.bench.specs.Words.{afterGap}
-use Rattle.bench.specs.WordLaws.{gap-next, gap_here, gap-done}
+use Rattle.bench.specs.Words.{after_gap}
+use Rattle.bench.specs.WordLaws.{gap_next, gap_here, gap_done}
 use Rattle.bench.proofs.within.skip.Statement.{statement}
 use Rattle.bench.proofs.within.skip.Tie as tie
 
 abbrev invariant-loop : tie.invariant-loop
-invariant-loop text from i₀ i-end i = (from ≤ i) × (i ≤ length text) × (afterGap (drop i text) ≡ afterGap (drop from text))
+invariant-loop text from i₀ i-end i = (from ≤ i) × (i ≤ length text) × (after_gap (drop i text) ≡ after_gap (drop from text))
 
 abbrev decreases-loop : tie.decreases-loop
 decreases-loop text from i₀ i-end i = length text - i
@@ -36,17 +36,17 @@ loop-again : tie.Need-loop-preserved invariant-loop decreases-loop
 loop-again c =
     let l = c.before.before.before.loop in
     let t = c.before.before.before.before.args.text.now in
-    (omega arith, omega arith, sym (gap-next t l.i (omega arith) c.if1.false) ∙ l.invariant.2)
+    (omega arith, omega arith, sym (gap_next t l.i (omega arith) c.if1.false) ∙ l.invariant.2)
 
 returns-2 : tie.Need-returns-2 invariant-loop decreases-loop
 returns-2 c =
     let l = c.before.loop in
     let t = c.before.before.args.text.now in
     let e : l.i ≡ length t = omega arith in
-    record { low = omega arith; high = omega arith; rest = rw e at (sym (gap-done t l.i (omega arith)) ∙ l.invariant.2) }
+    record { low = omega arith; high = omega arith; rest = rw e at (sym (gap_done t l.i (omega arith)) ∙ l.invariant.2) }
 
-pub skip-spec : {M : Type 1} → statement M
-skip-spec =
+pub skip_spec : {M : Type 1} → statement M
+skip_spec =
     tie.close
     (tie.spec
     invariant-loop

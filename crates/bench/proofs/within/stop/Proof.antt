@@ -5,13 +5,13 @@ use mathlib.Core.List.{◌++◌, append-nil}
 use native.Mathlib.Omega.{arith}
 use native.Mathlib.Nat.{sub_self}
 use lib.ListN.{length, take, drop}
-use Rattle.bench.specs.Words.{afterRun, firstRun}
-use Rattle.bench.specs.WordLaws.{run-next, run-here, run-done, letters-next, letters-here, letters-done}
+use Rattle.bench.specs.Words.{after_run, first_run}
+use Rattle.bench.specs.WordLaws.{run_next, run_here, run_done, letters_next, letters_here, letters_done}
 use Rattle.bench.proofs.within.stop.Statement.{statement}
 use Rattle.bench.proofs.within.stop.Tie as tie
 
 abbrev invariant-loop : tie.invariant-loop
-invariant-loop text from i₀ i-end i = (from ≤ i) × (i ≤ length text) × (afterRun (drop i text) ≡ afterRun (drop from text)) × (take (i - from) (drop from text) ++ firstRun (drop i text) ≡ firstRun (drop from text))
+invariant-loop text from i₀ i-end i = (from ≤ i) × (i ≤ length text) × (after_run (drop i text) ≡ after_run (drop from text)) × (take (i - from) (drop from text) ++ first_run (drop i text) ≡ first_run (drop from text))
 
 abbrev decreases-loop : tie.decreases-loop
 decreases-loop text from i₀ i-end i = length text - i
@@ -29,8 +29,8 @@ returns c =
     record {
       low = omega arith;
       high = omega arith;
-      rest = sym (run-here t l.i (omega arith) c.if1.true) ∙ l.invariant.2;
-      run = rw (letters-here t l.i (omega arith) c.if1.true, append-nil) at l.invariant.3;
+      rest = sym (run_here t l.i (omega arith) c.if1.true) ∙ l.invariant.2;
+      run = rw (letters_here t l.i (omega arith) c.if1.true, append-nil) at l.invariant.3;
     }
 
 add-i : tie.Need-overflow-add-i invariant-loop decreases-loop
@@ -46,8 +46,8 @@ loop-again c =
     let t = a.text.now in (
       omega arith,
       omega arith,
-      sym (run-next t l.i (omega arith) c.if1.false) ∙ l.invariant.2,
-      letters-next t a.from l.i (omega arith) (omega arith) c.if1.false ∙ l.invariant.3,
+      sym (run_next t l.i (omega arith) c.if1.false) ∙ l.invariant.2,
+      letters_next t a.from l.i (omega arith) (omega arith) c.if1.false ∙ l.invariant.3,
     )
 
 returns-2 : tie.Need-returns-2 invariant-loop decreases-loop
@@ -58,12 +58,12 @@ returns-2 c =
     record {
       low = omega arith;
       high = omega arith;
-      rest = rw e at (sym (run-done t l.i (omega arith)) ∙ l.invariant.2);
-      run = rw e at (rw (letters-done t l.i (omega arith), append-nil) at l.invariant.3);
+      rest = rw e at (sym (run_done t l.i (omega arith)) ∙ l.invariant.2);
+      run = rw e at (rw (letters_done t l.i (omega arith), append-nil) at l.invariant.3);
     }
 
-pub stop-spec : {M : Type 1} → statement M
-stop-spec =
+pub stop_spec : {M : Type 1} → statement M
+stop_spec =
     tie.close
     (tie.spec
     invariant-loop

@@ -70,8 +70,8 @@ loop-again c = simp length-set (omega arith)
 returns : tie.Need-returns invariant-loop decreases-loop
 returns c = search rules
 
-pub all-spec : {M : Type 1} → statement M
-all-spec =
+pub all_spec : {M : Type 1} → statement M
+all_spec =
     tie.close
     (tie.spec
     invariant-loop

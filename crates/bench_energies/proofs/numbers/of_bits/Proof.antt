@@ -33,5 +33,5 @@ float-from-bits-result c =
 returns-2 : tie.Need-returns-2
 returns-2 c = search rules
 
-pub of-bits-spec : {M : Type 1} → statement M
-of-bits-spec = tie.close (tie.spec returns float-from-bits-result returns-2)
+pub of_bits_spec : {M : Type 1} → statement M
+of_bits_spec = tie.close (tie.spec returns float-from-bits-result returns-2)

@@ -17,5 +17,5 @@ slice-aggregate-result c =
 returns-2 : tie.Need-returns-2
 returns-2 c = search rules
 
-pub part-spec : {M : Type 1} → statement M
-part-spec = tie.close (tie.spec returns slice-aggregate-result returns-2)
+pub part_spec : {M : Type 1} → statement M
+part_spec = tie.close (tie.spec returns slice-aggregate-result returns-2)

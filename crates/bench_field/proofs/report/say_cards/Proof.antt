@@ -4,12 +4,12 @@ use mathlib.Core.Path.{◌≡◌}
 use native.Mathlib.Omega.{arith}
 use borrow.Author.Rules.{rules}
 use lib.ListN.{length}
-use Rattle.limits.specs.Limits.{mostCards}
+use Rattle.limits.specs.Limits.{most_cards}
 use Rattle.bench_field.proofs.report.say_cards.Statement.{statement}
 use Rattle.bench_field.proofs.report.say_cards.Tie as tie
 
 abbrev invariant-loop : tie.invariant-loop
-invariant-loop count cards i₀ i = length cards ≡ mostCards
+invariant-loop count cards i₀ i = length cards ≡ most_cards
 
 abbrev decreases-loop : tie.decreases-loop
 decreases-loop count cards i₀ i = count - i
@@ -41,8 +41,8 @@ loop-again c = search rules
 returns-2 : tie.Need-returns-2 invariant-loop decreases-loop
 returns-2 c = tt
 
-pub say-cards-spec : {M : Type 1} → statement M
-say-cards-spec =
+pub say_cards_spec : {M : Type 1} → statement M
+say_cards_spec =
     tie.close
     (tie.spec
     invariant-loop

@@ -37,8 +37,8 @@ loop-again c = tt
 returns-2 : tie.Need-returns-2 invariant-loop decreases-loop
 returns-2 c = tt
 
-pub say-found-spec : {M : Type 1} → statement M
-say-found-spec =
+pub say_found_spec : {M : Type 1} → statement M
+say_found_spec =
     tie.close
     (tie.spec
     invariant-loop

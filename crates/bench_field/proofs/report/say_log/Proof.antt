@@ -56,8 +56,8 @@ put-line-requires c κs = tt
 returns : tie.Need-returns invariant-loop decreases-loop
 returns c = tt
 
-pub say-log-spec : {M : Type 1} → statement M
-say-log-spec =
+pub say_log_spec : {M : Type 1} → statement M
+say_log_spec =
     tie.close
     (tie.spec
     invariant-loop

@@ -41,8 +41,8 @@ loop-again c = tt
 returns-3 : tie.Need-returns-3 invariant-loop decreases-loop
 returns-3 c = tt
 
-pub say-trace-spec : {M : Type 1} → statement M
-say-trace-spec =
+pub say_trace_spec : {M : Type 1} → statement M
+say_trace_spec =
     tie.close
     (tie.spec
     invariant-loop

@@ -1,6 +1,6 @@
 -- `bench_front::lines::off` overflows nowhere. Assumes nothing.
 use borrow.Author.Rules.{rules}
-use Rattle.bench_front.specs.SignLaws.{readBack, read_fits, not-below}
+use Rattle.bench_front.specs.SignLaws.{read_back, read_fits, not_below}
 use Rattle.bench_front.proofs.lines.off.Statement.{statement}
 use Rattle.bench_front.proofs.lines.off.Tie as tie
 
@@ -25,7 +25,7 @@ returns c = search rules
 cast-number : tie.Need-overflow-cast-number
 cast-number c =
     let n = c.before.before.args.n in
-    not-below (readBack n) (read_fits n (search rules)) c.if1.false
+    not_below (read_back n) (read_fits n (search rules)) c.if1.false
 
 number-requires : tie.Need-number-requires
 number-requires c κs = search rules
@@ -33,8 +33,8 @@ number-requires c κs = search rules
 returns-2 : tie.Need-returns-2
 returns-2 c = search rules
 
-pub off-spec : {M : Type 1} → statement M
-off-spec =
+pub off_spec : {M : Type 1} → statement M
+off_spec =
     tie.close
     (tie.spec
     with-word-requires

@@ -37,8 +37,8 @@ loop-again c = simp length-set (omega arith)
 returns : tie.Need-returns invariant-loop decreases-loop
 returns c = search rules
 
-pub signs-spec : {M : Type 1} → statement M
-signs-spec =
+pub signs_spec : {M : Type 1} → statement M
+signs_spec =
     tie.close
     (tie.spec
     invariant-loop

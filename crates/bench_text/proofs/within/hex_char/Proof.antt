@@ -1,7 +1,7 @@
 -- `bench_text::within::hex_char` meets its contract. Assumes nothing.
 use borrow.Author.Tests.{lt-ltb, le-ltb}
 use borrow.Author.Rules.{rules}
-use Rattle.bench_text.specs.Text.{hexChar}
+use Rattle.bench_text.specs.Text.{hex_char}
 use Rattle.bench_text.proofs.within.hex_char.Statement.{statement}
 use Rattle.bench_text.proofs.within.hex_char.Tie as tie
 
@@ -12,12 +12,12 @@ add-result-2 : tie.Need-overflow-add-result-2
 add-result-2 c = search rules
 
 returns : tie.Need-returns
-unfolding hexChar
+unfolding hex_char
 returns c = simp (lt-ltb _ _ c.if1.true)
 
 returns-2 : tie.Need-returns-2
-unfolding hexChar
+unfolding hex_char
 returns-2 c = simp (le-ltb _ _ c.if1.false)
 
-pub hex-char-spec : {M : Type 1} → statement M
-hex-char-spec = tie.close (tie.spec add-result add-result-2 returns returns-2)
+pub hex_char_spec : {M : Type 1} → statement M
+hex_char_spec = tie.close (tie.spec add-result add-result-2 returns returns-2)

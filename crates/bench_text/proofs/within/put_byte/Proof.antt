@@ -25,8 +25,8 @@ returns c =
     let b = c.before.before.before.before in
     rw (b.before.hex-char.ensures, b.hex-char2.ensures) at c.before.before.put.ensures
 
-pub put-byte-spec : {M : Type 1} → statement M
-put-byte-spec =
+pub put_byte_spec : {M : Type 1} → statement M
+put_byte_spec =
     tie.close
     (tie.spec
     hex-char-requires

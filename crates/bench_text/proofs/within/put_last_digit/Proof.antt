@@ -23,6 +23,6 @@ same_length c = search rules
 returns : tie.Need-returns
 returns c = c.before.before.put.ensures
 
-pub put-last-digit-spec : {M : Type 1} → statement M
-put-last-digit-spec =
+pub put_last_digit_spec : {M : Type 1} → statement M
+put_last_digit_spec =
     tie.close (tie.spec cast-t8 add-t9 slice-aggregate-put put-requires same_length returns)

@@ -41,8 +41,8 @@ loop-again c = (omega arith, omega arith)
 returns : tie.Need-returns invariant-loop decreases-loop
 returns c = search rules
 
-pub octet-spec : {M : Type 1} → statement M
-octet-spec =
+pub octet_spec : {M : Type 1} → statement M
+octet_spec =
     tie.close
     (tie.spec
     invariant-loop

@@ -37,8 +37,8 @@ loop-again c = (omega arith, simp length-set (omega arith))
 returns : tie.Need-returns invariant-loop decreases-loop
 returns c = search rules
 
-pub octets-spec : {M : Type 1} → statement M
-octets-spec =
+pub octets_spec : {M : Type 1} → statement M
+octets_spec =
     tie.close
     (tie.spec
     invariant-loop

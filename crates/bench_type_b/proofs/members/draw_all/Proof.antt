@@ -35,8 +35,8 @@ loop-again c = omega arith
 returns : tie.Need-returns invariant-loop decreases-loop
 returns c = search rules
 
-pub draw-all-spec : {M : Type 1} → statement M
-draw-all-spec =
+pub draw_all_spec : {M : Type 1} → statement M
+draw_all_spec =
     tie.close
     (tie.spec
     invariant-loop

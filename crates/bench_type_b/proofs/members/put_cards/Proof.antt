@@ -32,8 +32,8 @@ numbered-requires c κs = search rules
 returns : tie.Need-returns invariant-loop decreases-loop
 returns c = search rules
 
-pub put-cards-spec : {M : Type 1} → statement M
-put-cards-spec =
+pub put_cards_spec : {M : Type 1} → statement M
+put_cards_spec =
     tie.close
     (tie.spec
     invariant-loop

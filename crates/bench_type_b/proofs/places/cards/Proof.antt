@@ -4,15 +4,15 @@ use native.Mathlib.Omega.{arith}
 use borrow.Author.Rules.{rules}
 use mathlib.Core.Path.{◌≡◌}
 use lib.ListN.{length, length-set}
-use Rattle.limits.specs.Limits.{mostCards}
+use Rattle.limits.specs.Limits.{most_cards}
 use Rattle.bench_type_b.proofs.places.cards.Statement.{statement}
 use Rattle.bench_type_b.proofs.places.cards.Tie as tie
 
 abbrev invariant-loop : tie.invariant-loop
-invariant-loop f cards₀ i₀ cards i = (i ≤ mostCards) × (length cards ≡ mostCards)
+invariant-loop f cards₀ i₀ cards i = (i ≤ most_cards) × (length cards ≡ most_cards)
 
 abbrev decreases-loop : tie.decreases-loop
-decreases-loop f cards₀ i₀ cards i = mostCards - i
+decreases-loop f cards₀ i₀ cards i = most_cards - i
 
 at-requires : tie.Need-at-requires invariant-loop decreases-loop
 at-requires c κs = search rules
@@ -41,8 +41,8 @@ loop-again c = (omega arith, simp length-set (omega arith))
 returns : tie.Need-returns invariant-loop decreases-loop
 returns c = search rules
 
-pub cards-spec : {M : Type 1} → statement M
-cards-spec =
+pub cards_spec : {M : Type 1} → statement M
+cards_spec =
     tie.close
     (tie.spec
     invariant-loop

@@ -4,15 +4,15 @@ use native.Mathlib.Omega.{arith}
 use borrow.Author.Rules.{rules}
 use mathlib.Core.Path.{◌≡◌}
 use lib.ListN.{length}
-use Rattle.limits.specs.Limits.{mostCards}
+use Rattle.limits.specs.Limits.{most_cards}
 use Rattle.bench_type_b.proofs.places.with_cards.Statement.{statement}
 use Rattle.bench_type_b.proofs.places.with_cards.Tie as tie
 
 abbrev invariant-loop : tie.invariant-loop
-invariant-loop cards after₀ i₀ after i = (i ≤ mostCards) × (length cards ≡ mostCards)
+invariant-loop cards after₀ i₀ after i = (i ≤ most_cards) × (length cards ≡ most_cards)
 
 abbrev decreases-loop : tie.decreases-loop
-decreases-loop cards after₀ i₀ after i = mostCards - i
+decreases-loop cards after₀ i₀ after i = most_cards - i
 
 loop-holds : tie.Need-loop-init invariant-loop decreases-loop
 loop-holds c = (omega arith, search rules)
@@ -38,8 +38,8 @@ loop-again c = (omega arith, omega arith)
 returns : tie.Need-returns invariant-loop decreases-loop
 returns c = search rules
 
-pub with-cards-spec : {M : Type 1} → statement M
-with-cards-spec =
+pub with_cards_spec : {M : Type 1} → statement M
+with_cards_spec =
     tie.close
     (tie.spec
     invariant-loop

@@ -1,46 +1,46 @@
 -- `bench_values::within::hex_value` meets its contract. Assumes nothing.
 use borrow.Author.Tests.{lt-ltb, le-ltb}
 use borrow.Author.Rules.{rules}
-use Rattle.bench_values.specs.Values.{hexValue}
+use Rattle.bench_values.specs.Values.{hex_value}
 use Rattle.bench_values.proofs.within.hex_value.Statement.{statement}
 use Rattle.bench_values.proofs.within.hex_value.Tie as tie
 
 returns : tie.Need-returns
-unfolding hexValue
+unfolding hex_value
 returns c = simp (lt-ltb _ _ c.if1.true)
 
 returns-2 : tie.Need-returns-2
-unfolding hexValue
+unfolding hex_value
 returns-2 c = simp (le-ltb _ _ c.before.if1.false, lt-ltb _ _ c.if2.true)
 
 returns-3 : tie.Need-returns-3
-unfolding hexValue
+unfolding hex_value
 returns-3 c = simp (le-ltb _ _ c.before.before.if1.false, le-ltb _ _ c.before.if2.false, lt-ltb _ _ c.if3.true)
 
 sub-result : tie.Need-overflow-sub-result
 sub-result c = search rules
 
 returns-4 : tie.Need-returns-4
-unfolding hexValue
+unfolding hex_value
 returns-4 c = simp (le-ltb _ _ c.before.before.before.if1.false, le-ltb _ _ c.before.before.if2.false, le-ltb _ _ c.before.if3.false, lt-ltb _ _ c.if4.true)
 
 returns-5 : tie.Need-returns-5
-unfolding hexValue
+unfolding hex_value
 returns-5 c = simp (le-ltb _ _ c.before.before.before.before.if1.false, le-ltb _ _ c.before.before.before.if2.false, le-ltb _ _ c.before.before.if3.false, le-ltb _ _ c.before.if4.false, lt-ltb _ _ c.if5.true)
 
 sub-result-2 : tie.Need-overflow-sub-result-2
 sub-result-2 c = search rules
 
 returns-6 : tie.Need-returns-6
-unfolding hexValue
+unfolding hex_value
 returns-6 c = simp (le-ltb _ _ c.before.before.before.before.before.if1.false, le-ltb _ _ c.before.before.before.before.if2.false, le-ltb _ _ c.before.before.before.if3.false, le-ltb _ _ c.before.before.if4.false, le-ltb _ _ c.before.if5.false, lt-ltb _ _ c.if6.true)
 
 returns-7 : tie.Need-returns-7
-unfolding hexValue
+unfolding hex_value
 returns-7 c = simp (le-ltb _ _ c.before.before.before.before.before.if1.false, le-ltb _ _ c.before.before.before.before.if2.false, le-ltb _ _ c.before.before.before.if3.false, le-ltb _ _ c.before.before.if4.false, le-ltb _ _ c.before.if5.false, le-ltb _ _ c.if6.false)
 
-pub hex-value-spec : {M : Type 1} → statement M
-hex-value-spec =
+pub hex_value_spec : {M : Type 1} → statement M
+hex_value_spec =
     tie.close
     (tie.spec
     returns

@@ -16,5 +16,5 @@ is-spelt-requires c κs = search rules
 returns-3 : tie.Need-returns-3
 returns-3 c = simp (le-leb _ _ c.before.before.if1.false, eq-eqb _ _ c.before.if2.false) c.is-spelt.ensures
 
-pub is-hex-spec : {M : Type 1} → statement M
-is-hex-spec = tie.close (tie.spec returns returns-2 is-spelt-requires returns-3)
+pub is_hex_spec : {M : Type 1} → statement M
+is_hex_spec = tie.close (tie.spec returns returns-2 is-spelt-requires returns-3)

@@ -13,5 +13,5 @@ is-spelt-requires c κs = search rules
 returns-2 : tie.Need-returns-2
 returns-2 c = simp (le-leb _ _ c.before.if1.false) c.is-spelt.ensures
 
-pub is-row-spec : {M : Type 1} → statement M
-is-row-spec = tie.close (tie.spec returns is-spelt-requires returns-2)
+pub is_row_spec : {M : Type 1} → statement M
+is_row_spec = tie.close (tie.spec returns is-spelt-requires returns-2)

@@ -4,7 +4,7 @@ use mathlib.Core.Path.{◌≡◌, refl, sym, ◌∙◌}
 use native.Mathlib.Omega.{arith}
 use lib.ListN.{length, drop}
 use Rattle.bench_values.specs.Values.{spelt}
-use Rattle.bench_values.specs.ValueLaws.{spelt-next, spelt-here, spelt-done}
+use Rattle.bench_values.specs.ValueLaws.{spelt_next, spelt_here, spelt_done}
 use Rattle.bench_values.proofs.within.is_spelt.Statement.{statement}
 use Rattle.bench_values.proofs.within.is_spelt.Tie as tie
 
@@ -27,7 +27,7 @@ returns : tie.Need-returns invariant-loop decreases-loop
 returns c =
     let l = c.before.before.before.before.loop in
     let a = c.before.before.before.before.before.before.args in
-    sym (spelt-here a.a a.word.now l.i (omega arith) (omega (arith, c.before.value_of_lem.ensures))) ∙ l.invariant.1
+    sym (spelt_here a.a a.word.now l.i (omega arith) (omega (arith, c.before.value_of_lem.ensures))) ∙ l.invariant.1
 
 add-i : tie.Need-overflow-add-i invariant-loop decreases-loop
 add-i c = omega arith
@@ -39,16 +39,16 @@ loop-again : tie.Need-loop-preserved invariant-loop decreases-loop
 loop-again c =
     let l = c.before.before.before.before.loop in
     let a = c.before.before.before.before.before.before.args in
-    (omega arith, sym (spelt-next a.a a.word.now l.i (omega arith) (omega (arith, c.before.value_of_lem.ensures))) ∙ l.invariant.1)
+    (omega arith, sym (spelt_next a.a a.word.now l.i (omega arith) (omega (arith, c.before.value_of_lem.ensures))) ∙ l.invariant.1)
 
 returns-2 : tie.Need-returns-2 invariant-loop decreases-loop
 returns-2 c =
     let l = c.before.loop in
     let a = c.before.before.before.args in
-    sym (spelt-done a.a a.word.now l.i (omega arith)) ∙ l.invariant.1
+    sym (spelt_done a.a a.word.now l.i (omega arith)) ∙ l.invariant.1
 
-pub is-spelt-spec : {M : Type 1} → statement M
-is-spelt-spec =
+pub is_spelt_spec : {M : Type 1} → statement M
+is_spelt_spec =
     tie.close
     (tie.spec
     invariant-loop

@@ -4,7 +4,7 @@ use mathlib.Core.Path.{◌≡◌, refl, sym, ◌∙◌}
 use native.Mathlib.Omega.{arith}
 use lib.ListN.{length, drop}
 use Rattle.bench_values.specs.Values.{joined}
-use Rattle.bench_values.specs.ValueLaws.{joined-next, joined-done, digit-more, digit_room}
+use Rattle.bench_values.specs.ValueLaws.{joined_next, joined_done, digit_more, digit_room}
 use Rattle.bench_values.proofs.within.join.Statement.{statement}
 use Rattle.bench_values.proofs.within.join.Tie as tie
 
@@ -46,16 +46,16 @@ loop-again c =
     let a = c.before.before.before.before.before.args in
     let w = a.word.now in
     let e = c.decimal-value.ensures in
-    (omega arith, rw e (sym (joined-next l.v w l.i (omega arith)) ∙ l.invariant.1), digit-more l.v (c.decimal-value.result % 10) l.i l.invariant.2 (omega arith))
+    (omega arith, rw e (sym (joined_next l.v w l.i (omega arith)) ∙ l.invariant.1), digit_more l.v (c.decimal-value.result % 10) l.i l.invariant.2 (omega arith))
 
 returns : tie.Need-returns invariant-loop decreases-loop
 returns c =
     let l = c.before.loop in
     let w = c.before.before.before.args.word.now in
-    sym (joined-done l.v w l.i (omega arith)) ∙ l.invariant.1
+    sym (joined_done l.v w l.i (omega arith)) ∙ l.invariant.1
 
-pub join-spec : {M : Type 1} → statement M
-join-spec =
+pub join_spec : {M : Type 1} → statement M
+join_spec =
     tie.close
     (tie.spec
     invariant-loop

@@ -30,8 +30,8 @@ returns-2 c = rw c.before.enum-told2.given.1 c.bit-value.ensures
 returns-3 : tie.Need-returns-3
 returns-3 c = rw c.before.enum-told3.given.1 c.decimal-value.ensures
 
-pub value-of-spec : {M : Type 1} → statement M
-value-of-spec =
+pub value_of_spec : {M : Type 1} → statement M
+value_of_spec =
     tie.close
     (tie.spec
     enum_told

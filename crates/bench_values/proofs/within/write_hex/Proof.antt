@@ -5,20 +5,20 @@ use native.Mathlib.Omega.{arith}
 use lib.ListN.{length, take, length-set}
 use lib.Seq.{take_all}
 use Rattle.rows.specs.Rows.{overlay}
-use Rattle.rows.specs.RowLaws.{overlay-nil}
-use Rattle.bench_values.specs.Values.{hexBytes}
-use Rattle.bench_values.specs.ValueLaws.{copy-front, hex-at, length-hexBytes}
+use Rattle.rows.specs.RowLaws.{overlay_nil}
+use Rattle.bench_values.specs.Values.{hex_bytes}
+use Rattle.bench_values.specs.ValueLaws.{copy_front, hex_at, length_hex_bytes}
 use Rattle.bench_values.proofs.within.write_hex.Statement.{statement}
 use Rattle.bench_values.proofs.within.write_hex.Tie as tie
 
 abbrev invariant-loop : tie.invariant-loop
-invariant-loop word out₀ n i₀ out i = (i ≤ n) × (n ≡ length word / 2) × (length out ≡ length out₀) × (out ≡ overlay out₀ 0 (take i (hexBytes word)))
+invariant-loop word out₀ n i₀ out i = (i ≤ n) × (n ≡ length word / 2) × (length out ≡ length out₀) × (out ≡ overlay out₀ 0 (take i (hex_bytes word)))
 
 abbrev decreases-loop : tie.decreases-loop
 decreases-loop word out₀ n i₀ out i = n - i
 
 loop-holds : tie.Need-loop-init invariant-loop decreases-loop
-loop-holds c = (omega arith, refl, refl, sym (overlay-nil _ _))
+loop-holds c = (omega arith, refl, refl, sym (overlay_nil _ _))
 
 mul-hex-pair : tie.Need-overflow-mul-hex-pair invariant-loop decreases-loop
 mul-hex-pair c = omega arith
@@ -55,7 +55,7 @@ loop-again c =
       omega arith,
       refl,
       simp length-set (omega arith),
-      rw (c.hex-pair.ensures, ← hex-at w l.i (omega arith), l.invariant.3) (copy-front a.out.now (hexBytes w) l.i (omega arith) (omega (arith, length-hexBytes w))),
+      rw (c.hex-pair.ensures, ← hex_at w l.i (omega arith), l.invariant.3) (copy_front a.out.now (hex_bytes w) l.i (omega arith) (omega (arith, length_hex_bytes w))),
     )
 
 same_length : tie.Need-same-length invariant-loop decreases-loop
@@ -65,10 +65,10 @@ returns : tie.Need-returns invariant-loop decreases-loop
 returns c =
     let l = c.before.loop in
     let a = c.before.before.before.before.args in
-    l.invariant.3 ∙ ap (overlay a.out.now 0) (take_all l.i (hexBytes a.word.now) (omega (arith, length-hexBytes a.word.now)))
+    l.invariant.3 ∙ ap (overlay a.out.now 0) (take_all l.i (hex_bytes a.word.now) (omega (arith, length_hex_bytes a.word.now)))
 
-pub write-hex-spec : {M : Type 1} → statement M
-write-hex-spec =
+pub write_hex_spec : {M : Type 1} → statement M
+write_hex_spec =
     tie.close
     (tie.spec
     invariant-loop

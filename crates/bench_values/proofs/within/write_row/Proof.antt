@@ -5,20 +5,20 @@ use native.Mathlib.Omega.{arith}
 use lib.ListN.{length, take, length-set}
 use lib.Seq.{take_all}
 use Rattle.rows.specs.Rows.{overlay}
-use Rattle.rows.specs.RowLaws.{overlay-nil}
-use Rattle.bench_values.specs.Values.{rowBits}
-use Rattle.bench_values.specs.ValueLaws.{copy-front, row_at, length-rowBits}
+use Rattle.rows.specs.RowLaws.{overlay_nil}
+use Rattle.bench_values.specs.Values.{row_bits}
+use Rattle.bench_values.specs.ValueLaws.{copy_front, row_at, length_row_bits}
 use Rattle.bench_values.proofs.within.write_row.Statement.{statement}
 use Rattle.bench_values.proofs.within.write_row.Tie as tie
 
 abbrev invariant-loop : tie.invariant-loop
-invariant-loop word out₀ i₀ i-end out i = (i ≤ length word) × (length out ≡ length out₀) × (out ≡ overlay out₀ 0 (take i (rowBits word)))
+invariant-loop word out₀ i₀ i-end out i = (i ≤ length word) × (length out ≡ length out₀) × (out ≡ overlay out₀ 0 (take i (row_bits word)))
 
 abbrev decreases-loop : tie.decreases-loop
 decreases-loop word out₀ i₀ i-end out i = length word - i
 
 loop-holds : tie.Need-loop-init invariant-loop decreases-loop
-loop-holds c = (omega arith, refl, sym (overlay-nil _ _))
+loop-holds c = (omega arith, refl, sym (overlay_nil _ _))
 
 shared-slice-read-bit-value : tie.Need-shared-slice-read-bit-value invariant-loop decreases-loop
 shared-slice-read-bit-value c = omega arith
@@ -42,7 +42,7 @@ loop-again c =
     let w = a.word.now in (
       omega arith,
       simp length-set (omega arith),
-      rw (c.bit-value.ensures, ← row_at w l.i (omega arith), l.invariant.2) (copy-front a.out.now (rowBits w) l.i (omega arith) (omega (arith, length-rowBits w))),
+      rw (c.bit-value.ensures, ← row_at w l.i (omega arith), l.invariant.2) (copy_front a.out.now (row_bits w) l.i (omega arith) (omega (arith, length_row_bits w))),
     )
 
 same_length : tie.Need-same-length invariant-loop decreases-loop
@@ -52,10 +52,10 @@ returns : tie.Need-returns invariant-loop decreases-loop
 returns c =
     let l = c.before.loop in
     let a = c.before.before.before.before.args in
-    l.invariant.2 ∙ ap (overlay a.out.now 0) (take_all l.i (rowBits a.word.now) (omega (arith, length-rowBits a.word.now)))
+    l.invariant.2 ∙ ap (overlay a.out.now 0) (take_all l.i (row_bits a.word.now) (omega (arith, length_row_bits a.word.now)))
 
-pub write-row-spec : {M : Type 1} → statement M
-write-row-spec =
+pub write_row_spec : {M : Type 1} → statement M
+write_row_spec =
     tie.close
     (tie.spec
     invariant-loop

@@ -2,19 +2,19 @@
 use mathlib.Core.Path.{◌≡◌, sym}
 use native.Mathlib.Omega.{arith}
 use lib.ListN.{length, take}
-use Rattle.block.specs.AirLaws.{row-put-none, count-is, row_put}
+use Rattle.block.specs.AirLaws.{row_put_none, count_is, row_put}
 use borrow.Author.Rules.{rules}
 use Rattle.block.proofs.within.put_block.Statement.{statement}
 use Rattle.block.proofs.within.put_block.Tie as tie
 
 returns : tie.Need-returns
-returns c = row-put-none c.before.before.args.b.count c.before.before.args.b.bytes c.before.before.args.out.now c.if1.true
+returns c = row_put_none c.before.before.args.b.count c.before.before.args.b.bytes c.before.before.args.out.now c.if1.true
 
 array-share-prefix-bytes : tie.Need-array-share-prefix-bytes
 array-share-prefix-bytes c = let l : length c.before.before.before.args.b.bytes ≡ 256 = search rules in omega (arith, c.before.before.before.requires.0)
 
 slice-aggregate-crc-bytes : tie.Need-slice-aggregate-crc-bytes
-slice-aggregate-crc-bytes c = let l : length c.before.before.before.before.args.b.bytes ≡ 256 = search rules in count-is _ _ c.before.before.before.before.requires.0 l
+slice-aggregate-crc-bytes c = let l : length c.before.before.before.before.args.b.bytes ≡ 256 = search rules in count_is _ _ c.before.before.before.before.requires.0 l
 
 crc-bytes-requires : tie.Need-crc-bytes-requires
 crc-bytes-requires c κs = search rules
@@ -23,12 +23,12 @@ array-share-prefix-bytes-2 : tie.Need-array-share-prefix-bytes-2
 array-share-prefix-bytes-2 c = let l : length c.before.before.before.before.before.before.args.b.bytes ≡ 256 = search rules in omega (arith, c.before.before.before.before.before.before.requires.0)
 
 slice-aggregate-put-bytes : tie.Need-slice-aggregate-put-bytes
-slice-aggregate-put-bytes c = let l : length c.before.before.before.before.before.before.before.args.b.bytes ≡ 256 = search rules in count-is _ _ c.before.before.before.before.before.before.before.requires.0 l
+slice-aggregate-put-bytes c = let l : length c.before.before.before.before.before.before.before.args.b.bytes ≡ 256 = search rules in count_is _ _ c.before.before.before.before.before.before.before.requires.0 l
 
 put-bytes-requires : tie.Need-put-bytes-requires
 put-bytes-requires c κs =
     let l : length c.before.before.before.before.before.before.before.args.b.bytes ≡ 256 = search rules in
-    omega (arith, count-is c.before.before.before.before.before.before.before.args.b.count c.before.before.before.before.before.before.before.args.b.bytes c.before.before.before.before.before.before.before.requires.0 l, c.before.before.before.before.before.before.before.requires.0, c.before.before.before.before.before.before.before.requires.1)
+    omega (arith, count_is c.before.before.before.before.before.before.before.args.b.count c.before.before.before.before.before.before.before.args.b.bytes c.before.before.before.before.before.before.before.requires.0 l, c.before.before.before.before.before.before.before.requires.0, c.before.before.before.before.before.before.before.requires.1)
 
 mul-put-bytes : tie.Need-overflow-mul-put-bytes
 mul-put-bytes c = search rules
@@ -52,10 +52,10 @@ returns-2 : tie.Need-returns-2
 returns-2 c =
     let a = c.before.before.before.before.before.before.before.before.before.before.before.before.before.before.before.args in
     let l : length a.b.bytes ≡ 256 = search rules in
-    row_put (take a.b.count a.b.bytes) _ a.out.now _ _ a.b.count (omega (arith, c.before.before.before.before.before.before.before.before.before.before.before.before.before.if1.false)) c.before.before.before.before.before.before.before.before.before.before.before.before.before.before.before.requires.0 c.before.before.before.before.before.before.before.before.before.before.before.before.before.before.before.requires.1 (sym (count-is a.b.count a.b.bytes c.before.before.before.before.before.before.before.before.before.before.before.before.before.before.before.requires.0 l)) c.before.before.before.before.before.before.before.before.before.before.crc-bytes.ensures c.before.before.before.before.before.before.before.put-bytes.ensures c.before.before.put-bytes2.ensures
+    row_put (take a.b.count a.b.bytes) _ a.out.now _ _ a.b.count (omega (arith, c.before.before.before.before.before.before.before.before.before.before.before.before.before.if1.false)) c.before.before.before.before.before.before.before.before.before.before.before.before.before.before.before.requires.0 c.before.before.before.before.before.before.before.before.before.before.before.before.before.before.before.requires.1 (sym (count_is a.b.count a.b.bytes c.before.before.before.before.before.before.before.before.before.before.before.before.before.before.before.requires.0 l)) c.before.before.before.before.before.before.before.before.before.before.crc-bytes.ensures c.before.before.before.before.before.before.before.put-bytes.ensures c.before.before.put-bytes2.ensures
 
-pub put-block-spec : {M : Type 1} → statement M
-put-block-spec =
+pub put_block_spec : {M : Type 1} → statement M
+put_block_spec =
     tie.close
     (tie.spec
     returns

@@ -1,7 +1,7 @@
 -- `card::answer::send` meets its contract: the row is empty or it is not. Assumes nothing.
 use mathlib.Core.Path.{◌∙◌}
 use borrow.Author.Rules.{rules}
-use Rattle.card.specs.TakenLaws.{sends_none, sends-some}
+use Rattle.card.specs.TakenLaws.{sends_none, sends_some}
 use Rattle.card.proofs.answer.send.Statement.{statement}
 use Rattle.card.proofs.answer.send.Tie as tie
 
@@ -28,10 +28,10 @@ same-length-2 c = search rules
 returns-2 : tie.Need-returns-2
 returns-2 c =
     let a = c.before.before.before.before.before.before.before.before.args in
-    (sends-some a.c _ a.s a.row.now c.with-state.ensures c.before.if1.false, c.before.before.before.before.put.ensures)
+    (sends_some a.c _ a.s a.row.now c.with-state.ensures c.before.if1.false, c.before.before.before.before.put.ensures)
 
-pub send-spec : {M : Type 1} → statement M
-send-spec =
+pub send_spec : {M : Type 1} → statement M
+send_spec =
     tie.close
     (tie.spec
     put-requires

@@ -9,5 +9,5 @@ with-state-requires c κs = search rules
 returns : tie.Need-returns
 returns c = rw c.with-state.ensures
 
-pub silent-spec : {M : Type 1} → statement M
-silent-spec = tie.close (tie.spec with-state-requires returns)
+pub silent_spec : {M : Type 1} → statement M
+silent_spec = tie.close (tie.spec with-state-requires returns)

@@ -1,7 +1,7 @@
 -- `card::rats::fsdi` meets its contract: an element is a byte, so the sums fit. Assumes nothing.
 use native.Mathlib.Omega.{arith}
 use borrow.Author.Rules.{rules}
-use Rattle.card.specs.RatsLaws.{fsdi-read}
+use Rattle.card.specs.RatsLaws.{fsdi_read}
 use Rattle.card.proofs.rats.fsdi.Statement.{statement}
 use Rattle.card.proofs.rats.fsdi.Tie as tie
 
@@ -48,10 +48,10 @@ add-result-3 : tie.Need-overflow-add-result-3
 add-result-3 c = omega (arith, c.before.before.before.shared-slice-known.given 13, c.before.before.shared-slice-known2.given 14, c.before.shared-slice-known3.given 15, c.shared-slice-known4.given 16)
 
 returns : tie.Need-returns
-returns c = fsdi-read c.before.before.before.before.args.row.now c.before.before.before.before.requires
+returns c = fsdi_read c.before.before.before.before.args.row.now c.before.before.before.before.requires
 
-pub fsdi-spec : {M : Type 1} → statement M
-fsdi-spec =
+pub fsdi_spec : {M : Type 1} → statement M
+fsdi_spec =
     tie.close
     (tie.spec
     shared-slice-read-result

@@ -4,18 +4,18 @@ use native.Mathlib.Omega.{arith}
 use borrow.Author.Rules.{rules}
 use Rattle.rows.specs.Rows.{same}
 use Rattle.selection.specs.Selection.{rats}
-use Rattle.card.specs.RatsLaws.{not-rats, not-fsdi}
+use Rattle.card.specs.RatsLaws.{not_rats, not_fsdi}
 use Rattle.card.proofs.rats.is_rats.Statement.{statement}
 use Rattle.card.proofs.rats.is_rats.Tie as tie
 
 returns : tie.Need-returns
-returns c = sym (not-rats c.before.before.args.row.now (omega arith))
+returns c = sym (not_rats c.before.before.args.row.now (omega arith))
 
 fsdi-requires : tie.Need-fsdi-requires
 fsdi-requires c κs = search rules
 
 returns-2 : tie.Need-returns-2
-returns-2 c = sym (not-fsdi c.before.before.before.before.args.row.now (omega (arith, c.before.fsdi.ensures)))
+returns-2 c = sym (not_fsdi c.before.before.before.before.args.row.now (omega (arith, c.before.fsdi.ensures)))
 
 cast-rats : tie.Need-overflow-cast-rats
 cast-rats c = search rules
@@ -34,8 +34,8 @@ returns-3 c =
     let f = c.before.before.before.before.before.before.before.args.row.now in
     c.is_same.ensures ∙ ap (same f) (c.before.before.rats.ensures ∙ ap rats c.before.before.before.before.fsdi.ensures)
 
-pub is-rats-spec : {M : Type 1} → statement M
-is-rats-spec =
+pub is_rats_spec : {M : Type 1} → statement M
+is_rats_spec =
     tie.close
     (tie.spec
     returns

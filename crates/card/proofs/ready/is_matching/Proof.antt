@@ -2,7 +2,7 @@
 use native.Mathlib.Omega.{arith}
 use mathlib.Core.Path.{◌∙◌}
 use borrow.Author.Rules.{rules}
-use Rattle.card.specs.ReadyLaws.{match-told, match_none}
+use Rattle.card.specs.ReadyLaws.{match_told, match_none}
 use Rattle.card.proofs.ready.is_matching.Statement.{statement}
 use Rattle.card.proofs.ready.is_matching.Tie as tie
 
@@ -18,16 +18,16 @@ is-anticollision-requires c κs = search rules
 returns : tie.Need-returns
 returns c =
     let a = c.before.before.before.before.args in
-    let k = c.before.before.bits-sent in
-    c.is-anticollision.ensures ∙ match-told a.l a.five a.row.now k.result k.ensures (omega arith)
+    let k = c.before.before.bits_sent_law in
+    c.is-anticollision.ensures ∙ match_told a.l a.five a.row.now k.result k.ensures (omega arith)
 
 returns-2 : tie.Need-returns-2
 returns-2 c =
     let a = c.before.before.before.args in
-    let k = c.before.bits-sent in
+    let k = c.before.bits_sent_law in
     match_none a.l a.five a.row.now k.result k.ensures (omega arith)
 
-pub is-matching-spec : {M : Type 1} → statement M
-is-matching-spec =
+pub is_matching_spec : {M : Type 1} → statement M
+is_matching_spec =
     tie.close
     (tie.spec bits-sent-requires cast-is-anticollision is-anticollision-requires returns returns-2)

@@ -20,5 +20,5 @@ returns-3 : tie.Need-returns-3
 unfolding sak
 returns-3 c = rw (sym c.before.before.remains.ensures ∙ c.before.if1.false, c.if2.false)
 
-pub sak-of-spec : {M : Type 1} → statement M
-sak-of-spec = tie.close (tie.spec remains-requires returns returns-2 returns-3)
+pub sak_of_spec : {M : Type 1} → statement M
+sak_of_spec = tie.close (tie.spec remains-requires returns returns-2 returns-3)

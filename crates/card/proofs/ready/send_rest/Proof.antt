@@ -1,7 +1,7 @@
 -- `card::ready::send_rest` meets its contract: the rest of the row is what the definition drops to. Assumes nothing.
 use mathlib.Core.Path.{ap₂}
 use borrow.Author.Rules.{rules}
-use Rattle.card.specs.ReadyLaws.{rest-made}
+use Rattle.card.specs.ReadyLaws.{rest_made}
 use Rattle.card.specs.TakenLaws.{handed}
 use Rattle.card.proofs.ready.send_rest.Statement.{statement}
 use Rattle.card.proofs.ready.send_rest.Tie as tie
@@ -33,10 +33,10 @@ same_length c = search rules
 returns : tie.Need-returns
 returns c =
     let a = c.before.before.before.before.before.before.before.before.before.before.args in
-    handed a.c a.out.now (ap₂ (λ s r. (s, r)) c.before.before.before.before.before.before.ready-in.ensures (rest-made a.k _ a.five _ c.before.before.before.before.before.before.before.before.before.before.requires.0 (search rules) c.before.before.before.before.before.before.before.cut.ensures c.before.before.before.before.before.before.before.before.level-row.ensures)) c.before.before.send.ensures
+    handed a.c a.out.now (ap₂ (λ s r. (s, r)) c.before.before.before.before.before.before.ready-in.ensures (rest_made a.k _ a.five _ c.before.before.before.before.before.before.before.before.before.before.requires.0 (search rules) c.before.before.before.before.before.before.before.cut.ensures c.before.before.before.before.before.before.before.before.level_row_law.ensures)) c.before.before.send.ensures
 
-pub send-rest-spec : {M : Type 1} → statement M
-send-rest-spec =
+pub send_rest_spec : {M : Type 1} → statement M
+send_rest_spec =
     tie.close
     (tie.spec
     level-row-requires

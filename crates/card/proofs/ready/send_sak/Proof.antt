@@ -1,7 +1,7 @@
 -- `card::ready::send_sak` meets its contract, by those of what it calls. Assumes nothing.
 use mathlib.Core.Path.{ap, ap₂, ◌∙◌}
 use borrow.Author.Rules.{rules}
-use Rattle.selection.specs.Selection.{sakFrame}
+use Rattle.selection.specs.Selection.{sak_frame}
 use Rattle.card.specs.TakenLaws.{handed}
 use Rattle.card.proofs.ready.send_sak.Statement.{statement}
 use Rattle.card.proofs.ready.send_sak.Tie as tie
@@ -27,10 +27,10 @@ same_length c = search rules
 returns : tie.Need-returns
 returns c =
     let a = c.before.before.before.before.before.before.before.before.before.args in
-    handed a.c a.out.now (ap₂ (λ s r. (s, r)) c.before.before.before.before.before.chosen.ensures (c.before.before.before.before.before.before.sak-frame.ensures ∙ ap sakFrame c.before.before.before.before.before.before.before.sak-of.ensures)) c.before.before.send.ensures
+    handed a.c a.out.now (ap₂ (λ s r. (s, r)) c.before.before.before.before.before.chosen.ensures (c.before.before.before.before.before.before.sak-frame.ensures ∙ ap sak_frame c.before.before.before.before.before.before.before.sak-of.ensures)) c.before.before.send.ensures
 
-pub send-sak-spec : {M : Type 1} → statement M
-send-sak-spec =
+pub send_sak_spec : {M : Type 1} → statement M
+send_sak_spec =
     tie.close
     (tie.spec
     sak-of-requires

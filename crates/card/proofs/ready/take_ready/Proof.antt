@@ -3,7 +3,7 @@ use mathlib.Core.Path.{ap, ◌∙◌}
 use mathlib.Core.List.{[]}
 use native.Mathlib.Omega.{arith}
 use borrow.Author.Rules.{rules}
-use Rattle.card.specs.ReadyLaws.{place-most, level-step, level-none}
+use Rattle.card.specs.ReadyLaws.{place_most, level_step, level_none}
 use Rattle.card.specs.TakenLaws.{handed, unmoved}
 use Rattle.card.proofs.ready.take_ready.Statement.{statement}
 use Rattle.card.proofs.ready.take_ready.Tie as tie
@@ -25,16 +25,16 @@ returns c =
     let a = c.before.before.before.before.before.before.before.before.args in
     let p = c.before.before.before.before.place in
     let n = c.before.before.before.level-count in
-    unmoved a.c a.out.now (ap (λ s. (s, [])) c.before.home.ensures ∙ level-none a.c a.woken a.l a.row.now p.result n.result p.ensures n.ensures (omega arith)) c.silent.ensures
+    unmoved a.c a.out.now (ap (λ s. (s, [])) c.before.home.ensures ∙ level_none a.c a.woken a.l a.row.now p.result n.result p.ensures n.ensures (omega arith)) c.silent.ensures
 
 levels-requires : tie.Need-levels-requires
 levels-requires c κs = search rules
 
 mul-five : tie.Need-overflow-mul-five
-mul-five c = omega (arith, c.before.before.before.place.ensures, place-most c.before.before.before.before.before.before.before.args.l)
+mul-five c = omega (arith, c.before.before.before.place.ensures, place_most c.before.before.before.before.before.before.before.args.l)
 
 array-copy-out-five : tie.Need-array-copy-out-five
-array-copy-out-five c = omega (arith, c.before.before.before.place.ensures, place-most c.before.before.before.before.before.before.before.args.l)
+array-copy-out-five c = omega (arith, c.before.before.before.place.ensures, place_most c.before.before.before.before.before.before.before.args.l)
 
 ready-at-requires : tie.Need-ready-at-requires
 ready-at-requires c κs = search rules
@@ -48,10 +48,10 @@ returns-2 c =
     let p = c.before.before.before.before.before.before.before.before.place in
     let n = c.before.before.before.before.before.before.before.level-count in
     let ls = c.before.before.before.before.before.levels in
-    handed a.c a.out.now (level-step a.c a.woken a.l a.row.now p.result n.result p.ensures n.ensures ls.result ls.ensures (omega arith)) c.before.before.ready_at.ensures
+    handed a.c a.out.now (level_step a.c a.woken a.l a.row.now p.result n.result p.ensures n.ensures ls.result ls.ensures (omega arith)) c.before.before.ready_at.ensures
 
-pub take-ready-spec : {M : Type 1} → statement M
-take-ready-spec =
+pub take_ready_spec : {M : Type 1} → statement M
+take_ready_spec =
     tie.close
     (tie.spec
     place-requires

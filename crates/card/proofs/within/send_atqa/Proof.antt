@@ -25,6 +25,6 @@ returns c =
     let a = c.before.before.before.before.before.before.before.before.before.args in
     handed a.c a.out.now (ap₂ (λ s r. (s, r)) c.before.before.before.before.before.ready-in.ensures c.before.before.before.before.before.before.atqa.ensures) c.before.before.send.ensures
 
-pub send-atqa-spec : {M : Type 1} → statement M
-send-atqa-spec =
+pub send_atqa_spec : {M : Type 1} → statement M
+send_atqa_spec =
     tie.close (tie.spec atqa-requires ready-in-requires slice-aggregate-send send-requires same_length returns)

@@ -5,11 +5,11 @@ use mathlib.Core.List.{[]}
 use native.Mathlib.Omega.{arith}
 use borrow.Author.Tests.{not-true, not-false}
 use borrow.Author.Rules.{rules}
-use Rattle.selection.specs.Selection.{ats, atMost8}
-use Rattle.selection.specs.SizeLaws.{index-most}
+use Rattle.selection.specs.Selection.{ats, at_most8}
+use Rattle.selection.specs.SizeLaws.{index_most}
 use Rattle.card.specs.declared.CardState.TheVariants.{Protocol}
-use Rattle.card.specs.RatsLaws.{rats-is}
-use Rattle.card.specs.RulesLaws.{active-step}
+use Rattle.card.specs.RatsLaws.{rats_is}
+use Rattle.card.specs.RulesLaws.{active_step}
 use Rattle.card.specs.TakenLaws.{handed, unmoved, told}
 use Rattle.card.proofs.within.take_active.Statement.{statement}
 use Rattle.card.proofs.within.take_active.Tie as tie
@@ -30,7 +30,7 @@ returns : tie.Need-returns
 returns c =
     let a = c.before.before.before.before.before.before.before.args in
     let x = told a.row.now c.before.before.is_same.ensures c.before.before.before.before.hlta.ensures c.before.if1.true in
-    unmoved a.c a.out.now (active-step a.c a.row.now a.woken true _ _ x refl refl) c.silent.ensures
+    unmoved a.c a.out.now (active_step a.c a.row.now a.woken true _ _ x refl refl) c.silent.ensures
 
 home-requires : tie.Need-home-requires
 home-requires c κs = search rules
@@ -42,16 +42,16 @@ returns-2 : tie.Need-returns-2
 returns-2 c =
     let a = c.before.before.before.before.before.before.before.before.before.before.args in
     let x = told a.row.now c.before.before.before.before.before.is_same.ensures c.before.before.before.before.before.before.before.hlta.ensures c.before.before.before.before.if1.false in
-    unmoved a.c a.out.now (ap (λ s. (s, [])) c.before.home.ensures ∙ active-step a.c a.row.now a.woken false false _ x (not-true _ c.before.before.if2.true) refl) c.silent2.ensures
+    unmoved a.c a.out.now (ap (λ s. (s, [])) c.before.home.ensures ∙ active_step a.c a.row.now a.woken false false _ x (not-true _ c.before.before.if2.true) refl) c.silent2.ensures
 
 is-rats-requires : tie.Need-is-rats-requires
 is-rats-requires c κs = search rules
 
 fsdi-requires : tie.Need-fsdi-requires
-fsdi-requires c κs = omega (arith, (rats-is c.before.before.before.before.before.before.before.before.before.before.args.row.now (sym c.before.is-rats.ensures ∙ c.if3.true)).0)
+fsdi-requires c κs = omega (arith, (rats_is c.before.before.before.before.before.before.before.before.before.before.args.row.now (sym c.before.is_rats.ensures ∙ c.if3.true)).0)
 
 cast-at-most-8 : tie.Need-overflow-cast-at-most-8
-cast-at-most-8 c = omega (arith, c.fsdi.ensures, (rats-is c.before.before.before.before.before.before.before.before.before.before.before.args.row.now (sym c.before.before.is-rats.ensures ∙ c.before.if3.true)).1)
+cast-at-most-8 c = omega (arith, c.fsdi.ensures, (rats_is c.before.before.before.before.before.before.before.before.before.before.before.args.row.now (sym c.before.before.is_rats.ensures ∙ c.before.if3.true)).1)
 
 at-most-8-requires : tie.Need-at-most-8-requires
 at-most-8-requires c κs = search rules
@@ -60,7 +60,7 @@ at-most-8-requires-2 : tie.Need-at-most-8-requires-2
 at-most-8-requires-2 c κs = search rules
 
 ats-requires : tie.Need-ats-requires
-ats-requires c κs = omega (arith, c.at-most-82.ensures, index-most c.before.before.before.before.before.before.before.before.before.before.before.before.before.args.c.index)
+ats-requires c κs = omega (arith, c.at-most-82.ensures, index_most c.before.before.before.before.before.before.before.before.before.before.before.before.before.args.c.index)
 
 slice-aggregate-send : tie.Need-slice-aggregate-send
 slice-aggregate-send c = search rules
@@ -75,10 +75,10 @@ returns-3 : tie.Need-returns-3
 returns-3 c =
     let a = c.before.before.before.before.before.before.before.before.before.before.before.before.before.before.before.before.before.before.before.args in
     let x = told a.row.now c.before.before.before.before.before.before.before.before.before.before.before.before.before.before.is_same.ensures c.before.before.before.before.before.before.before.before.before.before.before.before.before.before.before.before.hlta.ensures c.before.before.before.before.before.before.before.before.before.before.before.before.before.if1.false in
-    let y = sym c.before.before.before.before.before.before.before.before.before.before.is-rats.ensures ∙ c.before.before.before.before.before.before.before.before.before.if3.true in
-    let i = c.before.before.before.before.before.before.before.at-most-8.ensures ∙ ap atMost8 c.before.before.before.before.before.before.before.before.fsdi.ensures in
+    let y = sym c.before.before.before.before.before.before.before.before.before.before.is_rats.ensures ∙ c.before.before.before.before.before.before.before.before.before.if3.true in
+    let i = c.before.before.before.before.before.before.before.at-most-8.ensures ∙ ap at_most8 c.before.before.before.before.before.before.before.before.fsdi.ensures in
     let r = c.before.before.before.before.before.ats.ensures ∙ ap ats c.before.before.before.before.before.before.at-most-82.ensures in
-    handed a.c a.out.now (ap₂ (λ i r. (Protocol i, r)) i r ∙ active-step a.c a.row.now a.woken false true true x (not-false _ c.before.before.before.before.before.before.before.before.before.before.before.if2.false) y) c.before.before.send.ensures
+    handed a.c a.out.now (ap₂ (λ i r. (Protocol i, r)) i r ∙ active_step a.c a.row.now a.woken false true true x (not-false _ c.before.before.before.before.before.before.before.before.before.before.before.if2.false) y) c.before.before.send.ensures
 
 home-requires-2 : tie.Need-home-requires-2
 home-requires-2 c κs = search rules
@@ -90,11 +90,11 @@ returns-4 : tie.Need-returns-4
 returns-4 c =
     let a = c.before.before.before.before.before.before.before.before.before.before.before.before.args in
     let x = told a.row.now c.before.before.before.before.before.before.before.is_same.ensures c.before.before.before.before.before.before.before.before.before.hlta.ensures c.before.before.before.before.before.before.if1.false in
-    let y = sym c.before.before.before.is-rats.ensures ∙ c.before.before.if3.false in
-    unmoved a.c a.out.now (ap (λ s. (s, [])) c.before.home2.ensures ∙ active-step a.c a.row.now a.woken false true false x (not-false _ c.before.before.before.before.if2.false) y) c.silent3.ensures
+    let y = sym c.before.before.before.is_rats.ensures ∙ c.before.before.if3.false in
+    unmoved a.c a.out.now (ap (λ s. (s, [])) c.before.home2.ensures ∙ active_step a.c a.row.now a.woken false true false x (not-false _ c.before.before.before.before.if2.false) y) c.silent3.ensures
 
-pub take-active-spec : {M : Type 1} → statement M
-take-active-spec =
+pub take_active_spec : {M : Type 1} → statement M
+take_active_spec =
     tie.close
     (tie.spec
     hlta-requires

@@ -1,7 +1,7 @@
 -- `card::within::take_halt` meets its contract: the rules of Halt at what the test told. Assumes nothing.
 use mathlib.Core.Bool.{true, false}
 use borrow.Author.Rules.{rules}
-use Rattle.card.specs.RulesLaws.{halt-step}
+use Rattle.card.specs.RulesLaws.{halt_step}
 use Rattle.card.specs.TakenLaws.{handed, unmoved, told}
 use Rattle.card.proofs.within.take_halt.Statement.{statement}
 use Rattle.card.proofs.within.take_halt.Tie as tie
@@ -25,7 +25,7 @@ returns : tie.Need-returns
 returns c =
     let a = c.before.before.before.before.before.before.before.before.before.before.args in
     let x = told a.row.now c.before.before.before.before.before.is_same.ensures c.before.before.before.before.before.before.before.wupa.ensures c.before.before.before.before.if1.true in
-    handed a.c a.out.now (halt-step a.c a.row.now true x) c.before.before.send-atqa.ensures
+    handed a.c a.out.now (halt_step a.c a.row.now true x) c.before.before.send-atqa.ensures
 
 silent-requires : tie.Need-silent-requires
 silent-requires c κs = search rules
@@ -34,10 +34,10 @@ returns-2 : tie.Need-returns-2
 returns-2 c =
     let a = c.before.before.before.before.before.before.before.args in
     let x = told a.row.now c.before.before.is_same.ensures c.before.before.before.before.wupa.ensures c.before.if1.false in
-    unmoved a.c a.out.now (halt-step a.c a.row.now false x) c.silent.ensures
+    unmoved a.c a.out.now (halt_step a.c a.row.now false x) c.silent.ensures
 
-pub take-halt-spec : {M : Type 1} → statement M
-take-halt-spec =
+pub take_halt_spec : {M : Type 1} → statement M
+take_halt_spec =
     tie.close
     (tie.spec
     wupa-requires

@@ -2,7 +2,7 @@
 use mathlib.Core.Path.{refl}
 use mathlib.Core.Bool.{true, false}
 use borrow.Author.Rules.{rules}
-use Rattle.card.specs.RulesLaws.{idle-step}
+use Rattle.card.specs.RulesLaws.{idle_step}
 use Rattle.card.specs.TakenLaws.{handed, unmoved, told}
 use Rattle.card.proofs.within.take_idle.Statement.{statement}
 use Rattle.card.proofs.within.take_idle.Tie as tie
@@ -26,7 +26,7 @@ returns : tie.Need-returns
 returns c =
     let a = c.before.before.before.before.before.before.before.before.before.before.args in
     let x = told a.row.now c.before.before.before.before.before.is_same.ensures c.before.before.before.before.before.before.before.reqa.ensures c.before.before.before.before.if1.true in
-    handed a.c a.out.now (idle-step a.c a.row.now true _ x refl) c.before.before.send-atqa.ensures
+    handed a.c a.out.now (idle_step a.c a.row.now true _ x refl) c.before.before.send-atqa.ensures
 
 wupa-requires : tie.Need-wupa-requires
 wupa-requires c κs = search rules
@@ -48,7 +48,7 @@ returns-2 c =
     let a = c.before.before.before.before.before.before.before.before.before.before.before.before.before.before.args in
     let x = told a.row.now c.before.before.before.before.before.before.before.before.before.is_same.ensures c.before.before.before.before.before.before.before.before.before.before.before.reqa.ensures c.before.before.before.before.before.before.before.before.if1.false in
     let y = told a.row.now c.before.before.before.before.before.is-same2.ensures c.before.before.before.before.before.before.before.wupa.ensures c.before.before.before.before.if2.true in
-    handed a.c a.out.now (idle-step a.c a.row.now false true x y) c.before.before.send-atqa2.ensures
+    handed a.c a.out.now (idle_step a.c a.row.now false true x y) c.before.before.send-atqa2.ensures
 
 silent-requires : tie.Need-silent-requires
 silent-requires c κs = search rules
@@ -58,10 +58,10 @@ returns-3 c =
     let a = c.before.before.before.before.before.before.before.before.before.before.before.args in
     let x = told a.row.now c.before.before.before.before.before.before.is_same.ensures c.before.before.before.before.before.before.before.before.reqa.ensures c.before.before.before.before.before.if1.false in
     let y = told a.row.now c.before.before.is-same2.ensures c.before.before.before.before.wupa.ensures c.before.if2.false in
-    unmoved a.c a.out.now (idle-step a.c a.row.now false false x y) c.silent.ensures
+    unmoved a.c a.out.now (idle_step a.c a.row.now false false x y) c.silent.ensures
 
-pub take-idle-spec : {M : Type 1} → statement M
-take-idle-spec =
+pub take_idle_spec : {M : Type 1} → statement M
+take_idle_spec =
     tie.close
     (tie.spec
     reqa-requires

@@ -114,8 +114,8 @@ returns-8 c =
     let a = c.before.before.before.before.before.before.args in
     unmoved a.c a.out.now (ap (λ s. rules a.c s a.row.now) (sym c.before.before.s3.given.1)) c.silent2.ensures
 
-pub take-rules-spec : {M : Type 1} → statement M
-take-rules-spec =
+pub take_rules_spec : {M : Type 1} → statement M
+take_rules_spec =
     tie.close
     (tie.spec
     enum_told

@@ -1,5 +1,5 @@
 -- `card_link::whole::finish` meets its contract, by those of `sent` and `put_block`. Assumes nothing.
-use Rattle.block.specs.AirLaws.{sent-most}
+use Rattle.block.specs.AirLaws.{sent_most}
 use Rattle.card_link.specs.WholeLaws.{finished}
 use borrow.Author.Rules.{rules}
 use Rattle.card_link.proofs.whole.finish.Statement.{statement}
@@ -11,7 +11,7 @@ sent-requires c κs = search rules
 put-block-requires : tie.Need-put-block-requires
 put-block-requires c κs =
     let a = c.before.before.before.before.before.args in
-    (sent-most c.before.sent.result a.step.send a.step.link.reader a.step.link.at a.answer.now c.before.sent.ensures, c.before.before.before.before.before.requires)
+    (sent_most c.before.sent.result a.step.send a.step.link.reader a.step.link.at a.answer.now c.before.sent.ensures, c.before.before.before.before.before.requires)
 
 left-by-requires : tie.Need-left-by-requires
 left-by-requires c κs = search rules

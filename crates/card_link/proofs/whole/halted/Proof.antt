@@ -8,5 +8,5 @@ open-requires c κs = search rules
 returns : tie.Need-returns
 returns c = rw c.open.ensures
 
-pub halted-spec : {M : Type 1} → statement M
-halted-spec = tie.close (tie.spec open-requires returns)
+pub halted_spec : {M : Type 1} → statement M
+halted_spec = tie.close (tie.spec open-requires returns)

@@ -35,8 +35,8 @@ returns-4 c = rw c.enum-told4.given.1
 returns-5 : tie.Need-returns-5
 returns-5 c = rw c.enum-told5.given.1
 
-pub left-by-spec : {M : Type 1} → statement M
-left-by-spec =
+pub left_by_spec : {M : Type 1} → statement M
+left_by_spec =
     tie.close
     (tie.spec
     enum_told

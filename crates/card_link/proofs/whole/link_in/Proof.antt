@@ -74,8 +74,8 @@ returns-7 c = rw (c.open7.ensures, c.before.enum-told7.given.1)
 returns-8 : tie.Need-returns-8
 returns-8 c = rw (c.open8.ensures, c.before.before.s.given.1)
 
-pub link-in-spec : {M : Type 1} → statement M
-link-in-spec =
+pub link_in_spec : {M : Type 1} → statement M
+link_in_spec =
     tie.close
     (tie.spec
     enum_told

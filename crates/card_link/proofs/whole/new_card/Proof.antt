@@ -14,5 +14,5 @@ returns c =
     let e = c.before.before.new-card.ensures in
     (ap (λ n. n.card) e.0, (c.open.ensures, (ap (λ n. n.made) e.0, e.1)))
 
-pub new-card-spec : {M : Type 1} → statement M
-new-card-spec = tie.close (tie.spec new-card-requires open-requires returns)
+pub new_card_spec : {M : Type 1} → statement M
+new_card_spec = tie.close (tie.spec new-card-requires open-requires returns)

@@ -12,5 +12,5 @@ open-requires c κs = search rules
 returns : tie.Need-returns
 returns c = ap₂ (λ c l. record { card = c; link = l }) c.before.power-off.ensures c.open.ensures
 
-pub power-off-spec : {M : Type 1} → statement M
-power-off-spec = tie.close (tie.spec power-off-requires open-requires returns)
+pub power_off_spec : {M : Type 1} → statement M
+power_off_spec = tie.close (tie.spec power-off-requires open-requires returns)

@@ -9,5 +9,5 @@ power-on-requires c κs = search rules
 returns : tie.Need-returns
 returns c = ap (λ k. record { card = k; link = c.before.before.before.args.x.link }) c.power-on.ensures
 
-pub power-on-spec : {M : Type 1} → statement M
-power-on-spec = tie.close (tie.spec power-on-requires returns)
+pub power_on_spec : {M : Type 1} → statement M
+power_on_spec = tie.close (tie.spec power-on-requires returns)

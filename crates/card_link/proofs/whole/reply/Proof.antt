@@ -2,10 +2,10 @@
 use mathlib.Core.Path.{sym, ap, ◌∙◌}
 use mathlib.Core.List.{[]}
 use borrow.Author.Tests.{not-true, not-false}
-use Rattle.card_blocks.specs.CardFrames.{cardOut, cardReply}
-use Rattle.card_link.specs.CardCalls.{with_row, owing, replyCall}
-use Rattle.card_link.specs.WholeLaws.{two, two-not-due, two-room, two-due}
-use Rattle.card_link.specs.SaysLaws.{reply-said}
+use Rattle.card_blocks.specs.CardFrames.{card_out, card_reply}
+use Rattle.card_link.specs.CardCalls.{with_row, owing, reply_call}
+use Rattle.card_link.specs.WholeLaws.{two, two_not_due, two_room, two_due}
+use Rattle.card_link.specs.SaysLaws.{reply_said}
 use borrow.Author.Rules.{rules}
 use Rattle.card_link.proofs.whole.reply.Statement.{statement}
 use Rattle.card_link.proofs.whole.reply.Tie as tie
@@ -17,21 +17,21 @@ declines-requires : tie.Need-declines-requires
 declines-requires c κs = search rules
 
 returns : tie.Need-returns
-unfolding replyCall
+unfolding reply_call
 returns c =
     let a = c.before.before.before.before.before.args in
-    reply-said a.x a.answer.now a.out.now
-    (two-not-due (owing a.x) a.x _ a.out.now (sym c.before.before.is-owing.ensures ∙ not-true _ c.before.if1.true) c.declines.ensures)
+    reply_said a.x a.answer.now a.out.now
+    (two_not_due (owing a.x) a.x _ a.out.now (sym c.before.before.is-owing.ensures ∙ not-true _ c.before.if1.true) c.declines.ensures)
 
 declines-requires-2 : tie.Need-declines-requires-2
 declines-requires-2 c κs = search rules
 
 returns-2 : tie.Need-returns-2
-unfolding replyCall
+unfolding reply_call
 returns-2 c =
     let a = c.before.before.before.before.before.before.args in
-    reply-said a.x a.answer.now a.out.now
-    (two-room (owing a.x) a.x _ a.out.now (sym c.before.before.before.is-owing.ensures ∙ not-false _ c.before.before.if1.false) c.before.if2.true c.declines2.ensures)
+    reply_said a.x a.answer.now a.out.now
+    (two_room (owing a.x) a.x _ a.out.now (sym c.before.before.before.is-owing.ensures ∙ not-false _ c.before.before.if1.false) c.before.if2.true c.declines2.ensures)
 
 replies-requires : tie.Need-replies-requires
 replies-requires c κs = search rules
@@ -43,14 +43,14 @@ same_length : tie.Need-same-length
 same_length c = search rules
 
 returns-3 : tie.Need-returns-3
-unfolding replyCall cardReply
+unfolding reply_call card_reply
 returns-3 c =
     let a = c.before.before.before.before.before.before.before.before.before.before.before.before.args in
-    reply-said a.x a.answer.now a.out.now
-    (two-due (owing a.x) a.x _ a.out.now (sym c.before.before.before.before.before.before.before.before.before.is-owing.ensures ∙ not-false _ c.before.before.before.before.before.before.before.before.if1.false) c.before.before.before.before.before.before.before.if2.false (two a.out.now (ap (λ s. with_row a.x.card (cardOut s a.answer.now [] 0 [])) c.before.before.before.before.replies.ensures) c.before.before.finish.ensures))
+    reply_said a.x a.answer.now a.out.now
+    (two_due (owing a.x) a.x _ a.out.now (sym c.before.before.before.before.before.before.before.before.before.is-owing.ensures ∙ not-false _ c.before.before.before.before.before.before.before.before.if1.false) c.before.before.before.before.before.before.before.if2.false (two a.out.now (ap (λ s. with_row a.x.card (card_out s a.answer.now [] 0 [])) c.before.before.before.before.replies.ensures) c.before.before.finish.ensures))
 
-pub reply-spec : {M : Type 1} → statement M
-reply-spec =
+pub reply_spec : {M : Type 1} → statement M
+reply_spec =
     tie.close
     (tie.spec
     is-owing-requires

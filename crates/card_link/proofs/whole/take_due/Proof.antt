@@ -1,6 +1,6 @@
 -- `card_link::whole::take_due` meets its contract, state by state. Assumes nothing.
 use mathlib.Core.Path.{refl}
-use Rattle.card_link.specs.WholeLaws.{due-outside, due-inside}
+use Rattle.card_link.specs.WholeLaws.{due_outside, due_inside}
 use borrow.Author.Rules.{rules}
 use Rattle.card_link.proofs.whole.take_due.Statement.{statement}
 use Rattle.card_link.proofs.whole.take_due.Tie as tie
@@ -59,7 +59,7 @@ same_length c = search rules
 returns : tie.Need-returns
 returns c =
     let a = c.before.before.before.before.before.before.before.before.before.before.before.args in
-    due-outside a.x a.row.now a.answer.now a.buffer.now a.out.now c.before.before.before.before.enum_told.given.1 refl c.before.before.take-outside.ensures
+    due_outside a.x a.row.now a.answer.now a.buffer.now a.out.now c.before.before.before.before.enum_told.given.1 refl c.before.before.take-outside.ensures
 
 same-length-2 : tie.Need-same-length-2
 same-length-2 c = search rules
@@ -67,7 +67,7 @@ same-length-2 c = search rules
 returns-2 : tie.Need-returns-2
 returns-2 c =
     let a = c.before.before.before.before.before.before.before.before.before.before.before.args in
-    due-outside a.x a.row.now a.answer.now a.buffer.now a.out.now c.before.before.before.before.enum-told2.given.1 refl c.before.before.take-outside2.ensures
+    due_outside a.x a.row.now a.answer.now a.buffer.now a.out.now c.before.before.before.before.enum-told2.given.1 refl c.before.before.take-outside2.ensures
 
 same-length-3 : tie.Need-same-length-3
 same-length-3 c = search rules
@@ -75,7 +75,7 @@ same-length-3 c = search rules
 returns-3 : tie.Need-returns-3
 returns-3 c =
     let a = c.before.before.before.before.before.before.before.before.before.before.before.args in
-    due-outside a.x a.row.now a.answer.now a.buffer.now a.out.now c.before.before.before.before.enum-told3.given.1 refl c.before.before.take-outside3.ensures
+    due_outside a.x a.row.now a.answer.now a.buffer.now a.out.now c.before.before.before.before.enum-told3.given.1 refl c.before.before.take-outside3.ensures
 
 same-length-4 : tie.Need-same-length-4
 same-length-4 c = search rules
@@ -83,7 +83,7 @@ same-length-4 c = search rules
 returns-4 : tie.Need-returns-4
 returns-4 c =
     let a = c.before.before.before.before.before.before.before.before.before.before.before.args in
-    due-outside a.x a.row.now a.answer.now a.buffer.now a.out.now c.before.before.before.before.enum-told4.given.1 refl c.before.before.take-outside4.ensures
+    due_outside a.x a.row.now a.answer.now a.buffer.now a.out.now c.before.before.before.before.enum-told4.given.1 refl c.before.before.take-outside4.ensures
 
 same-length-5 : tie.Need-same-length-5
 same-length-5 c = search rules
@@ -91,7 +91,7 @@ same-length-5 c = search rules
 returns-5 : tie.Need-returns-5
 returns-5 c =
     let a = c.before.before.before.before.before.before.before.before.before.before.before.args in
-    due-outside a.x a.row.now a.answer.now a.buffer.now a.out.now c.before.before.before.before.enum-told5.given.1 refl c.before.before.take-outside5.ensures
+    due_outside a.x a.row.now a.answer.now a.buffer.now a.out.now c.before.before.before.before.enum-told5.given.1 refl c.before.before.take-outside5.ensures
 
 same-length-6 : tie.Need-same-length-6
 same-length-6 c = search rules
@@ -99,7 +99,7 @@ same-length-6 c = search rules
 returns-6 : tie.Need-returns-6
 returns-6 c =
     let a = c.before.before.before.before.before.before.before.before.before.before.before.args in
-    due-outside a.x a.row.now a.answer.now a.buffer.now a.out.now c.before.before.before.before.enum-told6.given.1 refl c.before.before.take-outside6.ensures
+    due_outside a.x a.row.now a.answer.now a.buffer.now a.out.now c.before.before.before.before.enum-told6.given.1 refl c.before.before.take-outside6.ensures
 
 same-length-7 : tie.Need-same-length-7
 same-length-7 c = search rules
@@ -107,7 +107,7 @@ same-length-7 c = search rules
 returns-7 : tie.Need-returns-7
 returns-7 c =
     let a = c.before.before.before.before.before.before.before.before.before.before.before.args in
-    due-outside a.x a.row.now a.answer.now a.buffer.now a.out.now c.before.before.before.before.enum-told7.given.1 refl c.before.before.take-outside7.ensures
+    due_outside a.x a.row.now a.answer.now a.buffer.now a.out.now c.before.before.before.before.enum-told7.given.1 refl c.before.before.take-outside7.ensures
 
 same-length-8 : tie.Need-same-length-8
 same-length-8 c = search rules
@@ -118,10 +118,10 @@ same-length-9 c = search rules
 returns-8 : tie.Need-returns-8
 returns-8 c =
     let a = c.before.before.before.before.before.before.before.before.before.before.before.before.before.before.args in
-    due-inside a.x a.row.now a.answer.now a.buffer.now a.out.now c.before.before.before.before.before.before.before.enum-told8.given.1 refl c.before.before.before.before.take-inside.ensures
+    due_inside a.x a.row.now a.answer.now a.buffer.now a.out.now c.before.before.before.before.before.before.before.enum-told8.given.1 refl c.before.before.before.before.take-inside.ensures
 
-pub take-due-spec : {M : Type 1} → statement M
-take-due-spec =
+pub take_due_spec : {M : Type 1} → statement M
+take_due_spec =
     tie.close
     (tie.spec
     enum_told

@@ -1,5 +1,5 @@
 -- `delay::frames::after_one` meets its contract: an empty row, whole bytes, or others. Assumes nothing.
-use Rattle.delay.specs.KindLaws.{after_none, after-whole, after-broken}
+use Rattle.delay.specs.KindLaws.{after_none, after_whole, after_broken}
 use Rattle.std.proofs.Common.{rules}
 use Rattle.delay.proofs.frames.after_one.Statement.{statement}
 use Rattle.delay.proofs.frames.after_one.Tie as tie
@@ -14,7 +14,7 @@ shared-slice-read-result : tie.Need-shared-slice-read-result
 shared-slice-read-result c = search rules
 
 returns-2 : tie.Need-returns-2
-returns-2 c = after-whole _ c.before.if2.true
+returns-2 c = after_whole _ c.before.if2.true
 
 sub-result-2 : tie.Need-overflow-sub-result-2
 sub-result-2 c = search rules
@@ -23,10 +23,10 @@ shared-slice-read-result-2 : tie.Need-shared-slice-read-result-2
 shared-slice-read-result-2 c = search rules
 
 returns-3 : tie.Need-returns-3
-returns-3 c = after-broken _ c.before.if2.false
+returns-3 c = after_broken _ c.before.if2.false
 
-pub after-one-spec : {M : Type 1} → statement M
-after-one-spec =
+pub after_one_spec : {M : Type 1} → statement M
+after_one_spec =
     tie.close
     (tie.spec
     returns

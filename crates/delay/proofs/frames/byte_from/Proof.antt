@@ -1,12 +1,12 @@
 -- `delay::frames::byte_from` meets its contract: the row ends before the byte, within it, or behind it. Assumes nothing.
 use Rattle.std.proofs.Common.{◌-◌, length, drop, ◌∙◌, arith, length-take, rules}
-use Rattle.rows.specs.HeardLaws.{clean-take, clean_drop}
-use Rattle.delay.specs.KindLaws.{byte-none, byte-part}
+use Rattle.rows.specs.HeardLaws.{clean_take, clean_drop}
+use Rattle.delay.specs.KindLaws.{byte_none, byte_part}
 use Rattle.delay.proofs.frames.byte_from.Statement.{statement}
 use Rattle.delay.proofs.frames.byte_from.Tie as tie
 
 returns : tie.Need-returns
-returns c = byte-none c.before.before.args.row.now c.before.before.args.at (omega arith)
+returns c = byte_none c.before.before.args.row.now c.before.before.args.at (omega arith)
 
 sub-if2 : tie.Need-overflow-sub-if2
 sub-if2 c = search rules
@@ -23,23 +23,23 @@ part-number-of-end c = search rules
 number-of-requires : tie.Need-number-of-requires
 number-of-requires c κs =
     let a = c.before.before.before.before.args in
-    (rw length-take (omega arith), clean-take (length a.row.now - a.at) (drop a.at a.row.now) (clean_drop a.at a.row.now c.before.before.before.before.requires))
+    (rw length-take (omega arith), clean_take (length a.row.now - a.at) (drop a.at a.row.now) (clean_drop a.at a.row.now c.before.before.before.before.requires))
 
 returns-2 : tie.Need-returns-2
 returns-2 c =
     let a = c.before.before.before.before.before.args in
-    c.number_of_lem.ensures ∙ byte-part a.row.now a.at (omega arith)
+    c.number_of_lem.ensures ∙ byte_part a.row.now a.at (omega arith)
 
 byte-at-requires : tie.Need-byte-at-requires
 byte-at-requires c κs =
     let a = c.before.before.before.args in
-    (omega arith, clean-take 8 (drop a.at a.row.now) (clean_drop a.at a.row.now c.before.before.before.requires))
+    (omega arith, clean_take 8 (drop a.at a.row.now) (clean_drop a.at a.row.now c.before.before.before.requires))
 
 returns-3 : tie.Need-returns-3
 returns-3 c = search rules
 
-pub byte-from-spec : {M : Type 1} → statement M
-byte-from-spec =
+pub byte_from_spec : {M : Type 1} → statement M
+byte_from_spec =
     tie.close
     (tie.spec
     returns

@@ -1,5 +1,5 @@
 -- `delay::frames::five_of` meets its contract. Assumes nothing.
-use Rattle.delay.specs.KindLaws.{five-is}
+use Rattle.delay.specs.KindLaws.{five_is}
 use Rattle.std.proofs.Common.{rules}
 use Rattle.delay.proofs.frames.five_of.Statement.{statement}
 use Rattle.delay.proofs.frames.five_of.Tie as tie
@@ -20,10 +20,10 @@ byte-from-requires-5 : tie.Need-byte-from-requires-5
 byte-from-requires-5 c κs = search rules
 
 returns : tie.Need-returns
-returns c = rw (five-is _, c.before.before.before.before.byte-from.ensures, c.before.before.before.byte-from2.ensures, c.before.before.byte-from3.ensures, c.before.byte-from4.ensures, c.byte-from5.ensures)
+returns c = rw (five_is _, c.before.before.before.before.byte-from.ensures, c.before.before.before.byte-from2.ensures, c.before.before.byte-from3.ensures, c.before.byte-from4.ensures, c.byte-from5.ensures)
 
-pub five-of-spec : {M : Type 1} → statement M
-five-of-spec =
+pub five_of_spec : {M : Type 1} → statement M
+five_of_spec =
     tie.close
     (tie.spec
     byte-from-requires

@@ -1,6 +1,6 @@
 -- `delay::frames::is_matching` meets its contract: fewer than 40 bits are sent, or more. Assumes nothing.
 use Rattle.std.proofs.Common.{◌∙◌, arith, rules}
-use Rattle.card.specs.ReadyLaws.{match-told, match_none}
+use Rattle.card.specs.ReadyLaws.{match_told, match_none}
 use Rattle.delay.proofs.frames.is_matching.Statement.{statement}
 use Rattle.delay.proofs.frames.is_matching.Tie as tie
 
@@ -16,16 +16,16 @@ is-anticollision-requires c κs = search rules
 returns : tie.Need-returns
 returns c =
     let a = c.before.before.before.before.args in
-    let k = c.before.before.bits-sent in
-    c.is-anticollision.ensures ∙ match-told a.l a.five a.row.now k.result k.ensures (omega arith)
+    let k = c.before.before.bits_sent_law in
+    c.is-anticollision.ensures ∙ match_told a.l a.five a.row.now k.result k.ensures (omega arith)
 
 returns-2 : tie.Need-returns-2
 returns-2 c =
     let a = c.before.before.before.args in
-    let k = c.before.bits-sent in
+    let k = c.before.bits_sent_law in
     match_none a.l a.five a.row.now k.result k.ensures (omega arith)
 
-pub is-matching-spec : {M : Type 1} → statement M
-is-matching-spec =
+pub is_matching_spec : {M : Type 1} → statement M
+is_matching_spec =
     tie.close
     (tie.spec bits-sent-requires cast-is-anticollision is-anticollision-requires returns returns-2)

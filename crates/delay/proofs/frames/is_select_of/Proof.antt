@@ -16,6 +16,6 @@ is-same-requires c κs = search rules
 returns : tie.Need-returns
 returns c = c.is_same.ensures ∙ ap (same _) c.before.before.select.ensures
 
-pub is-select-of-spec : {M : Type 1} → statement M
-is-select-of-spec =
+pub is_select_of_spec : {M : Type 1} → statement M
+is_select_of_spec =
     tie.close (tie.spec select-requires slice-aggregate-is-same is-same-requires returns)

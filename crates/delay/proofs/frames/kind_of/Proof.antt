@@ -3,7 +3,7 @@ use Rattle.std.proofs.Common.{sym, ◌∙◌, rules}
 use borrow.Author.Tests.{not-true, not-false}
 use Rattle.card.specs.TakenLaws.{told}
 use Rattle.delay.specs.Kind.{kind_of}
-use Rattle.delay.specs.KindLaws.{collided-other}
+use Rattle.delay.specs.KindLaws.{collided_other}
 use Rattle.delay.proofs.frames.kind_of.Statement.{statement}
 use Rattle.delay.proofs.frames.kind_of.Tie as tie
 
@@ -46,11 +46,11 @@ returns-3 c =
     rw (
       told _ c.before.before.before.before.before.before.before.is_same.ensures c.before.before.before.before.before.before.before.before.before.reqa.ensures c.before.before.before.before.before.before.if1.false,
       told _ c.before.before.before.is-same2.ensures c.before.before.before.before.before.wupa.ensures c.before.before.if2.false,
-      collided-other _ (sym c.before.is-clean.ensures ∙ not-true _ c.if3.true),
+      collided_other _ (sym c.before.is_clean.ensures ∙ not-true _ c.if3.true),
     )
 
 level-kind-requires : tie.Need-level-kind-requires
-level-kind-requires c κs = sym c.before.is-clean.ensures ∙ not-false _ c.if3.false
+level-kind-requires c κs = sym c.before.is_clean.ensures ∙ not-false _ c.if3.false
 
 returns-4 : tie.Need-returns-4
 unfolding kind_of
@@ -58,11 +58,11 @@ returns-4 c =
     rw (
       told _ c.before.before.before.before.before.before.before.before.is_same.ensures c.before.before.before.before.before.before.before.before.before.before.reqa.ensures c.before.before.before.before.before.before.before.if1.false,
       told _ c.before.before.before.before.is-same2.ensures c.before.before.before.before.before.before.wupa.ensures c.before.before.before.if2.false,
-      c.level-kind.ensures,
+      c.level_kind_law.ensures,
     )
 
-pub kind-of-spec : {M : Type 1} → statement M
-kind-of-spec =
+pub kind_of_spec : {M : Type 1} → statement M
+kind_of_spec =
     tie.close
     (tie.spec
     reqa-requires

@@ -12,5 +12,5 @@ returns c = rw c.before.if1.true c.meet.ensures
 returns-2 : tie.Need-returns-2
 returns-2 c = search rules
 
-pub beside-spec : {M : Type 1} → statement M
-beside-spec = tie.close (tie.spec meet-requires returns returns-2)
+pub beside_spec : {M : Type 1} → statement M
+beside_spec = tie.close (tie.spec meet-requires returns returns-2)

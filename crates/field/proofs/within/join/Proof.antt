@@ -6,9 +6,9 @@ use borrow.Author.Rules.{rules}
 use lib.ListN.{length, take, length-set}
 use lib.Seq.{length-take-le}
 use Rattle.rows.specs.Rows.{overlay}
-use Rattle.rows.specs.RowLaws.{overlay-nil}
+use Rattle.rows.specs.RowLaws.{overlay_nil}
 use Rattle.field.specs.Merge.{join}
-use Rattle.field.specs.JoinLaws.{length-join-most, length-join-more, join-turn, join-done}
+use Rattle.field.specs.JoinLaws.{length_join_most, length_join_more, join_turn, join_done}
 use Rattle.field.proofs.within.join.Statement.{statement}
 use Rattle.field.proofs.within.join.Tie as tie
 
@@ -19,7 +19,7 @@ abbrev decreases-loop : tie.decreases-loop
 decreases-loop row₀ bits answer i₀ i-end row i = length answer - i
 
 loop-holds : tie.Need-loop-init invariant-loop decreases-loop
-loop-holds c = (omega arith, omega arith, sym (overlay-nil _ 0))
+loop-holds c = (omega arith, omega arith, sym (overlay_nil _ 0))
 
 shared-slice-read-beside : tie.Need-shared-slice-read-beside invariant-loop decreases-loop
 shared-slice-read-beside c = omega arith
@@ -45,7 +45,7 @@ loop-again c =
     let a = c.before.before.before.before.before.before.before.args in (
       omega arith,
       simp length-set (omega arith),
-      rw (c.beside.ensures, l.invariant.2) (join-turn a.row.now a.bits a.answer.now (omega arith) (omega arith) l.i (omega arith)),
+      rw (c.beside.ensures, l.invariant.2) (join_turn a.row.now a.bits a.answer.now (omega arith) (omega arith) l.i (omega arith)),
     )
 
 same_length : tie.Need-same-length invariant-loop decreases-loop
@@ -57,8 +57,8 @@ returns c =
     let a = c.before.before.before.before.before.args in
     let e : l.i ≡ length a.answer.now = omega arith in
     let k : length (take a.bits a.row.now) ≡ a.bits = length-take-le a.bits a.row.now (omega arith) in (
-      sym (length-join-more a.answer.now (take a.bits a.row.now) (omega arith) ∙ k),
-      rw e at l.invariant.2 ∙ join-done a.row.now a.bits a.answer.now (omega arith) (omega arith),
+      sym (length_join_more a.answer.now (take a.bits a.row.now) (omega arith) ∙ k),
+      rw e at l.invariant.2 ∙ join_done a.row.now a.bits a.answer.now (omega arith) (omega arith),
     )
 
 same-length-2 : tie.Need-same-length-2 invariant-loop decreases-loop
@@ -70,12 +70,12 @@ returns-2 c =
     let a = c.before.before.before.before.before.args in
     let e : l.i ≡ length a.answer.now = omega arith in
     let k : length (take a.bits a.row.now) ≡ a.bits = length-take-le a.bits a.row.now (omega arith) in (
-      sym (length-join-most a.answer.now (take a.bits a.row.now) (omega arith)),
-      rw e at l.invariant.2 ∙ join-done a.row.now a.bits a.answer.now (omega arith) (omega arith),
+      sym (length_join_most a.answer.now (take a.bits a.row.now) (omega arith)),
+      rw e at l.invariant.2 ∙ join_done a.row.now a.bits a.answer.now (omega arith) (omega arith),
     )
 
-pub join-spec : {M : Type 1} → statement M
-join-spec =
+pub join_spec : {M : Type 1} → statement M
+join_spec =
     tie.close
     (tie.spec
     invariant-loop

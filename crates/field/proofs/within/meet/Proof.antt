@@ -12,5 +12,5 @@ returns-2 : tie.Need-returns-2
 unfolding meet
 returns-2 c = simp (ne_eqb _ _ c.if1.false)
 
-pub meet-spec : {M : Type 1} → statement M
-meet-spec = tie.close (tie.spec returns returns-2)
+pub meet_spec : {M : Type 1} → statement M
+meet_spec = tie.close (tie.spec returns returns-2)

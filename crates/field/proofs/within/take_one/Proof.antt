@@ -62,8 +62,8 @@ returns c =
       j.ensures.1 ∙ ap (λ r. overlay a.heard.now 0 (join r (take a.bits a.heard.now))) k.bits,
     )
 
-pub take-one-spec : {M : Type 1} → statement M
-take-one-spec =
+pub take_one_spec : {M : Type 1} → statement M
+take_one_spec =
     tie.close
     (tie.spec
     slice-aggregate-take-rules

@@ -4,15 +4,15 @@ use mathlib.Core.Path.{◌≡◌, refl, sym, ap, ap₂, ◌∙◌}
 use native.Mathlib.Omega.{arith}
 use borrow.Author.Rules.{rules}
 use lib.ListN.{length, length-set}
-use Rattle.field_b.specs.TakeBLaws.{Under, under-turn, from-done, heard-none}
-use Rattle.field.specs.TakeLaws.{from-none, front_fits}
-use Rattle.limits.specs.Limits.{mostCards}
-use Rattle.rows.specs.RowLaws.{overlay-nil}
+use Rattle.field_b.specs.TakeBLaws.{Under, under_turn, from_done, heard_none}
+use Rattle.field.specs.TakeLaws.{from_none, front_fits}
+use Rattle.limits.specs.Limits.{most_cards}
+use Rattle.rows.specs.RowLaws.{overlay_nil}
 use Rattle.field_b.proofs.within.take_all.Statement.{statement}
 use Rattle.field_b.proofs.within.take_all.Tie as tie
 
 abbrev invariant-loop : tie.invariant-loop
-invariant-loop n frame heard₀ cards₀ bits₀ i₀ heard cards bits i = (i ≤ n) × (length cards ≡ mostCards) × (length cards₀ ≡ mostCards) × (length heard ≡ length heard₀) × Under heard₀ cards₀ n frame heard cards bits i
+invariant-loop n frame heard₀ cards₀ bits₀ i₀ heard cards bits i = (i ≤ n) × (length cards ≡ most_cards) × (length cards₀ ≡ most_cards) × (length heard ≡ length heard₀) × Under heard₀ cards₀ n frame heard cards bits i
 
 abbrev decreases-loop : tie.decreases-loop
 decreases-loop n frame heard₀ cards₀ bits₀ i₀ heard cards bits i = i
@@ -25,9 +25,9 @@ loop-holds c =
       search rules,
       refl,
       record {
-        count = rw (heard-none a.frame.now a.n a.start) refl;
-        row = rw (heard-none a.frame.now a.n a.start) (sym (overlay-nil _ 0));
-        cards = from-none _ a.n a.start;
+        count = rw (heard_none a.frame.now a.n a.start) refl;
+        row = rw (heard_none a.frame.now a.n a.start) (sym (overlay_nil _ 0));
+        cards = from_none _ a.n a.start;
       },
     )
 
@@ -65,7 +65,7 @@ loop-again c =
       simp length-set (omega arith),
       omega arith,
       t.auto.1.1.0 ∙ l.invariant.3,
-      under-turn a.heard.now a.start a.n a.frame.now l.heard l.cards l.bits l.i l.invariant.4 (omega arith) (omega arith) (omega arith)
+      under_turn a.heard.now a.start a.n a.frame.now l.heard l.cards l.bits l.i l.invariant.4 (omega arith) (omega arith) (omega arith)
           _ t.result t.ensures.0 t.new.1.1.0 t.ensures.1,
     )
 
@@ -78,7 +78,7 @@ returns c =
     let a = c.before.before.before.before.args in
     let u = l.invariant.4 in
     let e : l.i ≡ 0 = omega arith in (
-      ap₂ (λ x m. record { cards = x; bits = m }) (rw e at u.cards ∙ from-done a.frame.now a.n a.start) (rw e at u.count),
+      ap₂ (λ x m. record { cards = x; bits = m }) (rw e at u.cards ∙ from_done a.frame.now a.n a.start) (rw e at u.count),
       rw e at u.row,
     )
 

@@ -6,7 +6,7 @@ use borrow.Author.Rules.{rules}
 use Rattle.rows.specs.Rows.{overlay}
 use Rattle.card_b.specs.CardB.{Step, rules, takes, answers}
 use Rattle.field.specs.Merge.{join}
-use Rattle.field_b.specs.FieldB.{takesB, answersB}
+use Rattle.field_b.specs.FieldB.{takes_b, answers_b}
 use Rattle.field_b.specs.TakeBLaws.{Answered, answered}
 use Rattle.field_b.proofs.within.take_one.Statement.{statement}
 use Rattle.field_b.proofs.within.take_one.Tie as tie
@@ -51,7 +51,7 @@ same_length : tie.Need-same-length
 same_length c = search rules
 
 returns : tie.Need-returns
-unfolding takesB answersB takes answers
+unfolding takes_b answers_b takes answers
 returns c =
     let t = c.before.before.before.before.before.before.before.before.take-rules in
     let b = c.before.before.before.before.before.before.bits_in in
@@ -63,8 +63,8 @@ returns c =
       j.ensures.1 ∙ ap (λ r. overlay a.heard.now 0 (join r (take a.bits a.heard.now))) k.bits,
     )
 
-pub take-one-spec : {M : Type 1} → statement M
-take-one-spec =
+pub take_one_spec : {M : Type 1} → statement M
+take_one_spec =
     tie.close
     (tie.spec
     slice-aggregate-take-rules

@@ -3,8 +3,8 @@ use mathlib.Core.Path.{◌≡◌, sym, ◌∙◌}
 use native.Mathlib.Omega.{arith}
 use native.Mathlib.Nat.{sub-zero, add-zero, zero-add}
 use lib.ListN.{length, drop}
-use Rattle.frame.specs.Frame.{firstWrong}
-use Rattle.frame.specs.LoopLaws.{first_next, first-here, first_done}
+use Rattle.frame.specs.Frame.{first_wrong}
+use Rattle.frame.specs.LoopLaws.{first_next, first_here, first_done}
 use Rattle.frame.proofs.within.first_wrong.Statement.{statement}
 use Rattle.frame.proofs.within.first_wrong.Tie as tie
 
@@ -12,7 +12,7 @@ use Rattle.frame.proofs.within.first_wrong.Tie as tie
 -- Assumes nothing.
 
 abbrev invariant-loop : tie.invariant-loop
-invariant-loop row at n i₀ i = (i ≤ n) × (i + firstWrong (n - i) (drop (at + 9 * i) row) ≡ firstWrong n (drop at row))
+invariant-loop row at n i₀ i = (i ≤ n) × (i + first_wrong (n - i) (drop (at + 9 * i) row) ≡ first_wrong n (drop at row))
 
 abbrev decreases-loop : tie.decreases-loop
 decreases-loop row at n i₀ i = n - i
@@ -33,7 +33,7 @@ returns : tie.Need-returns invariant-loop decreases-loop
 returns c =
     let l = c.before.before.before.loop in
     let a = c.before.before.before.before.before.args in
-    omega (arith, first-here a.n l.i (drop (a.at + 9 * l.i) a.row.now) (omega arith) (sym c.before.is-wrong.ensures ∙ c.if1.true), l.invariant.1)
+    omega (arith, first_here a.n l.i (drop (a.at + 9 * l.i) a.row.now) (omega arith) (sym c.before.is-wrong.ensures ∙ c.if1.true), l.invariant.1)
 
 add-i : tie.Need-overflow-add-i invariant-loop decreases-loop
 add-i c = omega arith
@@ -53,8 +53,8 @@ returns-2 c =
     let a = c.before.before.before.args in
     omega (arith, first_done a.n l.i (drop (a.at + 9 * l.i) a.row.now) (omega arith), l.invariant.1)
 
-pub first-wrong-spec : {M : Type 1} → statement M
-first-wrong-spec =
+pub first_wrong_spec : {M : Type 1} → statement M
+first_wrong_spec =
     tie.close
     (tie.spec
     invariant-loop

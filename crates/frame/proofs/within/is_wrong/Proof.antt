@@ -6,7 +6,7 @@ use borrow.Author.Tests.{not-true, not-false}
 use native.Mathlib.Omega.{arith}
 use lib.ListN.{take, drop}
 use Rattle.rows.specs.Rows.{clean}
-use Rattle.frame.specs.LoopLaws.{wrong-read}
+use Rattle.frame.specs.LoopLaws.{wrong_read}
 use borrow.Author.Rules.{rules}
 use Rattle.frame.proofs.within.is_wrong.Statement.{statement}
 use Rattle.frame.proofs.within.is_wrong.Tie as tie
@@ -30,13 +30,13 @@ returns : tie.Need-returns
 returns c =
     let a = c.before.before.before.before.args in
     let e : a.at + 8 - a.at ≡ 8 = omega arith in
-    rw (rw e at (sym c.before.is-clean.ensures ∙ not-true _ c.if1.true))
+    rw (rw e at (sym c.before.is_clean.ensures ∙ not-true _ c.if1.true))
 
 byte-at-requires : tie.Need-byte-at-requires
 byte-at-requires c κs =
     let a = c.before.before.before.before.args in
     let e : a.at + 8 - a.at ≡ 8 = omega arith in
-    (omega arith, rw e at (sym c.before.is-clean.ensures ∙ not-false _ c.if1.false))
+    (omega arith, rw e at (sym c.before.is_clean.ensures ∙ not-false _ c.if1.false))
 
 add-result : tie.Need-overflow-add-result
 add-result c = search rules
@@ -52,11 +52,11 @@ returns-2 c =
     let f = c.before.before.before in
     let a = f.before.before.before.before.args in
     let e : a.at + 8 - a.at ≡ 8 = omega arith in
-    let k : clean (take 8 (drop a.at a.row.now)) ≡ true = rw e at (sym f.before.is-clean.ensures ∙ not-false _ f.if1.false) in
-    sym (wrong-read a.row.now a.at _ _ (omega arith) k c.before.before.byte_at.ensures c.odd-parity.ensures)
+    let k : clean (take 8 (drop a.at a.row.now)) ≡ true = rw e at (sym f.before.is_clean.ensures ∙ not-false _ f.if1.false) in
+    sym (wrong_read a.row.now a.at _ _ (omega arith) k c.before.before.byte_at.ensures c.odd-parity.ensures)
 
-pub is-wrong-spec : {M : Type 1} → statement M
-is-wrong-spec =
+pub is_wrong_spec : {M : Type 1} → statement M
+is_wrong_spec =
     tie.close
     (tie.spec
     add-is-clean

@@ -6,10 +6,10 @@ use native.Mathlib.Omega.{arith}
 use lib.ListN.{length, take}
 use lib.Seq.{take_all}
 use Rattle.rows.specs.Rows.{overlay}
-use Rattle.rows.specs.RowLaws.{overlay-nil}
+use Rattle.rows.specs.RowLaws.{overlay_nil}
 use Rattle.frame.specs.Frame.{standard}
-use Rattle.frame.specs.FrameLaws.{length-airByte}
-use Rattle.frame.specs.LoopLaws.{standard-turn}
+use Rattle.frame.specs.FrameLaws.{length_air_byte}
+use Rattle.frame.specs.LoopLaws.{standard_turn}
 use Rattle.frame.proofs.within.put_bytes.Statement.{statement}
 use Rattle.frame.proofs.within.put_bytes.Tie as tie
 
@@ -21,7 +21,7 @@ decreases-loop out₀ at bytes i₀ i-end out i = length bytes - i
 
 loop-holds : tie.Need-loop-init invariant-loop decreases-loop
 unfolding standard
-loop-holds c = (omega arith, omega arith, sym (overlay-nil _ _))
+loop-holds c = (omega arith, omega arith, sym (overlay_nil _ _))
 
 shared-slice-read-air-byte : tie.Need-shared-slice-read-air-byte invariant-loop decreases-loop
 shared-slice-read-air-byte c = omega arith
@@ -39,7 +39,7 @@ slice-aggregate-put : tie.Need-slice-aggregate-put invariant-loop decreases-loop
 slice-aggregate-put c = search rules
 
 put-requires : tie.Need-put-requires invariant-loop decreases-loop
-put-requires c κs = omega (arith, ap length c.before.before.air-byte.ensures ∙ length-airByte _)
+put-requires c κs = omega (arith, ap length c.before.before.air-byte.ensures ∙ length_air_byte _)
 
 add-i : tie.Need-overflow-add-i invariant-loop decreases-loop
 add-i c = omega arith
@@ -53,7 +53,7 @@ loop-again c =
     let b = c.before.before.before.before.before in
     let l = b.before.before.before.loop in
     let a = b.before.before.before.before.before.before.args in
-    (omega arith, omega (arith, p.auto.0), rw (p.ensures, b.air-byte.ensures, l.invariant.2) (standard-turn a.out.now a.at a.bytes.now l.i (omega arith) (omega arith)))
+    (omega arith, omega (arith, p.auto.0), rw (p.ensures, b.air-byte.ensures, l.invariant.2) (standard_turn a.out.now a.at a.bytes.now l.i (omega arith) (omega arith)))
 
 same_length : tie.Need-same-length invariant-loop decreases-loop
 same_length c = omega arith
@@ -64,8 +64,8 @@ returns c =
     let a = c.before.before.before.before.args in
     l.invariant.2 ∙ ap (λ bs. overlay a.out.now a.at (standard bs)) (take_all l.i a.bytes.now (omega arith))
 
-pub put-bytes-spec : {M : Type 1} → statement M
-put-bytes-spec =
+pub put_bytes_spec : {M : Type 1} → statement M
+put_bytes_spec =
     tie.close
     (tie.spec
     invariant-loop

@@ -7,23 +7,23 @@ use native.Mathlib.Nat.{sub-zero, zero-add}
 use native.Mathlib.Omega.{arith}
 use lib.ListN.{length, drop, length-set}
 use Rattle.rows.specs.Rows.{overlay}
-use Rattle.rows.specs.RowLaws.{overlay-nil}
-use Rattle.rows.specs.HeardLaws.{clean-take, clean_drop}
-use Rattle.frame.specs.Frame.{data_of, bytesOf, firstWrong}
-use Rattle.frame.specs.LoopLaws.{first_next, first-here, first_done, wrong-here, right-here, bytes-turn}
+use Rattle.rows.specs.RowLaws.{overlay_nil}
+use Rattle.rows.specs.HeardLaws.{clean_take, clean_drop}
+use Rattle.frame.specs.Frame.{data_of, bytes_of, first_wrong}
+use Rattle.frame.specs.LoopLaws.{first_next, first_here, first_done, wrong_here, right_here, bytes_turn}
 use Rattle.frame.proofs.within.sound_bytes.Statement.{statement}
 use Rattle.frame.proofs.within.sound_bytes.Tie as tie
 
 abbrev invariant-loop : tie.invariant-loop
 invariant-loop row n out₀ k₀ out k =
-    (k ≤ n) × (length out ≡ length out₀) × (k + firstWrong (n - k) (drop (0 + 9 * k) row) ≡ firstWrong n row) × (out ≡ overlay out₀ 0 (bytesOf k (data_of k row)))
+    (k ≤ n) × (length out ≡ length out₀) × (k + first_wrong (n - k) (drop (0 + 9 * k) row) ≡ first_wrong n row) × (out ≡ overlay out₀ 0 (bytes_of k (data_of k row)))
 
 abbrev decreases-loop : tie.decreases-loop
 decreases-loop row n out₀ k₀ out k = n - k
 
 loop-holds : tie.Need-loop-init invariant-loop decreases-loop
-unfolding bytesOf
-loop-holds c = (omega arith, omega arith, rw (sub-zero, zero-add), sym (overlay-nil _ _))
+unfolding bytes_of
+loop-holds c = (omega arith, omega arith, rw (sub-zero, zero-add), sym (overlay_nil _ _))
 
 mul-byte-at : tie.Need-overflow-mul-byte-at invariant-loop decreases-loop
 mul-byte-at c = omega arith
@@ -31,7 +31,7 @@ mul-byte-at c = omega arith
 byte-at-requires : tie.Need-byte-at-requires invariant-loop decreases-loop
 byte-at-requires c κs =
     let s = c.before.before.before.before in
-    (omega arith, clean-take 8 _ (clean_drop (9 * c.before.loop.k) s.args.row.now s.requires.2))
+    (omega arith, clean_take 8 _ (clean_drop (9 * c.before.loop.k) s.args.row.now s.requires.2))
 
 mul-if1 : tie.Need-overflow-mul-if1 invariant-loop decreases-loop
 mul-if1 c = omega arith
@@ -53,8 +53,8 @@ returns c =
     let b = c.before.before.before in
     let l = b.before.before.loop in
     let s = b.before.before.before.before.before in
-    let w = wrong-here s.args.row.now l.k _ _ (omega arith) s.requires.2 b.byte_at.ensures c.before.odd-parity.ensures c.if1.true in
-    (omega (arith, first-here s.args.n l.k (drop (0 + 9 * l.k) s.args.row.now) (omega arith) w, l.invariant.2), l.invariant.3)
+    let w = wrong_here s.args.row.now l.k _ _ (omega arith) s.requires.2 b.byte_at.ensures c.before.odd-parity.ensures c.if1.true in
+    (omega (arith, first_here s.args.n l.k (drop (0 + 9 * l.k) s.args.row.now) (omega arith) w, l.invariant.2), l.invariant.3)
 
 slice-write-out : tie.Need-slice-write-out invariant-loop decreases-loop
 slice-write-out c = omega arith
@@ -70,11 +70,11 @@ loop-again c =
     let b = c.before.before.before in
     let l = b.before.before.loop in
     let s = b.before.before.before.before.before in
-    let w = right-here s.args.row.now l.k _ _ (omega arith) s.requires.2 b.byte_at.ensures c.before.odd-parity.ensures c.if1.false in (
+    let w = right_here s.args.row.now l.k _ _ (omega arith) s.requires.2 b.byte_at.ensures c.before.odd-parity.ensures c.if1.false in (
       omega arith,
       simp length-set (omega arith),
       omega (arith, first_next s.args.n l.k s.args.row.now 0 (omega arith) w, l.invariant.2),
-      rw (l.invariant.3, b.byte_at.ensures) (bytes-turn s.args.out.now s.args.row.now l.k (omega arith) (omega arith)),
+      rw (l.invariant.3, b.byte_at.ensures) (bytes_turn s.args.out.now s.args.row.now l.k (omega arith) (omega arith)),
     )
 
 same-length-2 : tie.Need-same-length-2 invariant-loop decreases-loop
@@ -87,8 +87,8 @@ returns-2 c =
     let e : l.k ≡ a.n = omega arith in
     (omega (arith, first_done a.n l.k (drop (0 + 9 * l.k) a.row.now) (omega arith), l.invariant.2), rw e at l.invariant.3)
 
-pub sound-bytes-spec : {M : Type 1} → statement M
-sound-bytes-spec =
+pub sound_bytes_spec : {M : Type 1} → statement M
+sound_bytes_spec =
     tie.close
     (tie.spec
     invariant-loop

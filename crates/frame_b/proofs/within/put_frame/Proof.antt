@@ -1,6 +1,6 @@
 -- `frame_b::within::put_frame` meets its contract: the bytes' bits, and behind them those of CRC_B. Assumes nothing.
 use native.Mathlib.Omega.{arith}
-use Rattle.frame_b.specs.LoopBLaws.{bits-crc}
+use Rattle.frame_b.specs.LoopBLaws.{bits_crc}
 use borrow.Author.Rules.{rules}
 use Rattle.frame_b.proofs.within.put_frame.Statement.{statement}
 use Rattle.frame_b.proofs.within.put_frame.Tie as tie
@@ -27,10 +27,10 @@ returns : tie.Need-returns
 returns c = let b = c.before.before.before.before.before.before.before in
     let k = b.before.before in
     let a = k.before.before.before.args in
-    rw (c.before.before.put-bits2.ensures, b.put-bits.ensures) (bits-crc a.out.now a.bytes.now _ k.crc-bytes-b.ensures (omega arith))
+    rw (c.before.before.put-bits2.ensures, b.put-bits.ensures) (bits_crc a.out.now a.bytes.now _ k.crc-bytes-b.ensures (omega arith))
 
-pub put-frame-spec : {M : Type 1} → statement M
-put-frame-spec =
+pub put_frame_spec : {M : Type 1} → statement M
+put_frame_spec =
     tie.close
     (tie.spec
     crc-bytes-b-requires

@@ -21,8 +21,8 @@ same_length c = search rules
 returns : tie.Need-returns
 returns c = rw (c.before.before.put-bits.ensures, c.before.before.before.before.before.row-crc-bytes.ensures)
 
-pub put-crc-spec : {M : Type 1} → statement M
-put-crc-spec =
+pub put_crc_spec : {M : Type 1} → statement M
+put_crc_spec =
     tie.close
     (tie.spec
     row-crc-bytes-requires

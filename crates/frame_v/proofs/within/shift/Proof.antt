@@ -12,5 +12,5 @@ returns-2 : tie.Need-returns-2
 unfolding shift
 returns-2 c = rw (ne_eqb _ 1 c.if1.false)
 
-pub shift-spec : {M : Type 1} → statement M
-shift-spec = tie.close (tie.spec returns returns-2)
+pub shift_spec : {M : Type 1} → statement M
+shift_spec = tie.close (tie.spec returns returns-2)

@@ -11,5 +11,5 @@ returns-2 : tie.Need-returns-2
 unfolding loaded
 returns-2 c = rw c.if1.false
 
-pub is-loaded-spec : {M : Type 1} → statement M
-is-loaded-spec = tie.close (tie.spec returns returns-2)
+pub is_loaded_spec : {M : Type 1} → statement M
+is_loaded_spec = tie.close (tie.spec returns returns-2)

@@ -21,6 +21,6 @@ returns-2 c = rw c.before.gate2.given.1
 returns-3 : tie.Need-returns-3
 returns-3 c = search rules
 
-pub level-of-spec : {M : Type 1} → statement M
-level-of-spec =
+pub level_of_spec : {M : Type 1} → statement M
+level_of_spec =
     tie.close (tie.spec enum-known-gate enum-known-gate-2 enum_told returns returns-2 returns-3)

@@ -8,9 +8,9 @@ use native.Mathlib.Omega.{arith}
 use lib.ListN.{length, drop, length-set, length-drop}
 use borrow.Author.Rules.{rules, scaled_Fits}
 use Rattle.rows.specs.Rows.{overlay}
-use Rattle.rows.specs.RowLaws.{overlay-nil}
+use Rattle.rows.specs.RowLaws.{overlay_nil}
 use Rattle.front.specs.Front.{row_at}
-use Rattle.front.specs.LoopLaws.{overlay-shift, row-length, row_ends, row_goes, row_done}
+use Rattle.front.specs.LoopLaws.{overlay_shift, row_length, row_ends, row_goes, row_done}
 use Rattle.front.proofs.halves.write.Statement.{statement}
 use Rattle.front.proofs.halves.write.Tie as tie
 
@@ -66,7 +66,7 @@ returns c =
     let a = c.before.before.before.before.before.before.before.before.before.before.args in
     let e : row_at a.level a.floor (drop (2 * l.i) a.halves.now) ≡ [] =
     row_ends a.level a.floor a.halves.now l.i (omega arith) c.before.before.before.before.is-loaded.ensures c.before.before.is-loaded2.ensures (sym c.before.is-end.ensures ∙ c.if1.true) in
-    (omega (arith, l.invariant.2, ap length e), sym (overlay-nil l.places l.i) ∙ (rw e at l.invariant.3))
+    (omega (arith, l.invariant.2, ap length e), sym (overlay_nil l.places l.i) ∙ (rw e at l.invariant.3))
 
 bit-of-requires : tie.Need-bit-of-requires invariant-loop decreases-loop
 bit-of-requires c κs = search rules
@@ -87,11 +87,11 @@ loop-again c =
     let rest = row_at a.level a.floor (drop (2 * (l.i + 1)) a.halves.now) in
     let e : row_at a.level a.floor (drop (2 * l.i) a.halves.now) ≡ c.bit-of.result ∷ rest =
     rw c.bit-of.ensures (row_goes a.level a.floor a.halves.now l.i (omega arith) c.before.before.before.before.before.is-loaded.ensures c.before.before.before.is-loaded2.ensures (sym c.before.before.is-end.ensures ∙ c.before.if1.false)) in
-    let m = row-length a.level a.floor (drop (2 * (l.i + 1)) a.halves.now) in (
+    let m = row_length a.level a.floor (drop (2 * (l.i + 1)) a.halves.now) in (
       omega arith,
       simp length-set (omega arith),
       omega (arith, l.invariant.2, ap length e),
-      overlay-shift l.places l.i c.bit-of.result rest (omega (arith, simp length-drop at m)) ∙ (rw e at l.invariant.3),
+      overlay_shift l.places l.i c.bit-of.result rest (omega (arith, simp length-drop at m)) ∙ (rw e at l.invariant.3),
     )
 
 same-length-2 : tie.Need-same-length-2 invariant-loop decreases-loop
@@ -102,7 +102,7 @@ returns-2 c =
     let l = c.before.loop in
     let a = c.before.before.before.before.args in
     let e : row_at a.level a.floor (drop (2 * l.i) a.halves.now) ≡ [] = row_done a.level a.floor a.halves.now l.i (omega arith) in
-    (omega (arith, l.invariant.2, ap length e), sym (overlay-nil l.places l.i) ∙ (rw e at l.invariant.3))
+    (omega (arith, l.invariant.2, ap length e), sym (overlay_nil l.places l.i) ∙ (rw e at l.invariant.3))
 
 pub write_spec : {M : Type 1} → statement M
 write_spec =

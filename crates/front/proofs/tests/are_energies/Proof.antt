@@ -7,7 +7,7 @@ use lib.ListN.{length, drop}
 use borrow.Author.Rules.{rules, scaled_Fits}
 use borrow.Author.Tests.{not-true, not-false}
 use Rattle.front.specs.Front.{energies}
-use Rattle.front.specs.LoopLaws.{energies-next, energies-here, energies-done}
+use Rattle.front.specs.LoopLaws.{energies_next, energies_here, energies_done}
 use Rattle.front.proofs.tests.are_energies.Statement.{statement}
 use Rattle.front.proofs.tests.are_energies.Tie as tie
 
@@ -33,7 +33,7 @@ returns : tie.Need-returns invariant-loop decreases-loop
 returns c =
     let l = c.before.before.before.before.loop in
     let h = c.before.before.before.before.before.before.args.halves.now in
-    sym (energies-here h l.i (omega arith) (sym c.before.is-energy.ensures ∙ not-true _ c.if1.true)) ∙ l.invariant.1
+    sym (energies_here h l.i (omega arith) (sym c.before.is-energy.ensures ∙ not-true _ c.if1.true)) ∙ l.invariant.1
 
 add-i : tie.Need-overflow-add-i invariant-loop decreases-loop
 add-i c = omega arith
@@ -45,15 +45,15 @@ loop-again : tie.Need-loop-preserved invariant-loop decreases-loop
 loop-again c =
     let l = c.before.before.before.before.loop in
     let h = c.before.before.before.before.before.before.args.halves.now in
-    (omega arith, sym (energies-next h l.i (omega arith) (sym c.before.is-energy.ensures ∙ not-false _ c.if1.false)) ∙ l.invariant.1)
+    (omega arith, sym (energies_next h l.i (omega arith) (sym c.before.is-energy.ensures ∙ not-false _ c.if1.false)) ∙ l.invariant.1)
 
 returns-2 : tie.Need-returns-2 invariant-loop decreases-loop
 returns-2 c =
     let l = c.before.loop in
-    sym (energies-done c.before.before.before.args.halves.now l.i (omega arith)) ∙ l.invariant.1
+    sym (energies_done c.before.before.before.args.halves.now l.i (omega arith)) ∙ l.invariant.1
 
-pub are-energies-spec : {M : Type 1} → statement M
-are-energies-spec =
+pub are_energies_spec : {M : Type 1} → statement M
+are_energies_spec =
     tie.close
     (tie.spec
     invariant-loop

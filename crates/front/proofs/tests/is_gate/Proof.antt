@@ -27,8 +27,8 @@ returns-2 c = rw c.before.before.gate2.given.1 c.is_share.ensures
 returns-3 : tie.Need-returns-3
 returns-3 c = search rules
 
-pub is-gate-spec : {M : Type 1} → statement M
-is-gate-spec =
+pub is_gate_spec : {M : Type 1} → statement M
+is_gate_spec =
     tie.close
     (tie.spec
     enum-known-gate

@@ -5,7 +5,7 @@ use borrow.Author.Rules.{rules}
 use native.Mathlib.Omega.{arith}
 use lib.ListN.{length}
 use lib.Seq.{length-take-le}
-use Rattle.uid.specs.Uid.{uidBytes}
+use Rattle.uid.specs.Uid.{uid_bytes}
 use Rattle.uid.specs.BytesAtLaws.{bytes_most}
 use Rattle.kept.proofs.within.put_uid.Statement.{statement}
 use Rattle.kept.proofs.within.put_uid.Tie as tie
@@ -37,11 +37,11 @@ same_length : tie.Need-same-length
 same_length c = search rules
 
 returns : tie.Need-returns
-unfolding uidBytes
+unfolding uid_bytes
 returns c = let n = c.before.before.before.before.before.byte-count.ensures in (n, rw (← n) c.before.before.put.ensures)
 
-pub put-uid-spec : {M : Type 1} → statement M
-put-uid-spec =
+pub put_uid_spec : {M : Type 1} → statement M
+put_uid_spec =
     tie.close
     (tie.spec
     byte-count-requires

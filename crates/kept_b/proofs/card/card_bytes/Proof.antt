@@ -1,5 +1,5 @@
 -- `kept_b::card::card_bytes` meets its contract, field by field. Assumes nothing.
-use Rattle.kept_b.specs.KeptCardB.{cardBytes}
+use Rattle.kept_b.specs.KeptCardB.{card_bytes}
 use Rattle.kept.specs.Kept.{bytes_at}
 use borrow.Author.Rules.{rules}
 use Rattle.kept_b.proofs.card.card_bytes.Statement.{statement}
@@ -48,11 +48,11 @@ array-read-t41 : tie.Need-array-read-t41
 array-read-t41 c = search rules
 
 returns : tie.Need-returns
-unfolding cardBytes bytes_at
+unfolding card_bytes bytes_at
 returns c = (simp (c.before.before.state-tag.ensures, c.before.state-slot.ensures, c.flag.ensures), (search rules, (search rules, search rules)))
 
-pub card-bytes-spec : {M : Type 1} → statement M
-card-bytes-spec =
+pub card_bytes_spec : {M : Type 1} → statement M
+card_bytes_spec =
     tie.close
     (tie.spec
     state-tag-requires

@@ -24,7 +24,7 @@ returns-2 c = search rules
 returns-3 : tie.Need-returns-3
 returns-3 c = rw (c.refused.ensures, c.before.before.a2.given.1)
 
-pub taken-number-spec : {M : Type 1} → statement M
-taken-number-spec =
+pub taken_number_spec : {M : Type 1} → statement M
+taken_number_spec =
     tie.close
     (tie.spec enum-known-a enum_told enum-known-a-2 refused-requires returns returns-2 returns-3)

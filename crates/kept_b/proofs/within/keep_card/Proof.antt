@@ -1,5 +1,5 @@
 -- `kept_b::within::keep_card` meets its contract, by the law `Kept-back`. Assumes nothing.
-use Rattle.kept_b.specs.KeptCardBLaws.{card-put}
+use Rattle.kept_b.specs.KeptCardBLaws.{card_put}
 use borrow.Author.Rules.{rules}
 use Rattle.kept_b.proofs.within.keep_card.Statement.{statement}
 use Rattle.kept_b.proofs.within.keep_card.Tie as tie
@@ -21,7 +21,7 @@ returns c =
     let p = c.before.before in
     let b = p.before.before.before in
     let a = b.before.before in
-    card-put a.args.state.now _ a.args.c _ b.card-bytes.ensures.0 b.card-bytes.ensures.1 p.put.ensures
+    card_put a.args.state.now _ a.args.c _ b.card-bytes.ensures.0 b.card-bytes.ensures.1 p.put.ensures
 
-pub keep-card-spec : {M : Type 1} → statement M
-keep-card-spec = tie.close (tie.spec card-bytes-requires slice-aggregate-put put-requires same_length returns)
+pub keep_card_spec : {M : Type 1} → statement M
+keep_card_spec = tie.close (tie.spec card-bytes-requires slice-aggregate-put put-requires same_length returns)

@@ -1,6 +1,6 @@
 -- `kept_b::within::settle` meets its contract, by the laws `stayed` and `moved`. Assumes nothing.
 use mathlib.Core.Path.{◌≡◌, sym, ◌∙◌}
-use Rattle.kept_b.specs.KeptReaderB.{readerIn}
+use Rattle.kept_b.specs.KeptReaderB.{reader_in}
 use Rattle.kept_b.specs.KeptReaderBLaws.{stayed, moved}
 use borrow.Author.Rules.{rules}
 use Rattle.kept_b.proofs.within.settle.Statement.{statement}
@@ -15,7 +15,7 @@ answer-number-requires c κs = search rules
 returns : tie.Need-returns
 returns c =
     let a = c.before.before.before.before.args in
-    let e : a.x ≡ readerIn a.state.now = search rules in
+    let e : a.x ≡ reader_in a.state.now = search rules in
     (c.answer-number.ensures, stayed a.state.now a.x a.t e (sym c.before.before.stays.ensures ∙ c.before.if1.true))
 
 keep-requires : tie.Need-keep-requires
@@ -30,9 +30,9 @@ same_length c = search rules
 returns-2 : tie.Need-returns-2
 returns-2 c =
     let a = c.before.before.before.before.before.before.before.before.args in
-    let e : a.x ≡ readerIn a.state.now = search rules in
+    let e : a.x ≡ reader_in a.state.now = search rules in
     let k = c.before.before.before.keep.ensures in
     (c.answer-number2.ensures, moved a.state.now _ a.x a.t e (sym c.before.before.before.before.before.before.stays.ensures ∙ c.before.before.before.before.before.if1.false) k.0 k.1)
 
-pub settle-spec : {M : Type 1} → statement M
-settle-spec = tie.close (tie.spec stays-requires answer-number-requires returns keep-requires answer-number-requires-2 same_length returns-2)
+pub settle_spec : {M : Type 1} → statement M
+settle_spec = tie.close (tie.spec stays-requires answer-number-requires returns keep-requires answer-number-requires-2 same_length returns-2)

@@ -1,7 +1,7 @@
 -- `kept_b::within::settle_card` meets its contract, by the laws `stayed` and `moved`. Assumes nothing.
 use mathlib.Core.Path.{◌≡◌, sym, ◌∙◌}
 use mathlib.Core.Bool.{true}
-use Rattle.kept_b.specs.KeptCardB.{takenRefuses, cardIn}
+use Rattle.kept_b.specs.KeptCardB.{taken_refuses, card_in}
 use Rattle.kept_b.specs.KeptCardBLaws.{stayed, moved}
 use borrow.Author.Rules.{rules}
 use Rattle.kept_b.proofs.within.settle_card.Statement.{statement}
@@ -16,7 +16,7 @@ taken-number-requires c κs = search rules
 returns : tie.Need-returns
 returns c =
     let a = c.before.before.before.before.before.args in
-    let e : takenRefuses a.t.answer ≡ true → a.t.card ≡ cardIn a.state.now = search rules in
+    let e : taken_refuses a.t.answer ≡ true → a.t.card ≡ card_in a.state.now = search rules in
     let r = sym c.before.before.taken-refuses.ensures ∙ c.before.if1.true in
     (c.taken-number.ensures, stayed a.state.now a.t r (e r))
 
@@ -35,5 +35,5 @@ returns-2 c =
     let k = c.before.before.before.keep-card.ensures in
     (c.taken-number2.ensures, moved a.state.now _ a.t (sym c.before.before.before.before.before.before.taken-refuses.ensures ∙ c.before.before.before.before.before.if1.false) k.0 k.1)
 
-pub settle-card-spec : {M : Type 1} → statement M
-settle-card-spec = tie.close (tie.spec taken-refuses-requires taken-number-requires returns keep-card-requires taken-number-requires-2 same_length returns-2)
+pub settle_card_spec : {M : Type 1} → statement M
+settle_card_spec = tie.close (tie.spec taken-refuses-requires taken-number-requires returns keep-card-requires taken-number-requires-2 same_length returns-2)

@@ -24,6 +24,6 @@ returns-6 c = simp (ne_eqb _ _ c.before.before.before.before.before.if1.false, n
 returns-7 : tie.Need-returns-7
 returns-7 c = simp (ne_eqb _ _ c.before.before.before.before.before.if1.false, ne_eqb _ _ c.before.before.before.before.if2.false, ne_eqb _ _ c.before.before.before.if3.false, ne_eqb _ _ c.before.before.if4.false, ne_eqb _ _ c.before.if5.false, ne_eqb _ _ c.if6.false)
 
-pub block-in-spec : {M : Type 1} → statement M
-block-in-spec =
+pub block_in_spec : {M : Type 1} → statement M
+block_in_spec =
     tie.close (tie.spec returns returns-2 returns-3 returns-4 returns-5 returns-6 returns-7)

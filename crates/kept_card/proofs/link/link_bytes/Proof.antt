@@ -1,6 +1,6 @@
 -- `kept_card::link::link_bytes` meets its contract, field by field. Assumes nothing.
 use Rattle.kept.specs.Kept.{word}
-use Rattle.kept_card.specs.KeptLink.{linkBytes}
+use Rattle.kept_card.specs.KeptLink.{link_bytes}
 use borrow.Author.Rules.{rules}
 use Rattle.kept_card.proofs.link.link_bytes.Statement.{statement}
 use Rattle.kept_card.proofs.link.link_bytes.Tie as tie
@@ -78,11 +78,11 @@ array-read-t60 : tie.Need-array-read-t60
 array-read-t60 c = search rules
 
 returns : tie.Need-returns
-unfolding linkBytes word
+unfolding link_bytes word
 returns c = (simp (c.before.before.before.before.before.before.before.number-tag.ensures, c.before.before.before.before.before.before.phase-tag.ensures, c.before.before.before.before.before.phase-wtx.ensures, c.before.before.before.before.block-tag.ensures, c.before.before.before.block-first.ensures, c.before.before.block-second.ensures, c.before.word.ensures, c.word2.ensures), (search rules, search rules))
 
-pub link-bytes-spec : {M : Type 1} → statement M
-link-bytes-spec =
+pub link_bytes_spec : {M : Type 1} → statement M
+link_bytes_spec =
     tie.close
     (tie.spec
     number-tag-requires

@@ -47,8 +47,8 @@ returns : tie.Need-returns
 unfolding link_in
 returns c = simp (c.before.before.before.before.before.before.before.before.before.before.before.before.at.ensures, c.before.before.before.before.before.before.before.before.before.before.before.at2.ensures, c.before.before.before.before.before.before.before.before.before.before.at3.ensures, c.before.before.before.before.before.before.before.before.before.number_in.ensures, c.before.before.before.before.before.before.before.before.at4.ensures, c.before.before.before.before.before.before.before.at5.ensures, c.before.before.before.before.before.before.phase-in.ensures, c.before.before.before.before.before.at6.ensures, c.before.before.before.before.at7.ensures, c.before.before.before.at8.ensures, c.before.before.block_in.ensures, c.before.number_at.ensures, c.number-at2.ensures)
 
-pub link-of-spec : {M : Type 1} → statement M
-link-of-spec =
+pub link_of_spec : {M : Type 1} → statement M
+link_of_spec =
     tie.close
     (tie.spec
     at-requires

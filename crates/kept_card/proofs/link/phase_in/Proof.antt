@@ -15,5 +15,5 @@ returns-3 c = simp (ne_eqb _ _ c.before.before.if1.false, ne_eqb _ _ c.before.if
 returns-4 : tie.Need-returns-4
 returns-4 c = simp (ne_eqb _ _ c.before.before.if1.false, ne_eqb _ _ c.before.if2.false, ne_eqb _ _ c.if3.false)
 
-pub phase-in-spec : {M : Type 1} → statement M
-phase-in-spec = tie.close (tie.spec returns returns-2 returns-3 returns-4)
+pub phase_in_spec : {M : Type 1} → statement M
+phase_in_spec = tie.close (tie.spec returns returns-2 returns-3 returns-4)

@@ -12,5 +12,5 @@ link-of-requires c κs = search rules
 returns : tie.Need-returns
 returns c = simp (c.before.card-of.ensures, c.link-of.ensures)
 
-pub link-card-of-spec : {M : Type 1} → statement M
-link-card-of-spec = tie.close (tie.spec card-of-requires link-of-requires returns)
+pub link_card_of_spec : {M : Type 1} → statement M
+link_card_of_spec = tie.close (tie.spec card-of-requires link-of-requires returns)

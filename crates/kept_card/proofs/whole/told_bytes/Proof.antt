@@ -39,10 +39,10 @@ array-read-t29 c = search rules
 
 returns : tie.Need-returns
 unfolding word
-returns c = (simp (c.before.before.told-event.ensures, c.before.told-length.ensures, c.word.ensures), rw (← c.before.told-length.ensures) (search rules))
+returns c = (simp (c.before.before.told-event.ensures, c.before.told_length_law.ensures, c.word.ensures), rw (← c.before.told_length_law.ensures) (search rules))
 
-pub told-bytes-spec : {M : Type 1} → statement M
-told-bytes-spec =
+pub told_bytes_spec : {M : Type 1} → statement M
+told_bytes_spec =
     tie.close
     (tie.spec
     told-event-requires

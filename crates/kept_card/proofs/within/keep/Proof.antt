@@ -40,7 +40,7 @@ returns c =
     let q = p.before.before.before.before.before in
     let b = q.before.before.before in
     let a = b.before.before.before.before.before.before.before in
-    settled a.args.t a.args.state.now _ _ _ _ _ _ (search rules) b.before.before.card-bytes.ensures.0 b.before.before.card-bytes.ensures.1 b.before.link-bytes.ensures.0 b.before.link-bytes.ensures.1 b.told-bytes.ensures.0 b.told-bytes.ensures.1 q.put.ensures p.put2.ensures c.before.before.put3.ensures
+    settled a.args.t a.args.state.now _ _ _ _ _ _ (search rules) b.before.before.card-bytes.ensures.0 b.before.before.card-bytes.ensures.1 b.before.link-bytes.ensures.0 b.before.link-bytes.ensures.1 b.told_bytes_law.ensures.0 b.told_bytes_law.ensures.1 q.put.ensures p.put2.ensures c.before.before.put3.ensures
 
 pub keep_spec : {M : Type 1} → statement M
 keep_spec =

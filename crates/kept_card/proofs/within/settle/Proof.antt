@@ -1,8 +1,8 @@
 -- `kept_card::within::settle` meets its contract, by the laws `stayed` and `moved`. Assumes nothing.
 use mathlib.Core.Path.{◌≡◌, sym, ◌∙◌}
 use mathlib.Core.Bool.{true}
-use Rattle.kept.specs.Kept.{toldRefuses}
-use Rattle.kept_card.specs.KeptWhole.{linkCardOf}
+use Rattle.kept.specs.Kept.{told_refuses}
+use Rattle.kept_card.specs.KeptWhole.{link_card_of}
 use Rattle.kept_card.specs.KeptWholeLaws.{stayed, moved}
 use borrow.Author.Rules.{rules}
 use Rattle.kept_card.proofs.within.settle.Statement.{statement}
@@ -17,7 +17,7 @@ told-number-requires c κs = search rules
 returns : tie.Need-returns
 returns c =
     let a = c.before.before.before.before.args in
-    let e : toldRefuses a.t.told ≡ true → a.t.card ≡ linkCardOf a.state.now = search rules in
+    let e : told_refuses a.t.told ≡ true → a.t.card ≡ link_card_of a.state.now = search rules in
     let r = sym c.before.before.told-refuses.ensures ∙ c.before.if1.true in
     (c.told-number.ensures, stayed a.state.now a.t r (e r))
 
@@ -36,8 +36,8 @@ returns-2 c =
     let k = c.before.before.before.keep.ensures in
     (c.told-number2.ensures, moved a.state.now _ a.t (sym c.before.before.before.before.before.before.told-refuses.ensures ∙ c.before.before.before.before.before.if1.false) k.0 k.1)
 
-pub settle-spec : {M : Type 1} → statement M
-settle-spec =
+pub settle_spec : {M : Type 1} → statement M
+settle_spec =
     tie.close
     (tie.spec
     told-refuses-requires

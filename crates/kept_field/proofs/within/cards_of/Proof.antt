@@ -7,15 +7,15 @@ use borrow.Author.Rules.{rules}
 use lib.ListN.{length, replicate, length-set, length-drop, drop}
 use lib.Seq.{take_all}
 use Rattle.card.specs.declared.Card.{Card}
-use Rattle.kept.specs.States.{statesFrom}
-use Rattle.kept_card.specs.KeptCard.{cardIn}
-use Rattle.kept_field.specs.KeptField.{noCard, cardsIn}
-use Rattle.kept_field.specs.FieldLaws.{field-turn, field-done}
+use Rattle.kept.specs.States.{states_from}
+use Rattle.kept_card.specs.KeptCard.{card_in}
+use Rattle.kept_field.specs.KeptField.{no_card, cards_in}
+use Rattle.kept_field.specs.FieldLaws.{field_turn, field_done_law}
 use Rattle.kept_field.proofs.within.cards_of.Statement.{statement}
 use Rattle.kept_field.proofs.within.cards_of.Tie as tie
 
 abbrev invariant-loop : tie.invariant-loop
-invariant-loop b n cards₀ m i₀ cards i = (i ≤ m) × (m ≤ n) × (m ≤ 32) × (length cards ≡ 32) × (cards ≡ cardsIn i b ++ replicate (32 - i) noCard)
+invariant-loop b n cards₀ m i₀ cards i = (i ≤ m) × (m ≤ n) × (m ≤ 32) × (length cards ≡ 32) × (cards ≡ cards_in i b ++ replicate (32 - i) no_card)
 
 abbrev decreases-loop : tie.decreases-loop
 decreases-loop b n cards₀ m i₀ cards i = m - i
@@ -30,7 +30,7 @@ few-requires : tie.Need-few-requires invariant-loop decreases-loop
 few-requires c κs = search rules
 
 loop-holds : tie.Need-loop-init invariant-loop decreases-loop
-unfolding cardsIn statesFrom
+unfolding cards_in states_from
 loop-holds c = (omega arith, omega arith, omega arith, search rules, ap (λ (x : Card). replicate 32 x) c.before.card-of.ensures)
 
 mul-card-of : tie.Need-overflow-mul-card-of invariant-loop decreases-loop
@@ -65,17 +65,17 @@ loop-again c =
     let l = c.before.before.before.loop in
     let b = c.before.before.before.before.before.before.before.before.args.b.now in
     let e = take_all (length b - 64 * l.i) (drop (64 * l.i) b) (rw length-drop (omega arith)) in
-    (omega arith, omega arith, omega arith, simp length-set (omega arith), field-turn b l.cards l.i _ (omega arith) l.invariant.4 (c.card-of2.ensures ∙ ap cardIn e))
+    (omega arith, omega arith, omega arith, simp length-set (omega arith), field_turn b l.cards l.i _ (omega arith) l.invariant.4 (c.card-of2.ensures ∙ ap card_in e))
 
 returns : tie.Need-returns invariant-loop decreases-loop
 returns c =
     let l = c.before.loop in
     let a = c.before.before.before.before.before.before.args in
     let e : l.i ≡ c.before.before.few.result = omega arith in
-    field-done a.n a.b.now _ l.i (e ∙ c.before.before.few.ensures) l.invariant.4
+    field_done_law a.n a.b.now _ l.i (e ∙ c.before.before.few.ensures) l.invariant.4
 
-pub cards-of-spec : {M : Type 1} → statement M
-cards-of-spec =
+pub cards_of_spec : {M : Type 1} → statement M
+cards_of_spec =
     tie.close
     (tie.spec
     invariant-loop

@@ -1,5 +1,5 @@
 -- `kept_field::within::keep` meets its contract, by the law `kept-swept`. Assumes nothing.
-use Rattle.kept_field.specs.SweptLaws.{kept-swept}
+use Rattle.kept_field.specs.SweptLaws.{kept_swept}
 use borrow.Author.Rules.{rules}
 use Rattle.kept_field.proofs.within.keep.Statement.{statement}
 use Rattle.kept_field.proofs.within.keep.Tie as tie
@@ -40,7 +40,7 @@ returns c =
     let q = p.before.before.before.before.before in
     let b = q.before.before.before in
     let a = b.before.before.before.before.args in
-    kept-swept a.r a.k a.logged a.frames a.state.now _ _ _ _ _ _ (search rules) b.before.before.selection-bytes.ensures.0 b.before.before.selection-bytes.ensures.1 b.before.link-bytes.ensures.0 b.before.link-bytes.ensures.1 b.swept-tail.ensures.0 b.swept-tail.ensures.1 q.put.ensures p.put2.ensures c.before.before.put3.ensures
+    kept_swept a.r a.k a.logged a.frames a.state.now _ _ _ _ _ _ (search rules) b.before.before.selection-bytes.ensures.0 b.before.before.selection-bytes.ensures.1 b.before.link-bytes.ensures.0 b.before.link-bytes.ensures.1 b.swept-tail.ensures.0 b.swept-tail.ensures.1 q.put.ensures p.put2.ensures c.before.before.put3.ensures
 
 pub keep_spec : {M : Type 1} → statement M
 keep_spec =

@@ -1,7 +1,7 @@
 -- `kept_field::within::settle` meets its contract, by the laws `settled-refused` and `settled-swept`. Assumes nothing.
 use mathlib.Core.Path.{sym, ap, ◌∙◌}
 use Rattle.reader_link.specs.declared.LinkReader.{LinkReader}
-use Rattle.kept_field.specs.SweptLaws.{settled-refused, settled-swept}
+use Rattle.kept_field.specs.SweptLaws.{settled_refused, settled_swept}
 use borrow.Author.Rules.{rules}
 use Rattle.kept_field.proofs.within.settle.Statement.{statement}
 use Rattle.kept_field.proofs.within.settle.Tie as tie
@@ -15,7 +15,7 @@ selection-number-requires c κs = search rules
 returns : tie.Need-returns
 returns c =
     let a = c.before.before.before.before.before.args in
-    settled-refused a.s a.n a.state.now a.cards.now _ (sym c.before.before.selection-refuses.ensures ∙ c.before.if1.true) c.selection-number.ensures
+    settled_refused a.s a.n a.state.now a.cards.now _ (sym c.before.before.selection-refuses.ensures ∙ c.before.if1.true) c.selection-number.ensures
 
 reader-of-requires : tie.Need-reader-of-requires
 reader-of-requires c κs = search rules
@@ -39,10 +39,10 @@ returns-2 c =
     let l = ap (λ (x : LinkReader). x.link) c.before.before.before.before.before.before.before.before.before.before.reader-of.ensures in
     let k = c.before.before.before.before.before.before.keep.ensures in
     let p = c.before.before.put-cards.ensures in
-    settled-swept a.s a.n a.state.now a.cards.now _ _ _ no l k.0 k.1 p.0 p.1.0 p.1.1
+    settled_swept a.s a.n a.state.now a.cards.now _ _ _ no l k.0 k.1 p.0 p.1.0 p.1.1
 
-pub settle-spec : {M : Type 1} → statement M
-settle-spec =
+pub settle_spec : {M : Type 1} → statement M
+settle_spec =
     tie.close
     (tie.spec
     selection-refuses-requires

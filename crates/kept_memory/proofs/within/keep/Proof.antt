@@ -35,7 +35,7 @@ same_length : tie.Need-same-length
 same_length c = search rules
 
 returns : tie.Need-returns
-returns c = let a = c.before.before.before.before.before.before.before.before.before.before.before.before.before.before.before.before.before.before.before.before.before.before.args in let b = c.before.before.before.before.before.before.before.before.before.before.before.before.before.before.before in settled a.m a.state.now _ _ _ _ _ _ (search rules) b.before.before.selection-bytes.ensures.0 b.before.before.selection-bytes.ensures.1 b.before.told-bytes.ensures.0 b.before.told-bytes.ensures.1 b.path_bytes.ensures.0 b.path_bytes.ensures.1 c.before.before.before.before.before.before.before.before.before.before.before.before.put.ensures c.before.before.before.before.before.before.before.put2.ensures c.before.before.put3.ensures
+returns c = let a = c.before.before.before.before.before.before.before.before.before.before.before.before.before.before.before.before.before.before.before.before.before.before.args in let b = c.before.before.before.before.before.before.before.before.before.before.before.before.before.before.before in settled a.m a.state.now _ _ _ _ _ _ (search rules) b.before.before.selection-bytes.ensures.0 b.before.before.selection-bytes.ensures.1 b.before.told_bytes_law.ensures.0 b.before.told_bytes_law.ensures.1 b.path_bytes.ensures.0 b.path_bytes.ensures.1 c.before.before.before.before.before.before.before.before.before.before.before.before.put.ensures c.before.before.before.before.before.before.before.put2.ensures c.before.before.put3.ensures
 
 pub keep_spec : {M : Type 1} → statement M
 keep_spec =

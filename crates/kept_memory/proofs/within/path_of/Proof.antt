@@ -1,5 +1,5 @@
 -- `kept_memory::within::path_of` meets its contract, by the law `path-read`. Assumes nothing.
-use Rattle.kept_memory.specs.KeptMemoryLaws.{path-read}
+use Rattle.kept_memory.specs.KeptMemoryLaws.{path_read}
 use borrow.Author.Rules.{rules}
 use Rattle.kept_memory.proofs.within.path_of.Statement.{statement}
 use Rattle.kept_memory.proofs.within.path_of.Tie as tie
@@ -23,10 +23,10 @@ put-requires : tie.Need-put-requires
 put-requires c κs = search rules
 
 returns : tie.Need-returns
-returns c = path-read c.before.before.before.before.before.before.args.b.now _ _ (search rules) c.before.before.before.before.number_at.ensures c.before.put.ensures
+returns c = path_read c.before.before.before.before.before.before.args.b.now _ _ (search rules) c.before.before.before.before.number_at.ensures c.before.put.ensures
 
-pub path-of-spec : {M : Type 1} → statement M
-path-of-spec =
+pub path_of_spec : {M : Type 1} → statement M
+path_of_spec =
     tie.close
     (tie.spec
     number-at-requires

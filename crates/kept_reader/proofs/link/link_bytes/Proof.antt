@@ -24,8 +24,8 @@ returns-2 c = (rw c.before.k.given.1, rw c.before.k.given.1 tt)
 returns-3 : tie.Need-returns-3
 returns-3 c = (rw (c.linked-bytes.ensures.0, c.before.before.k2.given.1), rw c.before.before.k2.given.1 c.linked-bytes.ensures.1)
 
-pub link-bytes-spec : {M : Type 1} → statement M
-link-bytes-spec =
+pub link_bytes_spec : {M : Type 1} → statement M
+link_bytes_spec =
     tie.close
     (tie.spec
     enum_told

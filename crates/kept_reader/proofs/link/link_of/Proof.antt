@@ -20,6 +20,6 @@ returns : tie.Need-returns
 unfolding link_of
 returns c = simp (c.before.before.before.at.ensures, c.before.before.at2.ensures, c.before.Linked-of.ensures, c.link-in.ensures)
 
-pub link-of-spec : {M : Type 1} → statement M
-link-of-spec =
+pub link_of_spec : {M : Type 1} → statement M
+link_of_spec =
     tie.close (tie.spec at-requires at-requires-2 linked-of-requires link-in-requires returns)

@@ -1,5 +1,5 @@
 -- `kept_reader::link::linked_bytes` meets its contract, field by field. Assumes nothing.
-use Rattle.kept_reader.specs.KeptReader.{linkedBytes}
+use Rattle.kept_reader.specs.KeptReader.{linked_bytes}
 use Rattle.kept.specs.Kept.{word}
 use borrow.Author.Rules.{rules}
 use Rattle.kept_reader.proofs.link.linked_bytes.Statement.{statement}
@@ -69,11 +69,11 @@ array-read-t56 : tie.Need-array-read-t56
 array-read-t56 c = search rules
 
 returns : tie.Need-returns
-unfolding linkedBytes word
+unfolding linked_bytes word
 returns c = (simp (c.before.before.before.before.flag.ensures, c.before.before.before.link-phase-tag.ensures, c.before.before.link-phase-turn.ensures, c.before.word.ensures, c.word2.ensures), (search rules, search rules))
 
-pub linked-bytes-spec : {M : Type 1} → statement M
-linked-bytes-spec =
+pub linked_bytes_spec : {M : Type 1} → statement M
+linked_bytes_spec =
     tie.close
     (tie.spec
     flag-requires

@@ -1,5 +1,5 @@
 -- `kept_reader::link::linked_of` meets its contract, field by field. Assumes nothing.
-use Rattle.kept_reader.specs.KeptReader.{linkedOf}
+use Rattle.kept_reader.specs.KeptReader.{linked_of}
 use borrow.Author.Rules.{rules}
 use Rattle.kept_reader.proofs.link.linked_of.Statement.{statement}
 use Rattle.kept_reader.proofs.link.linked_of.Tie as tie
@@ -35,11 +35,11 @@ at-requires-7 : tie.Need-at-requires-7
 at-requires-7 c κs = search rules
 
 returns : tie.Need-returns
-unfolding linkedOf
+unfolding linked_of
 returns c = simp (c.before.before.before.before.before.before.before.before.before.at.ensures, c.before.before.before.before.before.before.before.before.at2.ensures, c.before.before.before.before.before.before.before.at3.ensures, c.before.before.before.before.before.before.at4.ensures, c.before.before.before.before.before.at5.ensures, c.before.before.before.before.link-phase-of.ensures, c.before.before.before.number_at.ensures, c.before.before.number-at2.ensures, c.before.at6.ensures, c.at7.ensures)
 
-pub linked-of-spec : {M : Type 1} → statement M
-linked-of-spec =
+pub linked_of_spec : {M : Type 1} → statement M
+linked_of_spec =
     tie.close
     (tie.spec
     at-requires

@@ -23,7 +23,7 @@ returns : tie.Need-returns
 unfolding bytes_at
 returns c = simp (c.before.before.before.before.at.ensures, c.before.before.before.at2.ensures, c.before.before.at3.ensures, c.before.at4.ensures, c.at5.ensures)
 
-pub five-of-spec : {M : Type 1} → statement M
-five-of-spec =
+pub five_of_spec : {M : Type 1} → statement M
+five_of_spec =
     tie.close
     (tie.spec at-requires at-requires-2 at-requires-3 at-requires-4 at-requires-5 returns)

@@ -37,5 +37,5 @@ returns-9 c = simp (ne_eqb _ _ c.before.before.before.before.before.before.befor
 returns-10 : tie.Need-returns-10
 returns-10 c = simp (ne_eqb _ _ c.before.before.before.before.before.before.before.before.if1.false, ne_eqb _ _ c.before.before.before.before.before.before.before.if2.false, ne_eqb _ _ c.before.before.before.before.before.before.if3.false, ne_eqb _ _ c.before.before.before.before.before.if4.false, ne_eqb _ _ c.before.before.before.before.if5.false, ne_eqb _ _ c.before.before.before.if6.false, ne_eqb _ _ c.before.before.if7.false, ne_eqb _ _ c.before.if8.false, ne_eqb _ _ c.if9.false)
 
-pub phase-of-spec : {M : Type 1} → statement M
-phase-of-spec = tie.close (tie.spec level-of-requires returns returns-2 returns-3 returns-4 returns-5 returns-6 returns-7 returns-8 returns-9 returns-10)
+pub phase_of_spec : {M : Type 1} → statement M
+phase_of_spec = tie.close (tie.spec level-of-requires returns returns-2 returns-3 returns-4 returns-5 returns-6 returns-7 returns-8 returns-9 returns-10)

@@ -1,5 +1,5 @@
 -- `kept_reader::select::selection_bytes` meets its contract, field by field. Assumes nothing.
-use Rattle.kept_reader.specs.KeptReader.{selectionBytes}
+use Rattle.kept_reader.specs.KeptReader.{selection_bytes}
 use Rattle.kept.specs.Kept.{bytes_at}
 use borrow.Author.Rules.{rules}
 use Rattle.kept_reader.proofs.select.selection_bytes.Statement.{statement}
@@ -63,11 +63,11 @@ array-read-t55 : tie.Need-array-read-t55
 array-read-t55 c = search rules
 
 returns : tie.Need-returns
-unfolding selectionBytes bytes_at
+unfolding selection_bytes bytes_at
 returns c = (simp (c.before.before.before.phase-tag.ensures, c.before.before.phase-level.ensures, c.before.flag.ensures, c.size-tag.ensures), (search rules, search rules))
 
-pub selection-bytes-spec : {M : Type 1} → statement M
-selection-bytes-spec =
+pub selection_bytes_spec : {M : Type 1} → statement M
+selection_bytes_spec =
     tie.close
     (tie.spec
     phase-tag-requires

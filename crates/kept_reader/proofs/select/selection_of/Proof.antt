@@ -1,5 +1,5 @@
 -- `kept_reader::select::selection_of` meets its contract, field by field. Assumes nothing.
-use Rattle.kept_reader.specs.KeptReader.{selectionOf}
+use Rattle.kept_reader.specs.KeptReader.{selection_of}
 use borrow.Author.Rules.{rules}
 use Rattle.kept_reader.proofs.select.selection_of.Statement.{statement}
 use Rattle.kept_reader.proofs.select.selection_of.Tie as tie
@@ -29,11 +29,11 @@ at-requires-5 : tie.Need-at-requires-5
 at-requires-5 c κs = search rules
 
 returns : tie.Need-returns
-unfolding selectionOf
+unfolding selection_of
 returns c = simp (c.before.before.before.before.before.before.before.at.ensures, c.before.before.before.before.before.before.at2.ensures, c.before.before.before.before.before.phase-of.ensures, c.before.before.before.before.at3.ensures, c.before.before.before.five-of.ensures, c.before.before.at4.ensures, c.before.uid-of.ensures, c.at5.ensures)
 
-pub selection-of-spec : {M : Type 1} → statement M
-selection-of-spec =
+pub selection_of_spec : {M : Type 1} → statement M
+selection_of_spec =
     tie.close
     (tie.spec
     at-requires

@@ -6,9 +6,9 @@ use borrow.Author.Rules.{rules}
 use lib.ListN.{length, replicate, get_or, length-set, length-drop, drop}
 use lib.Seq.{take_all}
 use Rattle.field_b.specs.declared.Drawn.{Drawn}
-use Rattle.kept.specs.States.{statesFrom}
-use Rattle.kept_slots.specs.KeptSlots.{drawnAt}
-use Rattle.kept_slots.specs.SlotsLaws.{Filled, field-turn, field-done}
+use Rattle.kept.specs.States.{states_from}
+use Rattle.kept_slots.specs.KeptSlots.{drawn_at}
+use Rattle.kept_slots.specs.SlotsLaws.{Filled, field_turn, field_done_law}
 use Rattle.kept_slots.proofs.within.cards_of.Statement.{statement}
 use Rattle.kept_slots.proofs.within.cards_of.Tie as tie
 
@@ -29,7 +29,7 @@ few-requires : tie.Need-few-requires invariant-loop decreases-loop
 few-requires c κs = search rules
 
 loop-holds : tie.Need-loop-init invariant-loop decreases-loop
-unfolding statesFrom
+unfolding states_from
 loop-holds c = (omega arith, omega arith, omega arith, search rules, ap (λ (x : Drawn). replicate 32 x) c.before.drawn-of.ensures)
 
 shared-slice-read-drawn-of : tie.Need-shared-slice-read-drawn-of invariant-loop decreases-loop
@@ -68,18 +68,18 @@ loop-again c =
     let a = c.before.before.before.before.before.before.before.before.before.before.args in
     let b = a.b.now in
     let e = take_all (length b - 64 * l.i) (drop (64 * l.i) b) (rw length-drop (omega arith)) in
-    let d = c.drawn-of2.ensures ∙ ap (drawnAt (get_or a.numbers.now l.i 0)) e in
-    (omega arith, omega arith, omega arith, simp length-set (omega arith), field-turn a.numbers.now b l.cards l.i _ (omega arith) l.invariant.4 d)
+    let d = c.drawn-of2.ensures ∙ ap (drawn_at (get_or a.numbers.now l.i 0)) e in
+    (omega arith, omega arith, omega arith, simp length-set (omega arith), field_turn a.numbers.now b l.cards l.i _ (omega arith) l.invariant.4 d)
 
 returns : tie.Need-returns invariant-loop decreases-loop
 returns c =
     let l = c.before.loop in
     let a = c.before.before.before.before.before.before.before.args in
     let e : l.i ≡ c.before.before.few.result = omega arith in
-    field-done a.numbers.now a.b.now _ l.i (e ∙ c.before.before.few.ensures) l.invariant.4
+    field_done_law a.numbers.now a.b.now _ l.i (e ∙ c.before.before.few.ensures) l.invariant.4
 
-pub cards-of-spec : {M : Type 1} → statement M
-cards-of-spec =
+pub cards_of_spec : {M : Type 1} → statement M
+cards_of_spec =
     tie.close
     (tie.spec
     invariant-loop

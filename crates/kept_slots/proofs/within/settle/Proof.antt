@@ -54,8 +54,8 @@ returns-2 c =
     let h = sym (ap (stays a.x) e) ∙ sym i.before.stays.ensures ∙ i.if1.false in
     (c.inquired-number2.ensures, (k.1.0, (k.1.1, row_kept a.x a.n a.s a.list.now a.cards.now _ h p.0 p.1.0 p.1.1)))
 
-pub settle-spec : {M : Type 1} → statement M
-settle-spec =
+pub settle_spec : {M : Type 1} → statement M
+settle_spec =
     tie.close
     (tie.spec
     inquired-turn-requires

@@ -1,6 +1,6 @@
 -- `kept_wake::within::settle` meets its contract, by the laws `woken-refused` and `woken-kept`. Assumes nothing.
 use mathlib.Core.Path.{sym, ◌∙◌}
-use Rattle.kept_wake.specs.WakeLaws.{woken-refused, woken-kept}
+use Rattle.kept_wake.specs.WakeLaws.{woken_refused, woken_kept}
 use borrow.Author.Rules.{rules}
 use Rattle.kept_wake.proofs.within.settle.Statement.{statement}
 use Rattle.kept_wake.proofs.within.settle.Tie as tie
@@ -23,7 +23,7 @@ returns c =
     let e = z.before.before.turn-of.ensures in
     let a = z.before.before.before.before.before.before.args in
     let k = rw e at z.settle.ensures in
-    let w = woken-refused a.s a.n a.cards.now _ (sym c.before.selection-refuses.ensures ∙ c.if1.true) k.0 in
+    let w = woken_refused a.s a.n a.cards.now _ (sym c.before.selection-refuses.ensures ∙ c.if1.true) k.0 in
     (w.0, (k.1.0, (k.1.1, w.1)))
 
 put-cards-requires : tie.Need-put-cards-requires
@@ -43,11 +43,11 @@ returns-2 c =
     let a = z.before.before.before.before.before.before.args in
     let k = rw e at z.settle.ensures in
     let p = c.before.before.put-cards.ensures in
-    let w = woken-kept a.s a.n a.cards.now _ (sym i.before.selection-refuses.ensures ∙ i.if1.false) p.0 p.1.0 p.1.1 in
+    let w = woken_kept a.s a.n a.cards.now _ (sym i.before.selection-refuses.ensures ∙ i.if1.false) p.0 p.1.0 p.1.1 in
     (w.0, (k.1.0, (k.1.1, w.1)))
 
-pub settle-spec : {M : Type 1} → statement M
-settle-spec =
+pub settle_spec : {M : Type 1} → statement M
+settle_spec =
     tie.close
     (tie.spec
     turn-of-requires

@@ -15,6 +15,6 @@ flag-requires c κs = search rules
 returns : tie.Need-returns
 returns c = rw (c.flag.ensures, c.before.is-owing.ensures, c.before.before.link-card-of.ensures)
 
-pub lac-card-owes-spec : {M : Type 1} → statement M
-lac-card-owes-spec =
+pub lac_card_owes_spec : {M : Type 1} → statement M
+lac_card_owes_spec =
     tie.close (tie.spec link-card-of-requires is-owing-requires flag-requires returns)

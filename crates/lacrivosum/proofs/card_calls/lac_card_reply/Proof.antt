@@ -3,9 +3,9 @@ use lib.ListN.{length}
 use native.Mathlib.Omega.{arith}
 use Rattle.block.specs.Out.{Out}
 use Rattle.card_link.specs.declared.LinkCard.{LinkCard}
-use Rattle.card_link.specs.CardCalls.{replyCall}
-use Rattle.kept_card.specs.RefusedLaws.{refused-stays, reply-declines}
-use Rattle.lacrivosum.specs.CardLibraryLaws.{card-short, card-called, card-says}
+use Rattle.card_link.specs.CardCalls.{reply_call}
+use Rattle.kept_card.specs.RefusedLaws.{refused_stays, reply_declines}
+use Rattle.lacrivosum.specs.CardLibraryLaws.{card_short, card_called, card_says_law}
 use borrow.Author.Rules.{rules}
 use Rattle.lacrivosum.proofs.card_calls.lac_card_reply.Statement.{statement}
 use Rattle.lacrivosum.proofs.card_calls.lac_card_reply.Tie as tie
@@ -16,7 +16,7 @@ refused-requires c κs = search rules
 returns : tie.Need-returns
 returns c =
     let a = c.before.before.before.before.before.args in
-    (card-short a.state.now a.out.now _ _ c.before.if1.true c.refused.ensures, λ h. absurd (omega arith))
+    (card_short a.state.now a.out.now _ _ c.before.if1.true c.refused.ensures, λ h. absurd (omega arith))
 
 link-card-of-requires : tie.Need-link-card-of-requires
 link-card-of-requires c κs = search rules
@@ -27,7 +27,7 @@ reply-requires c κs = search rules
 settle-requires : tie.Need-settle-requires
 settle-requires c κs =
     let a = c.before.before.before.before.before.before.before.before.before.before.before.args in
-    (c.before.before.before.before.before.before.before.if1.false, refused-stays a.state.now _ _ _ _ c.before.before.before.before.before.link-card-of.ensures c.before.before.before.reply.ensures.0 (reply-declines _ a.answer.now (length a.out.now)))
+    (c.before.before.before.before.before.before.before.if1.false, refused_stays a.state.now _ _ _ _ c.before.before.before.before.before.link-card-of.ensures c.before.before.before.reply.ensures.0 (reply_declines _ a.answer.now (length a.out.now)))
 
 same_length : tie.Need-same-length
 same_length c = search rules
@@ -39,16 +39,16 @@ returns-2 : tie.Need-returns-2
 returns-2 c =
     let a = c.before.before.before.before.before.before.before.before.before.before.before.before.before.before.args in
     let long = c.before.before.before.before.before.before.before.before.before.before.if1.false in
-    let f : LinkCard → Out LinkCard = λ x. replyCall x a.answer.now (length a.out.now) in
+    let f : LinkCard → Out LinkCard = λ x. reply_call x a.answer.now (length a.out.now) in
     let e = c.before.before.before.before.before.before.before.before.link-card-of.ensures in
     let turn = c.before.before.before.before.before.before.reply.ensures.0 in
     let kept = c.before.before.settle.ensures in (
-      card-called a.state.now a.out.now _ _ f _ _ _ long e turn c.before.before.before.before.before.before.reply.ensures.1.0 kept.0 kept.1.0,
-      λ h. card-says a.state.now _ f _ _ e turn kept.1.1,
+      card_called a.state.now a.out.now _ _ f _ _ _ long e turn c.before.before.before.before.before.before.reply.ensures.1.0 kept.0 kept.1.0,
+      λ h. card_says_law a.state.now _ f _ _ e turn kept.1.1,
     )
 
-pub lac-card-reply-spec : {M : Type 1} → statement M
-lac-card-reply-spec =
+pub lac_card_reply_spec : {M : Type 1} → statement M
+lac_card_reply_spec =
     tie.close
     (tie.spec
     refused-requires

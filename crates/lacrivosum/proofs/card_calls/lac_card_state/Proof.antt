@@ -12,5 +12,5 @@ state-tag-requires c κs = search rules
 returns : tie.Need-returns
 returns c = rw (c.state-tag.ensures, c.before.card-of.ensures)
 
-pub lac-card-state-spec : {M : Type 1} → statement M
-lac-card-state-spec = tie.close (tie.spec card-of-requires state-tag-requires returns)
+pub lac_card_state_spec : {M : Type 1} → statement M
+lac_card_state_spec = tie.close (tie.spec card-of-requires state-tag-requires returns)

@@ -1,5 +1,5 @@
 -- `lacrivosum::card_calls::new_turn` meets its contract, by the laws `new-made` and `new-refused`. Assumes nothing.
-use Rattle.lacrivosum.specs.CardLibraryLaws.{new-made, new-refused}
+use Rattle.lacrivosum.specs.CardLibraryLaws.{new_made, new_refused}
 use borrow.Author.Rules.{rules}
 use Rattle.lacrivosum.proofs.card_calls.new_turn.Statement.{statement}
 use Rattle.lacrivosum.proofs.card_calls.new_turn.Tie as tie
@@ -23,16 +23,16 @@ returns : tie.Need-returns
 returns c =
     let a = c.before.before.before.before.before.before.before.args in
     let n = c.before.before.before.before.new-card.ensures in
-    new-made a.x a.uid.now a.blocks a.index _ _ _ _ c.before.before.before.before.before.speaks.ensures n.0 n.1.0 n.1.1.0 c.before.enum_told.given.1 c.quiet.ensures
+    new_made a.x a.uid.now a.blocks a.index _ _ _ _ c.before.before.before.before.before.speaks.ensures n.0 n.1.0 n.1.1.0 c.before.enum_told.given.1 c.quiet.ensures
 
 returns-2 : tie.Need-returns-2
 returns-2 c =
     let a = c.before.before.before.before.before.before.before.args in
     let n = c.before.before.before.before.new-card.ensures in
-    new-refused a.x a.uid.now a.blocks a.index _ _ _ c.before.before.before.before.before.speaks.ensures n.1.1.0 c.before.made.given.1
+    new_refused a.x a.uid.now a.blocks a.index _ _ _ c.before.before.before.before.before.speaks.ensures n.1.1.0 c.before.made.given.1
 
-pub new-turn-spec : {M : Type 1} → statement M
-new-turn-spec =
+pub new_turn_spec : {M : Type 1} → statement M
+new_turn_spec =
     tie.close
     (tie.spec
     speaks-requires

@@ -23,6 +23,6 @@ returns c = rw c.before.j.given.1 (to_z-of_z w64 c.before.j.given.0.0 (search ru
 returns-2 : tie.Need-returns-2
 returns-2 c = rw c.enum_told.given.1
 
-pub off-number-spec : {M : Type 1} → statement M
-off-number-spec =
+pub off_number_spec : {M : Type 1} → statement M
+off_number_spec =
     tie.close (tie.spec enum-known-j enum_told sub-result sub-result-2 returns returns-2)

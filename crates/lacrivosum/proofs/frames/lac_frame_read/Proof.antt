@@ -1,7 +1,7 @@
 -- `lacrivosum::frames::lac_frame_read` meets its contract, by that of crate frame's call. Assumes nothing.
-use Rattle.limits.specs.Limits.{mostBytes}
-use Rattle.frame.specs.Frame.{readFrame}
-use Rattle.lacrivosum.specs.FrameLaws.{received-said}
+use Rattle.limits.specs.Limits.{most_bytes}
+use Rattle.frame.specs.Frame.{read_frame}
+use Rattle.lacrivosum.specs.FrameLaws.{received_said}
 use borrow.Author.Rules.{rules}
 use Rattle.lacrivosum.proofs.frames.lac_frame_read.Statement.{statement}
 use Rattle.lacrivosum.proofs.frames.lac_frame_read.Tie as tie
@@ -16,8 +16,8 @@ same_length : tie.Need-same-length
 same_length c = search rules
 
 returns : tie.Need-returns
-returns c = let r = c.before.before.before.read in received-said r.result _ (readFrame 1 mostBytes c.before.before.before.before.before.before.before.args.row.now) _ _ _ r.ensures.0 r.ensures.1 c.received-number.ensures
+returns c = let r = c.before.before.before.read in received_said r.result _ (read_frame 1 most_bytes c.before.before.before.before.before.before.before.args.row.now) _ _ _ r.ensures.0 r.ensures.1 c.received-number.ensures
 
-pub lac-frame-read-spec : {M : Type 1} → statement M
-lac-frame-read-spec =
+pub lac_frame_read_spec : {M : Type 1} → statement M
+lac_frame_read_spec =
     tie.close (tie.spec read-requires received-number-requires same_length returns)

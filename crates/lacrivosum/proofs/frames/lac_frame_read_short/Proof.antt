@@ -1,6 +1,6 @@
 -- `lacrivosum::frames::lac_frame_read_short` meets its contract, by that of crate frame's call. Assumes nothing.
 use mathlib.Core.Path.{ap, ◌∙◌}
-use Rattle.lacrivosum.specs.Frames.{saidNumber}
+use Rattle.lacrivosum.specs.Frames.{said_number}
 use borrow.Author.Rules.{rules}
 use Rattle.lacrivosum.proofs.frames.lac_frame_read_short.Statement.{statement}
 use Rattle.lacrivosum.proofs.frames.lac_frame_read_short.Tie as tie
@@ -12,7 +12,7 @@ short-number-requires : tie.Need-short-number-requires
 short-number-requires c κs = search rules
 
 returns : tie.Need-returns
-returns c = c.short-number.ensures ∙ ap saidNumber c.before.read_short.ensures
+returns c = c.short-number.ensures ∙ ap said_number c.before.read_short.ensures
 
-pub lac-frame-read-short-spec : {M : Type 1} → statement M
-lac-frame-read-short-spec = tie.close (tie.spec read-short-requires short-number-requires returns)
+pub lac_frame_read_short_spec : {M : Type 1} → statement M
+lac_frame_read_short_spec = tie.close (tie.spec read-short-requires short-number-requires returns)

@@ -1,5 +1,5 @@
 -- `lacrivosum::frames::lac_frame_write` meets its contract, by that of crate frame's call. Assumes nothing.
-use Rattle.lacrivosum.specs.FrameLaws.{written-said}
+use Rattle.lacrivosum.specs.FrameLaws.{written_said}
 use borrow.Author.Rules.{rules}
 use Rattle.lacrivosum.proofs.frames.lac_frame_write.Statement.{statement}
 use Rattle.lacrivosum.proofs.frames.lac_frame_write.Tie as tie
@@ -14,8 +14,8 @@ same_length : tie.Need-same-length
 same_length c = search rules
 
 returns : tie.Need-returns
-returns c = let w = c.before.before.before.write in written-said w.result _ _ _ _ _ w.ensures.0 w.ensures.1 c.written-number.ensures
+returns c = let w = c.before.before.before.write in written_said w.result _ _ _ _ _ w.ensures.0 w.ensures.1 c.written-number.ensures
 
-pub lac-frame-write-spec : {M : Type 1} → statement M
-lac-frame-write-spec =
+pub lac_frame_write_spec : {M : Type 1} → statement M
+lac_frame_write_spec =
     tie.close (tie.spec write-requires written-number-requires same_length returns)

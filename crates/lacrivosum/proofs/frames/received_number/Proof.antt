@@ -1,7 +1,7 @@
 -- `lacrivosum::frames::received_number` meets its contract, case by case. Assumes nothing.
 use mathlib.Core.Path.{ap}
-use Rattle.frame.specs.Calls.{receivedSays}
-use Rattle.lacrivosum.specs.FrameLaws.{refused-said}
+use Rattle.frame.specs.Calls.{received_says}
+use Rattle.lacrivosum.specs.FrameLaws.{refused_said}
 use borrow.Author.Rules.{rules}
 use Rattle.lacrivosum.proofs.frames.received_number.Statement.{statement}
 use Rattle.lacrivosum.proofs.frames.received_number.Tie as tie
@@ -19,8 +19,8 @@ returns : tie.Need-returns
 returns c = rw c.before.r.given.1
 
 returns-2 : tie.Need-returns-2
-returns-2 c = refused-said _ c.before.before.r2.given.0.0 _ (ap receivedSays c.before.before.r2.given.1) c.refused.ensures
+returns-2 c = refused_said _ c.before.before.r2.given.0.0 _ (ap received_says c.before.before.r2.given.1) c.refused.ensures
 
-pub received-number-spec : {M : Type 1} → statement M
-received-number-spec =
+pub received_number_spec : {M : Type 1} → statement M
+received_number_spec =
     tie.close (tie.spec enum-known-r enum-known-r-2 refused-requires returns returns-2)

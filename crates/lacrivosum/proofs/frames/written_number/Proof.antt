@@ -1,7 +1,7 @@
 -- `lacrivosum::frames::written_number` meets its contract, case by case. Assumes nothing.
 use mathlib.Core.Path.{ap}
-use Rattle.frame.specs.Calls.{writtenSays}
-use Rattle.lacrivosum.specs.FrameLaws.{refused-said}
+use Rattle.frame.specs.Calls.{written_says}
+use Rattle.lacrivosum.specs.FrameLaws.{refused_said}
 use borrow.Author.Rules.{rules}
 use Rattle.lacrivosum.proofs.frames.written_number.Statement.{statement}
 use Rattle.lacrivosum.proofs.frames.written_number.Tie as tie
@@ -19,8 +19,8 @@ returns : tie.Need-returns
 returns c = rw c.before.w.given.1
 
 returns-2 : tie.Need-returns-2
-returns-2 c = refused-said _ c.before.before.w2.given.0.0 _ (ap writtenSays c.before.before.w2.given.1) c.refused.ensures
+returns-2 c = refused_said _ c.before.before.w2.given.0.0 _ (ap written_says c.before.before.w2.given.1) c.refused.ensures
 
-pub written-number-spec : {M : Type 1} → statement M
-written-number-spec =
+pub written_number_spec : {M : Type 1} → statement M
+written_number_spec =
     tie.close (tie.spec enum-known-w enum-known-w-2 refused-requires returns returns-2)

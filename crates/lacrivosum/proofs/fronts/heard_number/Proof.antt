@@ -21,6 +21,6 @@ returns-2 c = rw c.enum_told.given.1
 returns-3 : tie.Need-returns-3
 returns-3 c = rw c.enum-told2.given.1
 
-pub heard-number-spec : {M : Type 1} → statement M
-heard-number-spec =
+pub heard_number_spec : {M : Type 1} → statement M
+heard_number_spec =
     tie.close (tie.spec enum-known-h enum_told enum-told-2 returns returns-2 returns-3)

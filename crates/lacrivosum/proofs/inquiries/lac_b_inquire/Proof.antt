@@ -2,8 +2,8 @@
 use mathlib.Core.Path.{refl, sym, ◌∙◌}
 use mathlib.Core.Bool.{false≢true}
 use native.Mathlib.Omega.{arith}
-use Rattle.lacrivosum.specs.Inquiries.{inquiryDone, asked}
-use Rattle.lacrivosum.specs.InquiryLaws.{no-state, no_row, refused-short, inquiry-made}
+use Rattle.lacrivosum.specs.Inquiries.{inquiry_done, asked}
+use Rattle.lacrivosum.specs.InquiryLaws.{no_state, no_row, refused_short, inquiry_made}
 use borrow.Author.Rules.{rules}
 use Rattle.lacrivosum.proofs.inquiries.lac_b_inquire.Statement.{statement}
 use Rattle.lacrivosum.proofs.inquiries.lac_b_inquire.Tie as tie
@@ -15,9 +15,9 @@ returns : tie.Need-returns
 returns c =
     let a = c.before.before.before.before.before.before.args in
     let q = asked a.wake a.n a.afi a.numbers.now in
-    let b = inquiryDone 0 a.state.now a.cards.now a.list.now in
-    let h = no-state q b c.before.if1.true in
-    (refused-short q b _ _ c.refused.ensures h, (λ e k. refl, (λ k. absurd (false≢true (sym k ∙ h)), λ t. absurd (omega (arith, t.state-room)))))
+    let b = inquiry_done 0 a.state.now a.cards.now a.list.now in
+    let h = no_state q b c.before.if1.true in
+    (refused_short q b _ _ c.refused.ensures h, (λ e k. refl, (λ k. absurd (false≢true (sym k ∙ h)), λ t. absurd (omega (arith, t.state_room)))))
 
 refused-requires-2 : tie.Need-refused-requires-2
 refused-requires-2 c κs = search rules
@@ -26,9 +26,9 @@ returns-2 : tie.Need-returns-2
 returns-2 c =
     let a = c.before.before.before.before.before.before.before.args in
     let q = asked a.wake a.n a.afi a.numbers.now in
-    let b = inquiryDone 0 a.state.now a.cards.now a.list.now in
+    let b = inquiry_done 0 a.state.now a.cards.now a.list.now in
     let h = no_row q b c.before.before.if1.false c.before.if2.true in
-    (refused-short q b _ _ c.refused2.ensures h, (λ e k. refl, (λ k. absurd (false≢true (sym k ∙ h)), λ t. absurd (omega (arith, t.cards-room)))))
+    (refused_short q b _ _ c.refused2.ensures h, (λ e k. refl, (λ k. absurd (false≢true (sym k ∙ h)), λ t. absurd (omega (arith, t.cards_room)))))
 
 reader-of-requires : tie.Need-reader-of-requires
 reader-of-requires c κs = search rules
@@ -66,11 +66,11 @@ returns-3 c =
     let q = asked a.wake a.n a.afi a.numbers.now in
     let e = x.reader-of.ensures in
     let z = rw e at k.settle.ensures in
-    let m = inquiry-made q a.state.now a.cards.now a.list.now i.inquire.result _ _ _ _ t.before.if1.false t.if2.false in
+    let m = inquiry_made q a.state.now a.cards.now a.list.now i.inquire.result _ _ _ _ t.before.if1.false t.if2.false in
     m z.0 z.1.0 z.1.1.0 z.1.1.1.0 z.1.1.1.1 _ _ _ e w.speaks.ensures f.cards-of.ensures i.inquire.ensures.0 i.inquire.ensures.1
 
-pub lac-b-inquire-spec : {M : Type 1} → statement M
-lac-b-inquire-spec =
+pub lac_b_inquire_spec : {M : Type 1} → statement M
+lac_b_inquire_spec =
     tie.close
     (tie.spec
     refused-requires

@@ -1,7 +1,7 @@
 -- `lacrivosum::sweeps::lac_sweep_remember` meets its contract, by the laws `short-state`, `short_row` and `recall-made`. Assumes nothing.
 use mathlib.Core.Path.{refl}
 use native.Mathlib.Omega.{arith}
-use Rattle.lacrivosum.specs.FieldCallLaws.{short-state, short_row, recall-made}
+use Rattle.lacrivosum.specs.FieldCallLaws.{short_state, short_row, recall_made}
 use borrow.Author.Rules.{rules}
 use Rattle.lacrivosum.proofs.sweeps.lac_sweep_remember.Statement.{statement}
 use Rattle.lacrivosum.proofs.sweeps.lac_sweep_remember.Tie as tie
@@ -12,7 +12,7 @@ refused-requires c κs = search rules
 returns : tie.Need-returns
 returns c =
     let a = c.before.before.before.before.before.before.args in
-    (short-state a.state.now a.cards.now a.n a.log.now a.list.now _ _ c.refused.ensures c.before.if1.true, (λ h. refl, λ t. absurd (omega (arith, t.state-room))))
+    (short_state a.state.now a.cards.now a.n a.log.now a.list.now _ _ c.refused.ensures c.before.if1.true, (λ h. refl, λ t. absurd (omega (arith, t.state_room))))
 
 refused-requires-2 : tie.Need-refused-requires-2
 refused-requires-2 c κs = search rules
@@ -20,7 +20,7 @@ refused-requires-2 c κs = search rules
 returns-2 : tie.Need-returns-2
 returns-2 c =
     let a = c.before.before.before.before.before.before.before.args in
-    (short_row a.state.now a.cards.now a.n a.log.now a.list.now _ _ c.refused2.ensures c.before.before.if1.false c.before.if2.true, (λ h. refl, λ t. absurd (omega (arith, t.cards-room))))
+    (short_row a.state.now a.cards.now a.n a.log.now a.list.now _ _ c.refused2.ensures c.before.before.if1.false c.before.if2.true, (λ h. refl, λ t. absurd (omega (arith, t.cards_room))))
 
 start-of-requires : tie.Need-start-of-requires
 start-of-requires c κs = search rules
@@ -55,12 +55,12 @@ returns-3 c =
     let i = b.before.before in
     let a = i.before.before.before.before.before.before.args in
     let z = k.settle.ensures in
-    let m = recall-made a.state.now a.cards.now a.n a.tick a.log.now a.list.now w.sweep.result _ _ _ _ _ in
+    let m = recall_made a.state.now a.cards.now a.n a.tick a.log.now a.list.now w.sweep.result _ _ _ _ _ in
     m i.before.if1.false i.if2.false z.0 z.1.0 z.1.1.0 z.1.1.1 _ _ b.start_of_lem.ensures f.cards-of.ensures
     w.sweep.ensures.0 w.sweep.ensures.1
 
-pub lac-sweep-remember-spec : {M : Type 1} → statement M
-lac-sweep-remember-spec =
+pub lac_sweep_remember_spec : {M : Type 1} → statement M
+lac_sweep_remember_spec =
     tie.close
     (tie.spec
     refused-requires

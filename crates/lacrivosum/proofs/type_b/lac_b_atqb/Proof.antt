@@ -1,5 +1,5 @@
 -- `lacrivosum::type_b::lac_b_atqb` meets its contract, by that of `twelve`. Assumes nothing.
-use Rattle.lacrivosum.specs.LibraryBLaws.{atqb-short, atqb-no-room, atqb-given}
+use Rattle.lacrivosum.specs.LibraryBLaws.{atqb_short, atqb_no_room, atqb_given}
 use borrow.Author.Rules.{rules}
 use Rattle.lacrivosum.proofs.type_b.lac_b_atqb.Statement.{statement}
 use Rattle.lacrivosum.proofs.type_b.lac_b_atqb.Tie as tie
@@ -10,7 +10,7 @@ refused-requires c κs = search rules
 returns : tie.Need-returns
 returns c =
     let a = c.before.before.before.before.args in
-    atqb-short a.state.now a.out.now _ c.before.if1.true c.refused.ensures
+    atqb_short a.state.now a.out.now _ c.before.if1.true c.refused.ensures
 
 refused-requires-2 : tie.Need-refused-requires-2
 refused-requires-2 c κs = search rules
@@ -18,7 +18,7 @@ refused-requires-2 c κs = search rules
 returns-2 : tie.Need-returns-2
 returns-2 c =
     let a = c.before.before.before.before.before.args in
-    atqb-no-room a.state.now a.out.now _ c.before.before.if1.false c.before.if2.true c.refused2.ensures
+    atqb_no_room a.state.now a.out.now _ c.before.before.if1.false c.before.if2.true c.refused2.ensures
 
 twelve-requires : tie.Need-twelve-requires
 twelve-requires c κs = search rules
@@ -35,7 +35,7 @@ same_length c = search rules
 returns-3 : tie.Need-returns-3
 returns-3 c =
     let a = c.before.before.before.before.before.before.before.before.before.before.args in
-    atqb-given a.state.now a.out.now _ _ c.before.before.before.before.before.before.before.if1.false c.before.before.before.before.before.before.if2.false c.before.before.before.before.before.twelve.ensures c.before.before.put.ensures
+    atqb_given a.state.now a.out.now _ _ c.before.before.before.before.before.before.before.if1.false c.before.before.before.before.before.before.if2.false c.before.before.before.before.before.twelve.ensures c.before.before.put.ensures
 
-pub lac-b-atqb-spec : {M : Type 1} → statement M
-lac-b-atqb-spec = tie.close (tie.spec refused-requires returns refused-requires-2 returns-2 twelve-requires slice-aggregate-put put-requires same_length returns-3)
+pub lac_b_atqb_spec : {M : Type 1} → statement M
+lac_b_atqb_spec = tie.close (tie.spec refused-requires returns refused-requires-2 returns-2 twelve-requires slice-aggregate-put put-requires same_length returns-3)

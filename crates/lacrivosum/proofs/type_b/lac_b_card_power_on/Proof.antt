@@ -5,9 +5,9 @@ use native.Mathlib.Omega.{arith}
 use Rattle.card_b.specs.declared.CardB.{CardB}
 use Rattle.card_b.specs.declared.TakenB.{TakenB}
 use mathlib.Core.Path.{refl, ap, ◌∙◌}
-use Rattle.card_b.specs.CardB.{powerOn}
+use Rattle.card_b.specs.CardB.{power_on}
 use Rattle.lacrivosum.specs.LibraryB.{silent}
-use Rattle.lacrivosum.specs.LibraryBLaws.{card-short, card-called, card-says, silent-declined, refused-stays}
+use Rattle.lacrivosum.specs.LibraryBLaws.{card_short, card_called, card_says_law, silent_declined, refused_stays}
 use borrow.Author.Rules.{rules}
 use Rattle.lacrivosum.proofs.type_b.lac_b_card_power_on.Statement.{statement}
 use Rattle.lacrivosum.proofs.type_b.lac_b_card_power_on.Tie as tie
@@ -18,7 +18,7 @@ refused-requires c κs = search rules
 returns : tie.Need-returns
 returns c =
     let a = c.before.before.before.args in
-    (card-short a.state.now [] _ [] _ c.before.if1.true c.refused.ensures, λ h. absurd (omega arith))
+    (card_short a.state.now [] _ [] _ c.before.if1.true c.refused.ensures, λ h. absurd (omega arith))
 
 card-of-requires : tie.Need-card-of-requires
 card-of-requires c κs = search rules
@@ -32,7 +32,7 @@ silent-requires c κs = search rules
 settle-card-requires : tie.Need-settle-card-requires
 settle-card-requires c κs =
     let a = c.before.before.before.before.before.before.before.args in
-    (c.before.before.before.before.before.if1.false, refused-stays a.state.now _ _ _ c.before.before.before.card-of.ensures (c.before.silent.ensures ∙ ap (λ (y : CardB). silent y) c.before.before.power-on.ensures) (silent-declined _ _))
+    (c.before.before.before.before.before.if1.false, refused_stays a.state.now _ _ _ c.before.before.before.card-of.ensures (c.before.silent.ensures ∙ ap (λ (y : CardB). silent y) c.before.before.power-on.ensures) (silent_declined _ _))
 
 same_length : tie.Need-same-length
 same_length c = search rules
@@ -40,12 +40,12 @@ same_length c = search rules
 returns-2 : tie.Need-returns-2
 returns-2 c =
     let a = c.before.before.before.before.before.before.before.before.before.before.args in
-    let f : CardB → TakenB = λ x. silent (powerOn x) in
+    let f : CardB → TakenB = λ x. silent (power_on x) in
     let g : CardB → List ℕ = λ _. [] in
     let e = c.before.before.before.before.before.before.card-of.ensures in
     let turn = (c.before.before.before.before.silent.ensures ∙ ap (λ (y : CardB). silent y) c.before.before.before.before.before.power-on.ensures) in
     let kept = c.before.before.settle-card.ensures in
-    (card-called a.state.now [] _ _ f g _ _ _ c.before.before.before.before.before.before.before.before.if1.false e turn refl kept.0 kept.1.0, λ h. card-says a.state.now _ f _ _ e turn kept.1.1)
+    (card_called a.state.now [] _ _ f g _ _ _ c.before.before.before.before.before.before.before.before.if1.false e turn refl kept.0 kept.1.0, λ h. card_says_law a.state.now _ f _ _ e turn kept.1.1)
 
-pub lac-b-card-power-on-spec : {M : Type 1} → statement M
-lac-b-card-power-on-spec = tie.close (tie.spec refused-requires returns card-of-requires power-on-requires silent-requires settle-card-requires same_length returns-2)
+pub lac_b_card_power_on_spec : {M : Type 1} → statement M
+lac_b_card_power_on_spec = tie.close (tie.spec refused-requires returns card-of-requires power-on-requires silent-requires settle-card-requires same_length returns-2)

@@ -9,5 +9,5 @@ held-of-requires c κs = search rules
 returns : tie.Need-returns
 returns c = c.held_of.ensures
 
-pub lac-b-held-spec : {M : Type 1} → statement M
-lac-b-held-spec = tie.close (tie.spec held-of-requires returns)
+pub lac_b_held_spec : {M : Type 1} → statement M
+lac_b_held_spec = tie.close (tie.spec held-of-requires returns)

@@ -6,8 +6,8 @@ use native.Mathlib.Omega.{arith}
 use Rattle.reader_b.specs.declared.ReaderB.{ReaderB}
 use Rattle.reader_b.specs.declared.TurnB.{TurnB}
 use Rattle.selection_b.specs.TypeB.{hltb}
-use Rattle.lacrivosum.specs.LibraryB.{haltCall}
-use Rattle.lacrivosum.specs.LibraryBLaws.{reader-short, reader-called, reader-says}
+use Rattle.lacrivosum.specs.LibraryB.{halt_call}
+use Rattle.lacrivosum.specs.LibraryBLaws.{reader_short, reader_called, reader_says}
 use borrow.Author.Rules.{rules}
 use Rattle.lacrivosum.proofs.type_b.lac_b_reader_halt.Statement.{statement}
 use Rattle.lacrivosum.proofs.type_b.lac_b_reader_halt.Tie as tie
@@ -18,7 +18,7 @@ refused-requires c κs = search rules
 returns : tie.Need-returns
 returns c =
     let a = c.before.before.before.before.before.args in
-    (reader-short a.state.now a.out.now _ _ _ c.before.if1.true c.refused.ensures, λ h. absurd (omega arith))
+    (reader_short a.state.now a.out.now _ _ _ c.before.if1.true c.refused.ensures, λ h. absurd (omega arith))
 
 reader-of-requires : tie.Need-reader-of-requires
 reader-of-requires c κs = search rules
@@ -39,12 +39,12 @@ returns-2 : tie.Need-returns-2
 returns-2 c =
     let a = c.before.before.before.before.before.before.before.before.before.before.before.before.before.before.args in
     let long = c.before.before.before.before.before.before.before.before.before.before.if1.false in
-    let f : ReaderB → TurnB = λ x. haltCall x a.pupi.now (length a.out.now) in
+    let f : ReaderB → TurnB = λ x. halt_call x a.pupi.now (length a.out.now) in
     let g : TurnB → List ℕ = λ t. hltb a.pupi.now in
     let e = c.before.before.before.before.before.before.before.before.reader-of.ensures in
     let turn = c.before.before.before.before.before.before.halt.ensures.0 in
     let kept = c.before.before.settle.ensures in
-    (reader-called a.state.now a.out.now _ _ f g _ _ _ long e turn c.before.before.before.before.before.before.halt.ensures.1 kept.0 kept.1.0, λ h. reader-says a.state.now _ f _ _ e turn kept.1.1)
+    (reader_called a.state.now a.out.now _ _ f g _ _ _ long e turn c.before.before.before.before.before.before.halt.ensures.1 kept.0 kept.1.0, λ h. reader_says a.state.now _ f _ _ e turn kept.1.1)
 
-pub lac-b-reader-halt-spec : {M : Type 1} → statement M
-lac-b-reader-halt-spec = tie.close (tie.spec refused-requires returns reader-of-requires halt-requires settle-requires same_length same-length-2 returns-2)
+pub lac_b_reader_halt_spec : {M : Type 1} → statement M
+lac_b_reader_halt_spec = tie.close (tie.spec refused-requires returns reader-of-requires halt-requires settle-requires same_length same-length-2 returns-2)

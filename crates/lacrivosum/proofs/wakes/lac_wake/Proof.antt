@@ -2,7 +2,7 @@
 use mathlib.Core.Path.{refl, ap}
 use native.Mathlib.Omega.{arith}
 use Rattle.reader_link.specs.declared.LinkReader.{LinkReader}
-use Rattle.lacrivosum.specs.WakingLaws.{short-state, short_row, woken-made}
+use Rattle.lacrivosum.specs.WakingLaws.{short_state, short_row, woken_made}
 use borrow.Author.Rules.{rules}
 use Rattle.lacrivosum.proofs.wakes.lac_wake.Statement.{statement}
 use Rattle.lacrivosum.proofs.wakes.lac_wake.Tie as tie
@@ -13,7 +13,7 @@ refused-requires c κs = search rules
 returns : tie.Need-returns
 returns c =
     let a = c.before.before.before.before.before.args in
-    (short-state a.state.now a.cards.now a.n _ _ c.refused.ensures c.before.if1.true, (λ e h. refl, λ t. absurd (omega (arith, t.state-room))))
+    (short_state a.state.now a.cards.now a.n _ _ c.refused.ensures c.before.if1.true, (λ e h. refl, λ t. absurd (omega (arith, t.state_room))))
 
 refused-requires-2 : tie.Need-refused-requires-2
 refused-requires-2 c κs = search rules
@@ -21,7 +21,7 @@ refused-requires-2 c κs = search rules
 returns-2 : tie.Need-returns-2
 returns-2 c =
     let a = c.before.before.before.before.before.before.args in
-    (short_row a.state.now a.cards.now a.n _ _ c.refused2.ensures c.before.before.if1.false c.before.if2.true, (λ e h. refl, λ t. absurd (omega (arith, t.cards-room))))
+    (short_row a.state.now a.cards.now a.n _ _ c.refused2.ensures c.before.before.if1.false c.before.if2.true, (λ e h. refl, λ t. absurd (omega (arith, t.cards_room))))
 
 reader-of-requires : tie.Need-reader-of-requires
 reader-of-requires c κs = search rules
@@ -51,11 +51,11 @@ returns-3 c =
     let a = i.before.before.before.before.before.args in
     let e = x.reader-of.ensures in
     let z = rw e at k.settle.ensures in
-    let m = woken-made a.state.now a.uid.now a.cards.now a.n w.wake.result _ _ _ i.before.if1.false i.if2.false in
+    let m = woken_made a.state.now a.uid.now a.cards.now a.n w.wake.result _ _ _ i.before.if1.false i.if2.false in
     m z.0 z.1.0 z.1.1.0 z.1.1.1.0 z.1.1.1.1 _ _ (ap (λ (y : LinkReader). y.reader) e) f.cards-of.ensures w.wake.ensures.0 w.wake.ensures.1
 
-pub lac-wake-spec : {M : Type 1} → statement M
-lac-wake-spec =
+pub lac_wake_spec : {M : Type 1} → statement M
+lac_wake_spec =
     tie.close
     (tie.spec
     refused-requires

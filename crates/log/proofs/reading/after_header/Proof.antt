@@ -2,8 +2,8 @@
 use borrow.Author.Rules.{rules}
 use native.Mathlib.Omega.{arith}
 use borrow.Author.Tests.{eq-eqb, ne_eqb, lt-ltb, le-ltb}
-use Rattle.log.specs.Reading.{afterHeader, kind_of, bitCount}
-use Rattle.log.specs.UnpackLaws.{size-most}
+use Rattle.log.specs.Reading.{after_header, kind_of, bit_count}
+use Rattle.log.specs.UnpackLaws.{size_most}
 use Rattle.log.proofs.reading.after_header.Statement.{statement}
 use Rattle.log.proofs.reading.after_header.Tie as tie
 
@@ -22,25 +22,25 @@ rows-size-requires c κs = search rules
 add-if1 : tie.Need-overflow-add-if1
 add-if1 c =
     let a = c.before.before.args in
-    omega (arith, c.rows-size.ensures, size-most (kind_of a.a) (bitCount a.a a.b))
+    omega (arith, c.rows-size.ensures, size_most (kind_of a.a) (bit_count a.a a.b))
 
 returns : tie.Need-returns
-unfolding afterHeader
+unfolding after_header
 returns c = rw (lt-ltb _ _ (rw c.before.rows-size.ensures at c.if1.true))
 
 returns-2 : tie.Need-returns-2
-unfolding afterHeader
+unfolding after_header
 returns-2 c = rw (le-ltb _ _ (rw c.before.before.rows-size.ensures at c.before.if1.false), eq-eqb _ _ c.if2.true)
 
 record-of-requires : tie.Need-record-of-requires
 record-of-requires c κs = search rules
 
 returns-3 : tie.Need-returns-3
-unfolding afterHeader
+unfolding after_header
 returns-3 c = rw (le-ltb _ _ (rw c.before.before.before.rows-size.ensures at c.before.before.if1.false), ne_eqb _ _ c.before.if2.false, c.record_of.ensures)
 
-pub after-header-spec : {M : Type 1} → statement M
-after-header-spec =
+pub after_header_spec : {M : Type 1} → statement M
+after_header_spec =
     tie.close
     (tie.spec
     cast-n

@@ -1,7 +1,7 @@
 -- `log::reading::collided_of` meets its contract. Assumes nothing.
 use borrow.Author.Rules.{rules}
 use mathlib.Core.Path.{sym, ◌∙◌}
-use Rattle.log.specs.Reading.{collidedOf}
+use Rattle.log.specs.Reading.{collided_of}
 use Rattle.log.proofs.reading.collided_of.Statement.{statement}
 use Rattle.log.proofs.reading.collided_of.Tie as tie
 
@@ -21,14 +21,14 @@ add-next : tie.Need-overflow-add-next
 add-next c = search rules
 
 returns : tie.Need-returns
-unfolding collidedOf
+unfolding collided_of
 returns c = rw (sym c.before.is-good-marks.ensures ∙ c.if1.true)
 
 returns-2 : tie.Need-returns-2
-unfolding collidedOf
+unfolding collided_of
 returns-2 c = rw (sym c.before.is-good-marks.ensures ∙ c.if1.false)
 
-pub collided-of-spec : {M : Type 1} → statement M
-collided-of-spec =
+pub collided_of_spec : {M : Type 1} → statement M
+collided_of_spec =
     tie.close
     (tie.spec add-size add-marks is-good-marks-requires mul_next add-next returns returns-2)

@@ -4,14 +4,14 @@ use mathlib.Core.Path.{◌≡◌, refl, sym, ◌∙◌}
 use borrow.Author.Rules.{rules}
 use native.Mathlib.Omega.{arith}
 use lib.ListN.{take, drop}
-use Rattle.log.specs.Reading.{bitsFrom, row_at, apart}
-use Rattle.log.specs.UnpackLaws.{apart-turn, apart-done}
+use Rattle.log.specs.Reading.{bits_from, row_at, apart}
+use Rattle.log.specs.UnpackLaws.{apart_turn, apart_done}
 use Rattle.log.proofs.reading.is_apart.Statement.{statement}
 use Rattle.log.proofs.reading.is_apart.Tie as tie
 
 abbrev invariant-loop : tie.invariant-loop
 invariant-loop log start marks n i₀ i =
-    (i ≤ n) × (apart (take (n - i) (drop i (bitsFrom log start))) (take (n - i) (drop i (bitsFrom log marks))) ≡ apart (row_at log start n) (row_at log marks n))
+    (i ≤ n) × (apart (take (n - i) (drop i (bits_from log start))) (take (n - i) (drop i (bits_from log marks))) ≡ apart (row_at log start n) (row_at log marks n))
 
 abbrev decreases-loop : tie.decreases-loop
 decreases-loop log start marks n i₀ i = n - i
@@ -37,7 +37,7 @@ returns c =
     let a = c.before.before.before.before.before.before.before.args in
     let e = rw (c.before.before.before.bit_at.ensures, c.before.before.bit-at2.ensures) at c.before.is-clash.ensures in
     let t =
-    apart-turn (bitsFrom a.log.now a.start) (bitsFrom a.log.now a.marks) l.i a.n c.before.is-clash.result
+    apart_turn (bits_from a.log.now a.start) (bits_from a.log.now a.marks) l.i a.n c.before.is-clash.result
     (omega arith) (omega arith) (omega arith) e in
     sym (rw c.if1.true at t) ∙ l.invariant.1
 
@@ -53,7 +53,7 @@ loop-again c =
     let a = c.before.before.before.before.before.before.before.args in
     let e = rw (c.before.before.before.bit_at.ensures, c.before.before.bit-at2.ensures) at c.before.is-clash.ensures in
     let t =
-    apart-turn (bitsFrom a.log.now a.start) (bitsFrom a.log.now a.marks) l.i a.n c.before.is-clash.result
+    apart_turn (bits_from a.log.now a.start) (bits_from a.log.now a.marks) l.i a.n c.before.is-clash.result
     (omega arith) (omega arith) (omega arith) e in
     (omega arith, sym (rw c.if1.false at t) ∙ l.invariant.1)
 
@@ -61,10 +61,10 @@ returns-2 : tie.Need-returns-2 invariant-loop decreases-loop
 returns-2 c =
     let l = c.before.loop in
     let a = c.before.before.before.args in
-    sym (apart-done (bitsFrom a.log.now a.start) (bitsFrom a.log.now a.marks) l.i a.n (omega arith)) ∙ l.invariant.1
+    sym (apart_done (bits_from a.log.now a.start) (bits_from a.log.now a.marks) l.i a.n (omega arith)) ∙ l.invariant.1
 
-pub is-apart-spec : {M : Type 1} → statement M
-is-apart-spec =
+pub is_apart_spec : {M : Type 1} → statement M
+is_apart_spec =
     tie.close
     (tie.spec
     invariant-loop

@@ -2,30 +2,30 @@
 use borrow.Author.Rules.{rules}
 use mathlib.Core.Path.{sym, ◌∙◌}
 use native.Mathlib.Omega.{arith}
-use Rattle.log.specs.Reading.{goodMarks}
-use Rattle.log.specs.Calls.{rowSize}
-use Rattle.log.specs.UnpackLaws.{bits-enough, row-all}
-use Rattle.log.specs.Reading.{bitsFrom}
+use Rattle.log.specs.Reading.{good_marks}
+use Rattle.log.specs.Calls.{row_size}
+use Rattle.log.specs.UnpackLaws.{bits_enough, row_all}
+use Rattle.log.specs.Reading.{bits_from}
 use Rattle.log.proofs.reading.is_good_marks.Statement.{statement}
 use Rattle.log.proofs.reading.is_good_marks.Tie as tie
 
 is-zero-requires : tie.Need-is-zero-requires
 is-zero-requires c κs =
     let a = c.before.args in
-    (omega arith, omega (arith, bits-enough a.log.now a.marks (rowSize a.n) (omega arith)))
+    (omega arith, omega (arith, bits_enough a.log.now a.marks (row_size a.n) (omega arith)))
 
 returns : tie.Need-returns
-unfolding goodMarks
+unfolding good_marks
 returns c =
     let a = c.before.before.before.args in
-    let e = sym (row-all (bitsFrom a.log.now a.marks) a.n c.before.is_zero.ensures) in
+    let e = sym (row_all (bits_from a.log.now a.marks) a.n c.before.is_zero.ensures) in
     rw (e ∙ c.if1.true)
 
 is-apart-requires : tie.Need-is-apart-requires
 is-apart-requires c κs =
     let a = c.before.before.before.args in (
-      omega (arith, bits-enough a.log.now a.start (rowSize a.n) (omega arith)),
-      omega (arith, bits-enough a.log.now a.marks (rowSize a.n) (omega arith)),
+      omega (arith, bits_enough a.log.now a.start (row_size a.n) (omega arith)),
+      omega (arith, bits_enough a.log.now a.marks (row_size a.n) (omega arith)),
     )
 
 add-is-zero : tie.Need-overflow-add-is-zero
@@ -37,24 +37,24 @@ mul-is-zero c = search rules
 is-zero-requires-2 : tie.Need-is-zero-requires-2
 is-zero-requires-2 c κs =
     let a = c.before.before.before.before.before.args in
-    (omega arith, bits-enough a.log.now a.marks (rowSize a.n) (omega arith))
+    (omega arith, bits_enough a.log.now a.marks (row_size a.n) (omega arith))
 
 returns-2 : tie.Need-returns-2
-unfolding goodMarks
+unfolding good_marks
 returns-2 c =
     let a = c.before.before.before.before.before.before.args in
-    let e = sym (row-all (bitsFrom a.log.now a.marks) a.n c.before.before.before.before.is_zero.ensures) in
+    let e = sym (row_all (bits_from a.log.now a.marks) a.n c.before.before.before.before.is_zero.ensures) in
     rw (e ∙ c.before.before.before.if1.false, ← c.before.before.is-apart.ensures, c.before.if2.true, c.is-zero2.ensures)
 
 returns-3 : tie.Need-returns-3
-unfolding goodMarks
+unfolding good_marks
 returns-3 c =
     let a = c.before.before.before.before.before.args in
-    let e = sym (row-all (bitsFrom a.log.now a.marks) a.n c.before.before.before.is_zero.ensures) in
+    let e = sym (row_all (bits_from a.log.now a.marks) a.n c.before.before.before.is_zero.ensures) in
     rw (e ∙ c.before.before.if1.false, ← c.before.is-apart.ensures, c.if2.false)
 
-pub is-good-marks-spec : {M : Type 1} → statement M
-is-good-marks-spec =
+pub is_good_marks_spec : {M : Type 1} → statement M
+is_good_marks_spec =
     tie.close
     (tie.spec
     is-zero-requires

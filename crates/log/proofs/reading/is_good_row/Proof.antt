@@ -2,14 +2,14 @@
 use borrow.Author.Rules.{rules}
 use native.Mathlib.Omega.{arith}
 use borrow.Author.Tests.{eq-eqb, ne_eqb}
-use Rattle.log.specs.Reading.{goodRow}
-use Rattle.log.specs.Calls.{rowSize}
-use Rattle.log.specs.UnpackLaws.{bits-enough}
+use Rattle.log.specs.Reading.{good_row}
+use Rattle.log.specs.Calls.{row_size}
+use Rattle.log.specs.UnpackLaws.{bits_enough}
 use Rattle.log.proofs.reading.is_good_row.Statement.{statement}
 use Rattle.log.proofs.reading.is_good_row.Tie as tie
 
 returns : tie.Need-returns
-unfolding goodRow
+unfolding good_row
 returns c = simp (eq-eqb _ _ c.if1.true)
 
 add-is-zero : tie.Need-overflow-add-is-zero
@@ -21,11 +21,11 @@ mul-is-zero c = search rules
 is-zero-requires : tie.Need-is-zero-requires
 is-zero-requires c κs =
     let a = c.before.before.args in
-    (omega arith, bits-enough a.log.now a.start (rowSize a.n) (omega arith))
+    (omega arith, bits_enough a.log.now a.start (row_size a.n) (omega arith))
 
 returns-2 : tie.Need-returns-2
-unfolding goodRow
+unfolding good_row
 returns-2 c = rw (ne_eqb _ _ c.before.if1.false, c.is_zero.ensures)
 
-pub is-good-row-spec : {M : Type 1} → statement M
-is-good-row-spec = tie.close (tie.spec returns add-is-zero mul-is-zero is-zero-requires returns-2)
+pub is_good_row_spec : {M : Type 1} → statement M
+is_good_row_spec = tie.close (tie.spec returns add-is-zero mul-is-zero is-zero-requires returns-2)

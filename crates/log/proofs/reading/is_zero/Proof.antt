@@ -4,14 +4,14 @@ use mathlib.Core.Path.{◌≡◌, refl, sym, ◌∙◌}
 use borrow.Author.Rules.{rules}
 use native.Mathlib.Omega.{arith}
 use lib.ListN.{take, drop}
-use Rattle.log.specs.Reading.{bitsFrom, zeros}
-use Rattle.log.specs.UnpackLaws.{zeros-found, zeros-next, zeros-done}
+use Rattle.log.specs.Reading.{bits_from, zeros}
+use Rattle.log.specs.UnpackLaws.{zeros_found, zeros_next, zeros_done}
 use Rattle.log.proofs.reading.is_zero.Statement.{statement}
 use Rattle.log.proofs.reading.is_zero.Tie as tie
 
 abbrev invariant-loop : tie.invariant-loop
 invariant-loop log start from to i₀ i =
-    (from ≤ i) × (i ≤ to) × (zeros (take (to - i) (drop i (bitsFrom log start))) ≡ zeros (take (to - from) (drop from (bitsFrom log start))))
+    (from ≤ i) × (i ≤ to) × (zeros (take (to - i) (drop i (bits_from log start))) ≡ zeros (take (to - from) (drop from (bits_from log start))))
 
 abbrev decreases-loop : tie.decreases-loop
 decreases-loop log start from to i₀ i = to - i
@@ -26,7 +26,7 @@ returns : tie.Need-returns invariant-loop decreases-loop
 returns c =
     let l = c.before.before.before.loop in
     let a = c.before.before.before.before.before.args in
-    sym (zeros-found (bitsFrom a.log.now a.start) l.i a.to (omega arith) (omega arith) (λ e. c.if1.true (c.before.bit_at.ensures ∙ e))) ∙ l.invariant.2
+    sym (zeros_found (bits_from a.log.now a.start) l.i a.to (omega arith) (omega arith) (λ e. c.if1.true (c.before.bit_at.ensures ∙ e))) ∙ l.invariant.2
 
 add-i : tie.Need-overflow-add-i invariant-loop decreases-loop
 add-i c = omega arith
@@ -40,17 +40,17 @@ loop-again c =
     let a = c.before.before.before.before.before.args in (
       omega arith,
       omega arith,
-      zeros-next (bitsFrom a.log.now a.start) l.i a.to (omega arith) (omega arith) (sym c.before.bit_at.ensures ∙ c.if1.false) ∙ l.invariant.2,
+      zeros_next (bits_from a.log.now a.start) l.i a.to (omega arith) (omega arith) (sym c.before.bit_at.ensures ∙ c.if1.false) ∙ l.invariant.2,
     )
 
 returns-2 : tie.Need-returns-2 invariant-loop decreases-loop
 returns-2 c =
     let l = c.before.loop in
     let a = c.before.before.before.args in
-    sym (zeros-done (bitsFrom a.log.now a.start) l.i a.to (omega arith)) ∙ l.invariant.2
+    sym (zeros_done (bits_from a.log.now a.start) l.i a.to (omega arith)) ∙ l.invariant.2
 
-pub is-zero-spec : {M : Type 1} → statement M
-is-zero-spec =
+pub is_zero_spec : {M : Type 1} → statement M
+is_zero_spec =
     tie.close
     (tie.spec
     invariant-loop

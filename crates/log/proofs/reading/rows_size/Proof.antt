@@ -16,5 +16,5 @@ returns c = simp (eq-eqb _ _ c.if1.true)
 returns-2 : tie.Need-returns-2
 returns-2 c = simp (ne_eqb _ _ c.if1.false)
 
-pub rows-size-spec : {M : Type 1} → statement M
-rows-size-spec = tie.close (tie.spec add-size mul-result returns returns-2)
+pub rows_size_spec : {M : Type 1} → statement M
+rows_size_spec = tie.close (tie.spec add-size mul-result returns returns-2)

@@ -8,5 +8,5 @@ returns : tie.Need-returns
 unfolding top_bits
 returns c = refl
 
-pub top-bits-spec : {M : Type 1} → statement M
-top-bits-spec = tie.close (tie.spec returns)
+pub top_bits_spec : {M : Type 1} → statement M
+top_bits_spec = tie.close (tie.spec returns)

@@ -4,7 +4,7 @@ use mathlib.Core.Path.{sym, ◌∙◌}
 use native.Mathlib.Omega.{arith}
 use lib.ListN.{get_or-eq_default}
 use Rattle.log.specs.Calls.{shown}
-use Rattle.log.specs.PackLaws.{shown-at, length-shown}
+use Rattle.log.specs.PackLaws.{shown_at, length_shown}
 use Rattle.log.proofs.within.bit.Statement.{statement}
 use Rattle.log.proofs.within.bit.Tie as tie
 
@@ -17,12 +17,12 @@ shown-bit-requires c κs = search rules
 returns : tie.Need-returns
 returns c =
     let a = c.before.before.before.before.args in
-    c.shown-bit.ensures ∙ sym (shown-at a.mark a.row.now a.i)
+    c.shown-bit.ensures ∙ sym (shown_at a.mark a.row.now a.i)
 
 returns-2 : tie.Need-returns-2
 returns-2 c =
     let a = c.before.before.args in
-    sym (get_or-eq_default (shown a.mark a.row.now) 0 (omega (arith, length-shown a.mark a.row.now)))
+    sym (get_or-eq_default (shown a.mark a.row.now) 0 (omega (arith, length_shown a.mark a.row.now)))
 
-pub bit-spec : {M : Type 1} → statement M
-bit-spec = tie.close (tie.spec shared-slice-read-shown-bit shown-bit-requires returns returns-2)
+pub bit_spec : {M : Type 1} → statement M
+bit_spec = tie.close (tie.spec shared-slice-read-shown-bit shown-bit-requires returns returns-2)

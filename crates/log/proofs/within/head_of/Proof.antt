@@ -1,7 +1,7 @@
 -- `log::within::head_of` meets its contract. Assumes nothing.
 use borrow.Author.Rules.{rules}
 use mathlib.Core.Path.{refl}
-use Rattle.log.specs.Log.{header, tickBytes}
+use Rattle.log.specs.Log.{header, tick_bytes}
 use Rattle.log.proofs.within.head_of.Statement.{statement}
 use Rattle.log.proofs.within.head_of.Tie as tie
 
@@ -30,9 +30,9 @@ cast-t20 : tie.Need-overflow-cast-t20
 cast-t20 c = search rules
 
 returns : tie.Need-returns
-unfolding header tickBytes
+unfolding header tick_bytes
 returns c = refl
 
-pub head-of-spec : {M : Type 1} → statement M
-head-of-spec =
+pub head_of_spec : {M : Type 1} → statement M
+head_of_spec =
     tie.close (tie.spec mul-t4 cast-t6 add-t7 cast-t9 cast-t12 cast-t15 cast-t18 cast-t20 returns)

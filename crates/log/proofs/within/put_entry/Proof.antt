@@ -18,6 +18,6 @@ same_length c = search rules
 returns : tie.Need-returns
 returns c = rw (c.before.before.put.ensures, c.before.before.before.before.before.entry.ensures)
 
-pub put-entry-spec : {M : Type 1} → statement M
-put-entry-spec =
+pub put_entry_spec : {M : Type 1} → statement M
+put_entry_spec =
     tie.close (tie.spec entry-requires slice-aggregate-put put-requires same_length returns)

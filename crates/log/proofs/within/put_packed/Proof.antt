@@ -4,25 +4,25 @@ use mathlib.Core.Path.{◌≡◌, refl, sym}
 use native.Mathlib.Omega.{arith}
 use lib.ListN.{length, length-set}
 use Rattle.rows.specs.Rows.{overlay}
-use Rattle.rows.specs.RowLaws.{overlay-nil}
+use Rattle.rows.specs.RowLaws.{overlay_nil}
 use Rattle.log.specs.Log.{packed}
-use Rattle.log.specs.Calls.{shown, rowSize}
-use Rattle.log.specs.PackLaws.{length-shown, packed-turn}
+use Rattle.log.specs.Calls.{shown, row_size}
+use Rattle.log.specs.PackLaws.{length_shown, packed_turn}
 use Rattle.log.proofs.within.put_packed.Statement.{statement}
 use Rattle.log.proofs.within.put_packed.Tie as tie
 
 abbrev invariant-loop : tie.invariant-loop
-invariant-loop out₀ at row mark n k₀ out k = (k ≤ rowSize (length row)) × (length out ≡ length out₀) × (out ≡ overlay out₀ at (packed k (shown mark row)))
+invariant-loop out₀ at row mark n k₀ out k = (k ≤ row_size (length row)) × (length out ≡ length out₀) × (out ≡ overlay out₀ at (packed k (shown mark row)))
 
 abbrev decreases-loop : tie.decreases-loop
-decreases-loop out₀ at row mark n k₀ out k = rowSize (length row) - k
+decreases-loop out₀ at row mark n k₀ out k = row_size (length row) - k
 
 add-n : tie.Need-overflow-add-n invariant-loop decreases-loop
 add-n c = omega arith
 
 loop-holds : tie.Need-loop-init invariant-loop decreases-loop
 unfolding packed
-loop-holds c = (omega arith, refl, sym (overlay-nil _ _))
+loop-holds c = (omega arith, refl, sym (overlay_nil _ _))
 
 mul-packed-byte : tie.Need-overflow-mul-packed-byte invariant-loop decreases-loop
 mul-packed-byte c = omega arith
@@ -48,7 +48,7 @@ loop-again c =
     let a = c.before.before.before.before.before.args in (
       omega arith,
       simp length-set (omega arith),
-      rw (c.packed_byte.ensures, l.invariant.2) (packed-turn a.out.now a.at l.k (shown a.mark a.row.now) (omega arith)),
+      rw (c.packed_byte.ensures, l.invariant.2) (packed_turn a.out.now a.at l.k (shown a.mark a.row.now) (omega arith)),
     )
 
 same_length : tie.Need-same-length invariant-loop decreases-loop
@@ -58,11 +58,11 @@ returns : tie.Need-returns invariant-loop decreases-loop
 returns c =
     let l = c.before.loop in
     let a = c.before.before.before.before.args in
-    let e : l.k ≡ rowSize (length (shown a.mark a.row.now)) = rw (length-shown a.mark a.row.now) (omega arith) in
+    let e : l.k ≡ row_size (length (shown a.mark a.row.now)) = rw (length_shown a.mark a.row.now) (omega arith) in
     rw e at l.invariant.2
 
-pub put-packed-spec : {M : Type 1} → statement M
-put-packed-spec =
+pub put_packed_spec : {M : Type 1} → statement M
+put_packed_spec =
     tie.close
     (tie.spec
     invariant-loop

@@ -4,7 +4,7 @@ use mathlib.Core.Path.{refl}
 use native.Mathlib.Omega.{arith}
 use lib.ListN.{length}
 use Rattle.log.specs.Log.{pack, plain}
-use Rattle.log.specs.RecordLaws.{length-pack, row_written}
+use Rattle.log.specs.RecordLaws.{length_pack, row_written}
 use mathlib.Core.Bool.{false}
 use Rattle.log.proofs.within.put_row.Statement.{statement}
 use Rattle.log.proofs.within.put_row.Tie as tie
@@ -39,11 +39,11 @@ returns c =
     let r = a.row.now in (
       refl,
       rw (c.before.before.put-packed.ensures, c.before.before.before.before.before.before.put.ensures, c.before.before.before.before.before.before.before.before.before.head_of.ensures)
-          (row_written a.out.now a.at a.kind (length r) a.tick (pack (plain r)) (omega (arith, length-pack false r))),
+          (row_written a.out.now a.at a.kind (length r) a.tick (pack (plain r)) (omega (arith, length_pack false r))),
     )
 
-pub put-row-spec : {M : Type 1} → statement M
-put-row-spec =
+pub put_row_spec : {M : Type 1} → statement M
+put_row_spec =
     tie.close
     (tie.spec
     head-of-requires

@@ -15,5 +15,5 @@ returns-3 c = rw (c.before.if1.false, lt-ltb _ _ c.if3.true)
 returns-4 : tie.Need-returns-4
 returns-4 c = rw (c.before.if1.false, le-ltb _ _ c.if3.false)
 
-pub shown-bit-spec : {M : Type 1} → statement M
-shown-bit-spec = tie.close (tie.spec returns returns-2 returns-3 returns-4)
+pub shown_bit_spec : {M : Type 1} → statement M
+shown_bit_spec = tie.close (tie.spec returns returns-2 returns-3 returns-4)

@@ -10,5 +10,5 @@ returns c = rw (lt-ltb c.before.args.m 40 (omega arith))
 returns-2 : tie.Need-returns-2
 returns-2 c = rw (le-ltb c.before.args.m 40 (omega arith))
 
-pub first-phase-spec : {M : Type 1} → statement M
-first-phase-spec = tie.close (tie.spec returns returns-2)
+pub first_phase_spec : {M : Type 1} → statement M
+first_phase_spec = tie.close (tie.spec returns returns-2)

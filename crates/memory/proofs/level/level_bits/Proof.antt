@@ -5,10 +5,10 @@ use native.Mathlib.Omega.{arith}
 use borrow.Author.Rules.{rules}
 use lib.ListN.{length, take, drop, replicate, length-set}
 use Rattle.rows.specs.Rows.{overlay}
-use Rattle.rows.specs.RowLaws.{overlay-nil}
+use Rattle.rows.specs.RowLaws.{overlay_nil}
 use Rattle.memory.specs.Memory.{bits}
-use Rattle.memory.specs.Stored.{pathOf}
-use Rattle.memory.specs.EnterLaws.{part-turn, part-done}
+use Rattle.memory.specs.Stored.{path_of}
+use Rattle.memory.specs.EnterLaws.{part_turn, part_done}
 use Rattle.memory.proofs.level.level_bits.Statement.{statement}
 use Rattle.memory.proofs.level.level_bits.Tie as tie
 
@@ -22,7 +22,7 @@ level-known-requires : tie.Need-level-known-requires invariant-loop decreases-lo
 level-known-requires c κs = search rules
 
 loop-holds : tie.Need-loop-init invariant-loop decreases-loop
-loop-holds c = (omega arith, refl, sym (overlay-nil (replicate 40 0) 0))
+loop-holds c = (omega arith, refl, sym (overlay_nil (replicate 40 0) 0))
 
 add-sent-bit : tie.Need-overflow-add-sent-bit invariant-loop decreases-loop
 add-sent-bit c = omega arith
@@ -48,19 +48,19 @@ loop-again c =
     let k = c.before.before.before.level-known in
     let a = c.before.before.before.before.before.args in
     let n : length a.p.row ≡ 120 = search rules in
-    (omega arith, simp length-set (omega arith), rw (l.invariant.2, c.sent-bit.ensures) (part-turn a.p.row a.p.known a.at k.result k.ensures n (search rules) l.i (omega arith)))
+    (omega arith, simp length-set (omega arith), rw (l.invariant.2, c.sent-bit.ensures) (part_turn a.p.row a.p.known a.at k.result k.ensures n (search rules) l.i (omega arith)))
 
 returns : tie.Need-returns invariant-loop decreases-loop
-unfolding pathOf
+unfolding path_of
 returns c =
     let l = c.before.loop in
     let k = c.before.before.level-known in
     let a = c.before.before.before.before.args in
     let n : length a.p.row ≡ 120 = search rules in
-    (part-done a.p.row a.p.known a.at k.result k.ensures n (search rules) l.e l.i (omega arith) l.invariant.2, n)
+    (part_done a.p.row a.p.known a.at k.result k.ensures n (search rules) l.e l.i (omega arith) l.invariant.2, n)
 
-pub level-bits-spec : {M : Type 1} → statement M
-level-bits-spec =
+pub level_bits_spec : {M : Type 1} → statement M
+level_bits_spec =
     tie.close
     (tie.spec
     invariant-loop

@@ -10,5 +10,5 @@ returns c = rw (lt-ltb 1 c.before.args.x (omega arith))
 returns-2 : tie.Need-returns-2
 returns-2 c = rw (le-ltb 1 c.before.args.x (omega arith))
 
-pub sent-bit-spec : {M : Type 1} → statement M
-sent-bit-spec = tie.close (tie.spec returns returns-2)
+pub sent_bit_spec : {M : Type 1} → statement M
+sent_bit_spec = tie.close (tie.spec returns returns-2)

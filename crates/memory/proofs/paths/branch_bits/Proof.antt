@@ -5,7 +5,7 @@ use native.Mathlib.Omega.{arith}
 use borrow.Author.Rules.{rules}
 use lib.ListN.{length, take}
 use Rattle.memory.specs.Memory.{branch}
-use Rattle.memory.specs.BranchLaws.{branched-here, branched-less, branched-none}
+use Rattle.memory.specs.BranchLaws.{branched_here, branched_less, branched_none}
 use Rattle.memory.proofs.paths.branch_bits.Statement.{statement}
 use Rattle.memory.proofs.paths.branch_bits.Tie as tie
 
@@ -29,7 +29,7 @@ returns c =
     let l = c.before.before.loop in
     let a = c.before.before.before.args in
     let n : length a.t1 ≡ 120 = search rules in
-    branched-here a.t1 l.i (omega arith) (omega arith) a.n (omega arith) l.invariant.1 (omega arith)
+    branched_here a.t1 l.i (omega arith) (omega arith) a.n (omega arith) l.invariant.1 (omega arith)
 
 sub-i : tie.Need-overflow-sub-i invariant-loop decreases-loop
 sub-i c = omega arith
@@ -42,16 +42,16 @@ loop-again c =
     let l = c.before.before.loop in
     let a = c.before.before.before.args in
     let n : length a.t1 ≡ 120 = search rules in
-    (omega arith, sym (branched-less a.t1 l.i (omega arith) (omega arith) (omega arith)) ∙ l.invariant.1)
+    (omega arith, sym (branched_less a.t1 l.i (omega arith) (omega arith) (omega arith)) ∙ l.invariant.1)
 
 returns-2 : tie.Need-returns-2 invariant-loop decreases-loop
 returns-2 c =
     let l = c.before.loop in
     let a = c.before.before.args in
-    branched-none a.t1 a.n l.i (omega arith) l.invariant.1
+    branched_none a.t1 a.n l.i (omega arith) l.invariant.1
 
-pub branch-bits-spec : {M : Type 1} → statement M
-branch-bits-spec =
+pub branch_bits_spec : {M : Type 1} → statement M
+branch_bits_spec =
     tie.close
     (tie.spec
     invariant-loop

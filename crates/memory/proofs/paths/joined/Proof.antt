@@ -2,7 +2,7 @@
 use mathlib.Core.Path.{◌≡◌}
 use native.Mathlib.Omega.{arith}
 use lib.ListN.{length, length-take}
-use Rattle.memory.specs.LearnLaws.{made-joined}
+use Rattle.memory.specs.LearnLaws.{made_joined}
 use borrow.Author.Rules.{rules}
 use Rattle.memory.proofs.paths.joined.Statement.{statement}
 use Rattle.memory.proofs.paths.joined.Tie as tie
@@ -36,10 +36,10 @@ returns c =
     let m = c.before.before.before.before.before.before.before in
     let a = m.before.before.before.args in
     let n : length a.p.row ≡ 120 = search rules in
-    (made-joined a.p a.n m.at_most.result a.s.now _ _ n (search rules) m.at_most.ensures (omega arith) c.before.before.before.before.put.ensures c.before.put2.ensures, omega arith)
+    (made_joined a.p a.n m.at_most.result a.s.now _ _ n (search rules) m.at_most.ensures (omega arith) c.before.before.before.before.put.ensures c.before.put2.ensures, omega arith)
 
-pub joined-spec : {M : Type 1} → statement M
-joined-spec =
+pub joined_spec : {M : Type 1} → statement M
+joined_spec =
     tie.close
     (tie.spec
     at-most-requires

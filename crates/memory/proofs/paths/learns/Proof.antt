@@ -2,8 +2,8 @@
 use Prim.Native.Nat.{◌+◌, ◌*◌}
 use native.Mathlib.Omega.{arith}
 use lib.ListN.{length-take, length-drop}
-use Rattle.reader.specs.StepLaws.{place-most}
-use Rattle.memory.specs.LearnLaws.{made-learns, made-learns-none}
+use Rattle.reader.specs.StepLaws.{place_most}
+use Rattle.memory.specs.LearnLaws.{made_learns, made_learns_none}
 use borrow.Author.Rules.{rules}
 use Rattle.memory.proofs.paths.learns.Statement.{statement}
 use Rattle.memory.proofs.paths.learns.Tie as tie
@@ -15,10 +15,10 @@ place-requires : tie.Need-place-requires
 place-requires c κs = search rules
 
 mul-n : tie.Need-overflow-mul-n
-mul-n c = omega (arith, c.place.ensures, place-most c.before.before.args.l)
+mul-n c = omega (arith, c.place.ensures, place_most c.before.before.args.l)
 
 add-n : tie.Need-overflow-add-n
-add-n c = omega (arith, c.place.ensures, place-most c.before.before.args.l)
+add-n c = omega (arith, c.place.ensures, place_most c.before.before.args.l)
 
 cast-at-most : tie.Need-overflow-cast-at-most
 cast-at-most c = search rules
@@ -44,7 +44,7 @@ joined-requires c κs =
     let t = m.before in
     let z = t.before.before in
     let a = z.before.before.args in
-    (search rules, rw (length-take, length-drop) (omega (arith, m.marked-bits.ensures.long, z.place.ensures, place-most a.l, t.at_most.ensures)))
+    (search rules, rw (length-take, length-drop) (omega (arith, m.marked-bits.ensures.long, z.place.ensures, place_most a.l, t.at_most.ensures)))
 
 returns : tie.Need-returns
 returns c =
@@ -52,7 +52,7 @@ returns c =
     let t = m.before in
     let z = t.before.before in
     let a = z.before.before.args in (
-      made-learns a.l a.r a.x a.p _ (40 * z.place.result + a.r.known) t.at_most.result m.marked-bits.result (omega (arith, z.place.ensures)) t.at_most.ensures
+      made_learns a.l a.r a.x a.p _ (40 * z.place.result + a.r.known) t.at_most.result m.marked-bits.result (omega (arith, z.place.ensures)) t.at_most.ensures
           m.marked-bits.ensures (omega arith) c.joined.ensures.0,
       c.joined.ensures.1,
     )
@@ -72,13 +72,13 @@ returns-2 c =
     let t = m.before in
     let z = t.before.before in
     let a = z.before.before.args in (
-      made-learns-none a.l a.r a.x a.p _ (40 * z.place.result + a.r.known) t.at_most.result m.marked-bits.result (omega (arith, z.place.ensures)) t.at_most.ensures
+      made_learns_none a.l a.r a.x a.p _ (40 * z.place.result + a.r.known) t.at_most.result m.marked-bits.result (omega (arith, z.place.ensures)) t.at_most.ensures
           m.marked-bits.ensures (omega arith) c.joined2.ensures.0,
       c.joined2.ensures.1,
     )
 
-pub learns-spec : {M : Type 1} → statement M
-learns-spec =
+pub learns_spec : {M : Type 1} → statement M
+learns_spec =
     tie.close
     (tie.spec
     cast-k

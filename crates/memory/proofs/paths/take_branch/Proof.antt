@@ -3,7 +3,7 @@ use mathlib.Core.Path.{◌≡◌}
 use native.Mathlib.Omega.{arith}
 use lib.ListN.{length, length-take}
 use borrow.Author.Rules.{rules}
-use Rattle.memory.specs.BranchLaws.{made-branch, made_none}
+use Rattle.memory.specs.BranchLaws.{made_branch, made_none}
 use Rattle.memory.proofs.paths.take_branch.Statement.{statement}
 use Rattle.memory.proofs.paths.take_branch.Tie as tie
 
@@ -28,13 +28,13 @@ put-requires c κs = let n : length c.before.before.before.before.before.args.p.
 returns : tie.Need-returns
 returns c =
     let b = c.before.before.before.before.before.branch-bits in
-    (made-branch c.before.before.before.before.before.before.before.args.p b.result b.ensures _ (omega arith) (omega (arith, b.ensures.within)) c.before.put.ensures, omega (arith, b.ensures.within))
+    (made_branch c.before.before.before.before.before.before.before.args.p b.result b.ensures _ (omega arith) (omega (arith, b.ensures.within)) c.before.put.ensures, omega (arith, b.ensures.within))
 
 returns-2 : tie.Need-returns-2
 returns-2 c = (made_none c.before.before.before.args.p c.before.branch-bits.result c.before.branch-bits.ensures (omega arith), omega arith)
 
-pub take-branch-spec : {M : Type 1} → statement M
-take-branch-spec =
+pub take_branch_spec : {M : Type 1} → statement M
+take_branch_spec =
     tie.close
     (tie.spec
     branch-bits-requires

@@ -29,8 +29,8 @@ returns c =
     let n : length a.p.row ≡ 120 = search rules in
     (made_tidy a.p m.result _ n m.ensures c.before.put.ensures, omega (arith, m.ensures))
 
-pub tidy-spec : {M : Type 1} → statement M
-tidy-spec =
+pub tidy_spec : {M : Type 1} → statement M
+tidy_spec =
     tie.close
     (tie.spec
     at-most-requires

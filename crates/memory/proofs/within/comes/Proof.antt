@@ -1,7 +1,7 @@
 -- `memory::within::comes` meets its contract. Assumes nothing.
 use borrow.Author.Rules.{rules}
 use Rattle.memory.specs.Memory.{comes}
-use Rattle.memory.specs.StoredLaws.{made-memory}
+use Rattle.memory.specs.StoredLaws.{made_memory}
 use Rattle.memory.proofs.within.comes.Statement.{statement}
 use Rattle.memory.proofs.within.comes.Tie as tie
 
@@ -13,7 +13,7 @@ keeps-requires c κs = search rules
 
 returns : tie.Need-returns
 unfolding comes
-returns c = rw c.before.enters-by.ensures (made-memory _ c.keeps.result _ c.keeps.ensures)
+returns c = rw c.before.enters-by.ensures (made_memory _ c.keeps.result _ c.keeps.ensures)
 
-pub comes-spec : {M : Type 1} → statement M
-comes-spec = tie.close (tie.spec enters-by-requires keeps-requires returns)
+pub comes_spec : {M : Type 1} → statement M
+comes_spec = tie.close (tie.spec enters-by-requires keeps-requires returns)

@@ -2,8 +2,8 @@ use mathlib.Core.Path.{ap, ◌∙◌}
 use mathlib.Core.List.{[]}
 use Rattle.reader.specs.Reader.{sends}
 use Rattle.memory.specs.Memory.{recall}
-use Rattle.memory.specs.Stored.{memoryOf}
-use Rattle.memory.specs.StoredLaws.{made-memory}
+use Rattle.memory.specs.Stored.{memory_of}
+use Rattle.memory.specs.StoredLaws.{made_memory}
 use borrow.Author.Rules.{rules}
 use Rattle.memory.proofs.within.fresh.Statement.{statement}
 use Rattle.memory.proofs.within.fresh.Tie as tie
@@ -21,7 +21,7 @@ returns : tie.Need-returns
 returns c =
     let e = c.empty in
     let t = c.before.sends in
-    made-memory t.result e.result [] e.ensures ∙ ap (λ u. memoryOf (recall u [])) (t.ensures ∙ ap sends c.before.before.blank.ensures)
+    made_memory t.result e.result [] e.ensures ∙ ap (λ u. memory_of (recall u [])) (t.ensures ∙ ap sends c.before.before.blank.ensures)
 
-pub fresh-spec : {M : Type 1} → statement M
-fresh-spec = tie.close (tie.spec blank-requires sends-requires empty-requires returns)
+pub fresh_spec : {M : Type 1} → statement M
+fresh_spec = tie.close (tie.spec blank-requires sends-requires empty-requires returns)

@@ -1,9 +1,9 @@
 -- `memory::within::hear_if` meets its contract. Assumes nothing.
 use mathlib.Core.Path.{ap, ◌∙◌}
 use mathlib.Core.List.{[]}
-use Rattle.memory.specs.Memory.{recall, hearIf}
-use Rattle.memory.specs.Stored.{pathOf, memoryOf}
-use Rattle.memory.specs.StoredLaws.{made-memory}
+use Rattle.memory.specs.Memory.{recall, hear_if}
+use Rattle.memory.specs.Stored.{path_of, memory_of}
+use Rattle.memory.specs.StoredLaws.{made_memory}
 use borrow.Author.Rules.{rules}
 use Rattle.memory.proofs.within.hear_if.Statement.{statement}
 use Rattle.memory.proofs.within.hear_if.Tie as tie
@@ -24,7 +24,7 @@ returns-2 : tie.Need-returns-2
 returns-2 c =
     let e = c.empty in
     let t = c.before.hear-rules2 in
-    rw c.before.before.if1.false (made-memory t.result e.result [] e.ensures ∙ ap (λ u. memoryOf (recall u [])) t.ensures)
+    rw c.before.before.if1.false (made_memory t.result e.result [] e.ensures ∙ ap (λ u. memory_of (recall u [])) t.ensures)
 
-pub hear-if-spec : {M : Type 1} → statement M
-hear-if-spec = tie.close (tie.spec hear-rules-requires returns hear-rules-requires-2 empty-requires returns-2)
+pub hear_if_spec : {M : Type 1} → statement M
+hear_if_spec = tie.close (tie.spec hear-rules-requires returns hear-rules-requires-2 empty-requires returns-2)

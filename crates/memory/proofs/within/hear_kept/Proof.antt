@@ -1,8 +1,8 @@
 -- `memory::within::hear_kept` meets its contract. Assumes nothing.
 use mathlib.Core.Path.{ap, ap₂}
 use Rattle.memory.specs.Memory.{recall, branch, comes, stays}
-use Rattle.memory.specs.Stored.{pathOf}
-use Rattle.memory.specs.StoredLaws.{kept-stored, path-at, heard-at, rest-heard}
+use Rattle.memory.specs.Stored.{path_of}
+use Rattle.memory.specs.StoredLaws.{kept_stored, path_at, heard_at, rest_heard}
 use Rattle.uid.specs.declared.Level.TheVariants.{One}
 use borrow.Author.Rules.{rules}
 use Rattle.memory.proofs.within.hear_kept.Statement.{statement}
@@ -24,7 +24,7 @@ take-branch-requires : tie.Need-take-branch-requires
 take-branch-requires c κs = search rules
 
 comes-requires : tie.Need-comes-requires
-comes-requires c κs = kept-stored c.take-branch.result _ c.take-branch.ensures.0 c.take-branch.ensures.1
+comes-requires c κs = kept_stored c.take-branch.result _ c.take-branch.ensures.0 c.take-branch.ensures.1
 
 enum-known-phase : tie.Need-enum-known-phase
 enum-known-phase c = search rules
@@ -81,68 +81,68 @@ returns : tie.Need-returns
 returns c =
     let t = c.before.before.before in
     let a = t.before.before.args in
-    heard-at a.r (pathOf a.p) a.row.now _ (recall t.hear-rules.result (pathOf a.p)) c.unchanged.result c.before.enum_told.given.1 c.unchanged.ensures (ap (λ u. recall u (pathOf a.p)) t.hear-rules.ensures)
+    heard_at a.r (path_of a.p) a.row.now _ (recall t.hear-rules.result (path_of a.p)) c.unchanged.result c.before.enum_told.given.1 c.unchanged.ensures (ap (λ u. recall u (path_of a.p)) t.hear-rules.ensures)
 
 returns-2 : tie.Need-returns-2
 returns-2 c =
     let b = c.before.take-branch in
     let t = c.before.before.before.before in
     let a = t.before.before.args in
-    heard-at a.r (pathOf a.p) a.row.now _ (comes One t.hear-rules.result (pathOf b.result)) c.comes.result c.before.before.enum-told2.given.1 c.comes.ensures
-    (ap₂ (comes One) t.hear-rules.ensures (path-at b.result (branch (pathOf a.p)) b.ensures.0))
+    heard_at a.r (path_of a.p) a.row.now _ (comes One t.hear-rules.result (path_of b.result)) c.comes.result c.before.before.enum-told2.given.1 c.comes.ensures
+    (ap₂ (comes One) t.hear-rules.ensures (path_at b.result (branch (path_of a.p)) b.ensures.0))
 
 returns-3 : tie.Need-returns-3
 returns-3 c =
     let t = c.before.before.before.before in
     let a = t.before.before.args in
-    rest-heard _ a.r (pathOf a.p) a.row.now _ c.hear-rest.result c.hear-rest.ensures t.hear-rules.ensures c.before.before.phase.given.1
+    rest_heard _ a.r (path_of a.p) a.row.now _ c.hear-rest.result c.hear-rest.ensures t.hear-rules.ensures c.before.before.phase.given.1
 
 returns-4 : tie.Need-returns-4
 returns-4 c =
     let l = c.before.higher in
     let t = c.before.before.before.before.before in
     let a = t.before.before.args in
-    heard-at a.r (pathOf a.p) a.row.now _ (comes l.result t.hear-rules.result (pathOf a.p)) c.comes2.result c.before.before.before.phase2.given.1 c.comes2.ensures
-    (ap₂ (λ k u. comes k u (pathOf a.p)) l.ensures t.hear-rules.ensures)
+    heard_at a.r (path_of a.p) a.row.now _ (comes l.result t.hear-rules.result (path_of a.p)) c.comes2.result c.before.before.before.phase2.given.1 c.comes2.ensures
+    (ap₂ (λ k u. comes k u (path_of a.p)) l.ensures t.hear-rules.ensures)
 
 returns-5 : tie.Need-returns-5
 returns-5 c =
     let t = c.before.before.before in
     let a = t.before.before.args in
-    heard-at a.r (pathOf a.p) a.row.now _ (stays t.hear-rules.result (pathOf a.p)) c.stays.result c.before.enum-told3.given.1 c.stays.ensures (ap (λ u. stays u (pathOf a.p)) t.hear-rules.ensures)
+    heard_at a.r (path_of a.p) a.row.now _ (stays t.hear-rules.result (path_of a.p)) c.stays.result c.before.enum-told3.given.1 c.stays.ensures (ap (λ u. stays u (path_of a.p)) t.hear-rules.ensures)
 
 returns-6 : tie.Need-returns-6
 returns-6 c =
     let t = c.before.before.before in
     let a = t.before.before.args in
-    heard-at a.r (pathOf a.p) a.row.now _ (recall t.hear-rules.result (pathOf a.p)) c.unchanged2.result c.before.enum-told4.given.1 c.unchanged2.ensures (ap (λ u. recall u (pathOf a.p)) t.hear-rules.ensures)
+    heard_at a.r (path_of a.p) a.row.now _ (recall t.hear-rules.result (path_of a.p)) c.unchanged2.result c.before.enum-told4.given.1 c.unchanged2.ensures (ap (λ u. recall u (path_of a.p)) t.hear-rules.ensures)
 
 returns-7 : tie.Need-returns-7
 returns-7 c =
     let t = c.before.before.before in
     let a = t.before.before.args in
-    heard-at a.r (pathOf a.p) a.row.now _ (recall t.hear-rules.result (pathOf a.p)) c.unchanged3.result c.before.enum-told5.given.1 c.unchanged3.ensures (ap (λ u. recall u (pathOf a.p)) t.hear-rules.ensures)
+    heard_at a.r (path_of a.p) a.row.now _ (recall t.hear-rules.result (path_of a.p)) c.unchanged3.result c.before.enum-told5.given.1 c.unchanged3.ensures (ap (λ u. recall u (path_of a.p)) t.hear-rules.ensures)
 
 returns-8 : tie.Need-returns-8
 returns-8 c =
     let t = c.before.before.before in
     let a = t.before.before.args in
-    heard-at a.r (pathOf a.p) a.row.now _ (recall t.hear-rules.result (pathOf a.p)) c.unchanged4.result c.before.enum-told6.given.1 c.unchanged4.ensures (ap (λ u. recall u (pathOf a.p)) t.hear-rules.ensures)
+    heard_at a.r (path_of a.p) a.row.now _ (recall t.hear-rules.result (path_of a.p)) c.unchanged4.result c.before.enum-told6.given.1 c.unchanged4.ensures (ap (λ u. recall u (path_of a.p)) t.hear-rules.ensures)
 
 returns-9 : tie.Need-returns-9
 returns-9 c =
     let t = c.before.before.before in
     let a = t.before.before.args in
-    heard-at a.r (pathOf a.p) a.row.now _ (recall t.hear-rules.result (pathOf a.p)) c.unchanged5.result c.before.enum-told7.given.1 c.unchanged5.ensures (ap (λ u. recall u (pathOf a.p)) t.hear-rules.ensures)
+    heard_at a.r (path_of a.p) a.row.now _ (recall t.hear-rules.result (path_of a.p)) c.unchanged5.result c.before.enum-told7.given.1 c.unchanged5.ensures (ap (λ u. recall u (path_of a.p)) t.hear-rules.ensures)
 
 returns-10 : tie.Need-returns-10
 returns-10 c =
     let t = c.before.before.before in
     let a = t.before.before.args in
-    heard-at a.r (pathOf a.p) a.row.now _ (recall t.hear-rules.result (pathOf a.p)) c.unchanged6.result c.before.enum-told8.given.1 c.unchanged6.ensures (ap (λ u. recall u (pathOf a.p)) t.hear-rules.ensures)
+    heard_at a.r (path_of a.p) a.row.now _ (recall t.hear-rules.result (path_of a.p)) c.unchanged6.result c.before.enum-told8.given.1 c.unchanged6.ensures (ap (λ u. recall u (path_of a.p)) t.hear-rules.ensures)
 
-pub hear-kept-spec : {M : Type 1} → statement M
-hear-kept-spec =
+pub hear_kept_spec : {M : Type 1} → statement M
+hear_kept_spec =
     tie.close
     (tie.spec
     hear-rules-requires

@@ -1,7 +1,7 @@
 -- `memory::within::stays` meets its contract. Assumes nothing.
 use borrow.Author.Rules.{rules}
 use Rattle.memory.specs.Memory.{stays}
-use Rattle.memory.specs.StoredLaws.{made-memory}
+use Rattle.memory.specs.StoredLaws.{made_memory}
 use Rattle.memory.proofs.within.stays.Statement.{statement}
 use Rattle.memory.proofs.within.stays.Tie as tie
 
@@ -10,7 +10,7 @@ keeps-requires c κs = search rules
 
 returns : tie.Need-returns
 unfolding stays
-returns c = made-memory _ c.keeps.result _ c.keeps.ensures
+returns c = made_memory _ c.keeps.result _ c.keeps.ensures
 
-pub stays-spec : {M : Type 1} → statement M
-stays-spec = tie.close (tie.spec keeps-requires returns)
+pub stays_spec : {M : Type 1} → statement M
+stays_spec = tie.close (tie.spec keeps-requires returns)

@@ -43,7 +43,7 @@ use denote.Exit.{yes}
 use borrow.Table.Elements.{same_len}
 use lib.Seq.{length-take-le}
 use borrow.Rule.Array.Share.{Room-take}
-use Rattle.limits.specs.Limits.{mostCards}
+use Rattle.limits.specs.Limits.{most_cards}
 use Rattle.card.specs.declared.Card.{Card}
 use Rattle.sweep.specs.declared.Start.{Start}
 use Rattle.sweep_row.specs.declared.RowSwept.{RowSwept}
@@ -56,10 +56,10 @@ use Rattle.sweep_row.specs.contracts.RowSwept as R
 use Rattle.sweep_row.proofs.RowSwept.TheLaws as R'
 use Rattle.sweep_row.specs.contracts.within.ArraySwept as S
 use Rattle.sweep_row.proofs.within.ArraySwept.TheLaws as S'
-use Rattle.sweep_row.specs.Row.{sweptRow}
-use Rattle.memory_row.specs.ArrayLaws.{array-promised}
+use Rattle.sweep_row.specs.Row.{swept_row}
+use Rattle.memory_row.specs.ArrayLaws.{array_promised}
 use Rattle.memory_row.specs.Row.{Promises}
-use Rattle.sweep_row.proofs.Parted.{arr-ty, frontAt, KeptOf, lends-front, front-back}
+use Rattle.sweep_row.proofs.Parted.{arr_ty, front_at, KeptOf, lends_front, front_back}
 use Rattle.memory_row.specs.contracts.sweep_row as row
 use Rattle.memory_row.proofs.sweep_row.Symbol as row_def
 use Rattle.memory_row.proofs.sweep_row.Symbol.{name as #row}
@@ -70,7 +70,7 @@ use Rattle.memory_row.proofs.within.sweep_array.Statement as stated
 use Rattle.memory_row.proofs.within.sweep_array.Code as code
 
 abbrev stayed : Stays (self.ended).signature.params (self.ended).kept
-stayed = (stay_dropped (plain (λ _. E.the_row)) yes, (stay_dropped (ArrayOf (plain (λ _. T.the_row)) (λ _. tt) mostCards) yes, (stay_dropped (plain (λ _. usize)) yes, (gave_slice (0 ∷ []) tt (plain (λ _. u8)), (gave_slice (1 ∷ []) tt (plain (λ _. u8)), tt)))))
+stayed = (stay_dropped (plain (λ _. E.the_row)) yes, (stay_dropped (ArrayOf (plain (λ _. T.the_row)) (λ _. tt) most_cards) yes, (stay_dropped (plain (λ _. usize)) yes, (gave_slice (0 ∷ []) tt (plain (λ _. u8)), (gave_slice (1 ∷ []) tt (plain (λ _. u8)), tt)))))
 
 abbrev Bytes : Type 0
 Bytes = List ℕ
@@ -93,19 +93,19 @@ mswept s = vstruct (vcons (mcards s.cards) (vcons (mrow s.swept) vnil))
 
 -- the cards in an array, and in an array that is a struct's field
 abbrev Cards : RattleType
-Cards = Array T.the_row mostCards
+Cards = Array T.the_row most_cards
 
-tells-cards : Tells Cards (Is Cards) (λ k. mcards k ∷ [])
-tells-cards = Array-Tells T.the_row (LL.vals T.the_type T'.the_laws) (LL.tells T.the_type T'.the_laws) mostCards
+tells_cards : Tells Cards (Is Cards) (λ k. mcards k ∷ [])
+tells_cards = Array-Tells T.the_row (LL.vals T.the_type T'.the_laws) (LL.tells T.the_type T'.the_laws) most_cards
 
-each-field : (k : List Card) (us : List Val) → shadow (each Card (T.the_row).own_val k us) → shadow (each (T.the_field).row.Denot (T.the_field).row.own_val (map (T.the_field).into k) us)
-each-field [] [] h = h
-each-field [] (u ∷ us) h = h
-each-field (c ∷ k) [] h = h
-each-field (c ∷ k) (u ∷ us) h = (h.0, each-field k us h.1)
+each_field : (k : List Card) (us : List Val) → shadow (each Card (T.the_row).own_val k us) → shadow (each (T.the_field).row.Denot (T.the_field).row.own_val (map (T.the_field).into k) us)
+each_field [] [] h = h
+each_field [] (u ∷ us) h = h
+each_field (c ∷ k) [] h = h
+each_field (c ∷ k) (u ∷ us) h = (h.0, each_field k us h.1)
 
-in_field : (k : List Card) (vs : List Val) → Is Cards k vs → Is (array_field T.the_field mostCards).row (map (T.the_field).into k) vs
-in_field k vs h = (h.0, ((h.1.0.0, length-map k (T.the_field).into ∙ h.1.0.1), each-field k h.0 h.1.1))
+in_field : (k : List Card) (vs : List Val) → Is Cards k vs → Is (array_field T.the_field most_cards).row (map (T.the_field).into k) vs
+in_field k vs h = (h.0, ((h.1.0.0, length-map k (T.the_field).into ∙ h.1.0.1), each_field k h.0 h.1.1))
 
 -- the contract that the proof cites
 abbrev Sweeping : {M : Type 1} {𝓤 : Ura M} (𝓛 : Logic 𝓤) (mem : Memory → SProp 𝓤) (run : Routine → Fun 𝓤) → Contract 𝓤
@@ -145,7 +145,7 @@ module _ {M : Type 1} {𝓤 : Ura M} (𝓛 : Logic 𝓤) (mem : Memory → SProp
   abbrev Tokens : Item 𝓤
   Tokens = ‵ (flft κ₁ q₁) ⊛ (‵ (flft κ₂ q₂) ⊛ ‵ ftrue)
 
-  exits : (v : ArraySwept) (lg ls : Bytes) → length lg ≡ length log₀ → length ls ≡ length list₀ → Promises r cards n log₀ list₀ (sweptRow v.swept v.cards) lg ls → Is S.the_row v (mswept v ∷ [])
+  exits : (v : ArraySwept) (lg ls : Bytes) → length lg ≡ length log₀ → length ls ≡ length list₀ → Promises r cards n log₀ list₀ (swept_row v.swept v.cards) lg ls → Is S.the_row v (mswept v ∷ [])
       → ent 𝓤 (⋆ 𝓛 (Tokens ∷ ‵ (finally u8 x₂.name ls) ∷ ‵ (finally u8 x₁.name lg) ∷ [])) (Post (mswept v))
   exits v lg ls len₁ len₂ d gv =
       qed 𝓛 (Tokens ∷ ‵ (finally u8 x₂.name ls) ∷ ‵ (finally u8 x₁.name lg) ∷ []) ∵
@@ -157,18 +157,18 @@ module _ {M : Type 1} {𝓤 : Ura M} (𝓛 : Logic 𝓤) (mem : Memory → SProp
     abbrev x₀ : GName → MutBor (List Card)
     x₀ δ = record { ref_ptr = (b, 0); ghost_name = δ; now = front }
 
-    abbrev frontOf : ℕ → GName → Item 𝓤
-    frontOf ν δ = ‵ (frontAt T.the_row tt mostCards b (named 0) (ν ∷ []) n δ front)
+    abbrev front_of : ℕ → GName → Item 𝓤
+    front_of ν δ = ‵ (front_at T.the_row tt most_cards b (named 0) (ν ∷ []) n δ front)
 
-    abbrev keptOf : ℕ → GName → Item 𝓤
-    keptOf ν δ = ‵ (KeptOf T.the_row tt mostCards b n ν δ rest)
+    abbrev kept_of : ℕ → GName → Item 𝓤
+    kept_of ν δ = ‵ (KeptOf T.the_row tt most_cards b n ν δ rest)
 
     -- what the callee's triple binds outside: the row at a lifetime ν of its own, log and list at theirs
     abbrev to_row : ℕ → GName → (Sweeping 𝓛 mem run).Ghost
     to_row ν δ = (((ν ∷ [], (κ₁, (κ₂, tt))), (full_share, (q₁, (q₂, tt))), tt, (r, (x₀ δ, (x₁, (x₂, tt)))), (mstart r ∷ [], (slice_val (b, 0) n ∷ [], (s₁ ∷ [], (s₂ ∷ [], tt))))), tt)
 
     abbrev Passed : ℕ → GName → List (Item 𝓤)
-    Passed ν δ = ‵ (flft (ν ∷ []) full_share) ∷ Tokens ∷ frontOf ν δ ∷ ‵ ((MutSlice (named 0) κ₁ u8).own_val x₁ (s₁ ∷ [])) ∷ ‵ ((MutSlice (named 1) κ₂ u8).own_val x₂ (s₂ ∷ [])) ∷ []
+    Passed ν δ = ‵ (flft (ν ∷ []) full_share) ∷ Tokens ∷ front_of ν δ ∷ ‵ ((MutSlice (named 0) κ₁ u8).own_val x₁ (s₁ ∷ [])) ∷ ‵ ((MutSlice (named 1) κ₂ u8).own_val x₂ (s₂ ∷ [])) ∷ []
 
     asks : (ν : ℕ) (δ : GName) → Is E.the_row r (mstart r ∷ []) → ent 𝓤 (⋆ 𝓛 (Passed ν δ)) ((Sweeping 𝓛 mem run).pre (to_row ν δ))
     asks ν δ gr =
@@ -177,14 +177,14 @@ module _ {M : Type 1} {𝓤 : Ura M} (𝓛 : Logic 𝓤) (mem : Memory → SProp
 
   -- what the callee ensures
   abbrev Says : RowSwept → List Card → Bytes → Bytes → Type 0
-  Says p ws lg ls = Promises r front (length front) log₀ list₀ (sweptRow p ws) lg ls
+  Says p ws lg ls = Promises r front (length front) log₀ list₀ (swept_row p ws) lg ls
 
-  walk : (𝓣 : Tables 𝓤 H) → Triple 𝓤 (𝓣.C #row) (Sweeping 𝓛 mem run) → n ≤ mostCards → n < 2 ^ 64 → Room u8 (length log₀) → Room u8 (length list₀) → Is E.the_row r (mstart r ∷ []) → Is Cards cards (mcards cards ∷ [])
+  walk : (𝓣 : Tables 𝓤 H) → Triple 𝓤 (𝓣.C #row) (Sweeping 𝓛 mem run) → n ≤ most_cards → n < 2 ^ 64 → Room u8 (length log₀) → Room u8 (length list₀) → Is E.the_row r (mstart r ∷ []) → Is Cards cards (mcards cards ∷ [])
       → ent 𝓤 (on_entry 𝓛 self.signature (κ₁, (κ₂, tt)) (q₁, (q₂, tt)) x at) (WpFn 𝓤 H 𝓣.C 𝓣.Λ code.function (mstart r ∷ mcards cards ∷ vint w64 n ∷ s₁ ∷ s₂ ∷ []) Post)
   walk 𝓣 known few gn gn₁ gn₂ gr gc =
       let long : length front ≡ n = length-take-le n cards (subst (λ (m : ℕ). n ≤ m) (sym gc.1.0.1) few) in
       let parted : Is Cards (front ++ rest) (mcards cards ∷ []) = subst (λ (k : List Card). Is Cards k (mcards cards ∷ [])) (sym (take-append-drop n cards)) gc in
-      let typed = (Array-Lawful 𝓛 T.the_row (LL.lawful T.the_type T'.the_laws 𝓛) mostCards).typed in
+      let typed = (Array-Lawful 𝓛 T.the_row (LL.lawful T.the_type T'.the_laws 𝓛) most_cards).typed in
       qed 𝓛 (Tokens ∷ ‵ (owns (E.the_row ∷ Cards ∷ usize ∷ MutSlice (named 0) κ₁ u8 ∷ MutSlice (named 1) κ₂ u8 ∷ []) x at) ∷ []) ∵
       enter ! 𝓣.C 𝓣.Λ code.function (mstart r ∷ mcards cards ∷ vint w64 n ∷ s₁ ∷ s₂ ∷ []) _ $
       alloc1 ! (λ l₀. alloc1 ! (λ l₁. alloc1 ! (λ l₂. alloc1 ! (λ l₃. alloc1 ! (λ l₄. alloc1 ! (λ l₅. alloc1 ! (λ l₆. alloc1 ! (λ l₇. alloc1 ! (λ l₈. alloc1 ! (λ l₉. alloc1 ! (λ l₁₀. alloc1 ! (λ l₁₁. alloc1 ! (λ l₁₂. alloc1 ! (λ l₁₃. alloc1 ! (λ l₁₄. alloc0 ! $ params1 ! $
@@ -200,8 +200,8 @@ module _ {M : Type 1} {𝓤 : Ura M} (𝓛 : Logic 𝓤) (mem : Memory → SProp
       assigns ! (agg ! (and_then ! (load ! (from ! (stop !)) (look ! 4 refl)) (and_then ! (load ! (from ! (fld ! refl (stop !))) (look_in ! 18 (sub ! 1 refl (whole !)))) (no_more !)))) (from ! (stop !)) (init ! 2 refl (tt, (tt, (record { fits = gn₂.0 }, tt)))) $
       move ! (31 ∷ []) $ fsplit ! $ drop ! $ fsplit ! $ drop ! $ fsplit ! $ drop ! $ fsplit ! $ move ! (1 ∷ []) $ fsplit ! $ move ! (1 ∷ []) $ drop ! $
       -- [list; log; the locals; the tokens]: the first n cards of _6 are lent
-      move ! (18 ∷ []) $ use1 𝓛 (later (some (λ (ν : ℕ). some (λ (δ : GName). ‵ (flft (ν ∷ []) full_share) ⊛ (frontOf l₆ ν δ ⊛ keptOf l₆ ν δ)))))
-      (lends-front T.the_row tt mostCards l₆ 𝓛 (Array-Makes 𝓛 T.the_row (LL.makes T.the_type T'.the_plain 𝓛) mostCards) (named 0) front rest (mcards cards) n long (Room-take T.the_row mostCards n cards gc.1.0.1 (lit< tt, lit< tt)) parted) $
+      move ! (18 ∷ []) $ use1 𝓛 (later (some (λ (ν : ℕ). some (λ (δ : GName). ‵ (flft (ν ∷ []) full_share) ⊛ (front_of l₆ ν δ ⊛ kept_of l₆ ν δ)))))
+      (lends_front T.the_row tt most_cards l₆ 𝓛 (Array-Makes 𝓛 T.the_row (LL.makes T.the_type T'.the_plain 𝓛) most_cards) (named 0) front rest (mcards cards) n long (Room-take T.the_row most_cards n cards gc.1.0.1 (lit< tt, lit< tt)) parted) $
       await ! tt $ pick ! (λ ν. pick ! (λ δ. split ! $ move ! (1 ∷ []) $ split ! $
       -- [the row; what is kept; its token; list; log; the locals but _6; the tokens]
       move ! (2 ∷ 34 ∷ 0 ∷ 4 ∷ 3 ∷ []) $ group ! 5 $ use1 𝓛 (raw ((Sweeping 𝓛 mem run).pre (to_row l₆ ν δ))) (asks l₆ ν δ gr) $
@@ -217,8 +217,8 @@ module _ {M : Type 1} {𝓤 : Ura M} (𝓛 : Logic 𝓤) (mem : Memory → SProp
       move ! (4 ∷ []) $ split ! $ split ! $ move ! (2 ∷ []) $ peeks ! R.the_row (Is R.the_row) (shows 𝓛 R.the_row) p (u ∷ []) (λ got.
       land ! (from ! (stop !)) (init ! 22 refl ((LL.lawful R.the_type R'.the_laws 𝓛).typed p _ got).0) $
       rewrite ! 22 (λ (w : Val). ‵ (fat full_share R'.mir l₇ 0 w)) (ap only (LL.tells R.the_type R'.the_laws p (u ∷ []) got)) refl $ drop ! $
-      move ! (0 ∷ 6 ∷ 5 ∷ []) $ use3 𝓛 (later (given (Is Cards (zs.1.0 ++ rest) (mcards (zs.1.0 ++ rest) ∷ [])) (‵ (fat full_share (arr-ty T.the_row tt mostCards l₆) l₆ 0 (mcards (zs.1.0 ++ rest))))))
-      (front-back T.the_row tt mostCards l₆ 𝓛 mcards tells-cards ν δ zs.1.0 rest n (e₀ ∙ long) (same_len n cards zs.1.0 e₀ ∙ gc.1.0.1)) $ await ! tt $ learn ! (λ ga.
+      move ! (0 ∷ 6 ∷ 5 ∷ []) $ use3 𝓛 (later (given (Is Cards (zs.1.0 ++ rest) (mcards (zs.1.0 ++ rest) ∷ [])) (‵ (fat full_share (arr_ty T.the_row tt most_cards l₆) l₆ 0 (mcards (zs.1.0 ++ rest))))))
+      (front_back T.the_row tt most_cards l₆ 𝓛 mcards tells_cards ν δ zs.1.0 rest n (e₀ ∙ long) (same_len n cards zs.1.0 e₀ ∙ gc.1.0.1)) $ await ! tt $ learn ! (λ ga.
       let v : ArraySwept = record { cards = zs.1.0 ++ rest; swept = p } in
       let gv : Is S.the_row v (mswept v ∷ []) = ((mcards v.cards ∷ [], (mrow p ∷ [], tt)), (refl, (in_field v.cards _ ga, (subst (λ (vs : List Val). Is R.the_row p vs) (LL.tells R.the_type R'.the_laws p (u ∷ []) got) got, tt)))) in
       -- [_6; the tokens; list's last; ..; log's last; the other locals]
@@ -227,28 +227,28 @@ module _ {M : Type 1} {𝓤 : Ura M} (𝓛 : Logic 𝓤) (mem : Memory → SProp
       returns ! (look ! 32 refl) $ forget ! 0 refl $ forget ! 5 refl $ forget ! 7 refl $ forget ! 9 refl $ forget ! 11 refl $ forget ! 13 refl $ forget ! 15 refl $ forget ! 17 refl $ forget ! 19 refl $ forget ! 22 refl $ forget ! 24 refl $ forget ! 26 refl $ forget ! 28 refl $ forget ! 30 refl $ forget ! 32 refl $
       move ! (32 ∷ 33 ∷ 30 ∷ 31 ∷ 28 ∷ 29 ∷ 26 ∷ 27 ∷ 24 ∷ 25 ∷ 22 ∷ 23 ∷ 0 ∷ 21 ∷ 19 ∷ 20 ∷ 17 ∷ 18 ∷ 15 ∷ 16 ∷ 13 ∷ 14 ∷ 11 ∷ 12 ∷ 9 ∷ 10 ∷ 7 ∷ 8 ∷ 5 ∷ 6 ∷ []) $
       free1 ! $ free1 ! $ free1 ! $ free1 ! $ free1 ! $ free1 ! $ free1 ! $ free1 ! $ free1 ! $ free1 ! $ free1 ! $ free1 ! $ free1 ! $ free1 ! $ free1 ! $ free0 ! $
-      keep ! (0 ∷ 1 ∷ 3 ∷ []) $ by ! (exits v zs.1.1.0 zs.1.1.1.0 e₁ e₂ (array-promised r cards n log₀ list₀ long p zs.1.0 zs.1.1.0 zs.1.1.1.0 e) gv)))))))))))))))))))))))))))
+      keep ! (0 ∷ 1 ∷ 3 ∷ []) $ by ! (exits v zs.1.1.0 zs.1.1.1.0 e₁ e₂ (array_promised r cards n log₀ list₀ long p zs.1.0 zs.1.1.0 zs.1.1.1.0 e) gv)))))))))))))))))))))))))))
 
 module _ {M : Type 1} {𝓤 : Ura M} (𝓛 : Logic 𝓤) (mem : Memory → SProp 𝓤) (run : Routine → Fun 𝓤) (𝓣 : Tables 𝓤 𝓛.H) (known : Triple 𝓤 (𝓣.C #row) (Sweeping 𝓛 mem run)) where
   open 𝓛 use {H}
 
-  array-walks : Walks 𝓛 self.ended stayed (WpFn 𝓤 H 𝓣.C 𝓣.Λ code.function) (self.clauses 𝓛 mem run)
-  array-walks = walked 𝓛 self.ended stayed (self.clauses 𝓛 mem run) (WpFn 𝓤 H 𝓣.C 𝓣.Λ code.function)
+  array_walks : Walks 𝓛 self.ended stayed (WpFn 𝓤 H 𝓣.C 𝓣.Λ code.function) (self.clauses 𝓛 mem run)
+  array_walks = walked 𝓛 self.ended stayed (self.clauses 𝓛 mem run) (WpFn 𝓤 H 𝓣.C 𝓣.Λ code.function)
       (λ κs. (LL.vals E.the_type E'.the_laws, ((λ k. mcards k ∷ []), (uint_vals w64, (mut_slice_vals, (mut_slice_vals, tt))))))
-      (λ κs. (LL.tells E.the_type E'.the_laws, (tells-cards, (uint_Tells w64, (mut_slice_Tells (named 0) κs.0 u8, (mut_slice_Tells (named 1) κs.1.0 u8, tt))))))
-      (λ κs qs bounds a g are. needs 𝓤 (a.1.1.0 ≤ mostCards) _ (λ few.
+      (λ κs. (LL.tells E.the_type E'.the_laws, (tells_cards, (uint_Tells w64, (mut_slice_Tells (named 0) κs.0 u8, (mut_slice_Tells (named 1) κs.1.0 u8, tt))))))
+      (λ κs qs bounds a g are. needs 𝓤 (a.1.1.0 ≤ most_cards) _ (λ few.
       walk 𝓛 mem run κs.0 κs.1.0 qs.0 qs.1.0 a.0 a.1.0 a.1.1.0 a.1.1.1.0 a.1.1.1.1.0 𝓣 known few are.1.1.0.1 are.1.1.1.0.0.1 are.1.1.1.1.0.0.1 are.0 are.1.0))
 
-  array-meets : Meets 𝓛 self.signature (WpFn 𝓤 H 𝓣.C 𝓣.Λ code.function) (self.spec 𝓛 mem run)
-  array-meets =
+  array_meets : Meets 𝓛 self.signature (WpFn 𝓤 H 𝓣.C 𝓣.Λ code.function) (self.spec 𝓛 mem run)
+  array_meets =
       walk_Meets 𝓛 self.ended stayed
-      (Goes-dropped 𝓛 2 (plain (λ _. E.the_row)) yes (λ κs x f. refl), (Goes-dropped 𝓛 2 (ArrayOf (plain (λ _. T.the_row)) (λ _. tt) mostCards) yes (λ κs x f. refl), (Goes-dropped 𝓛 2 (plain (λ _. usize)) yes (λ κs x f. refl), (Goes-gave_slice 𝓛 2 0 tt (plain (λ _. u8)), (Goes-gave_slice 𝓛 2 1 tt (plain (λ _. u8)), tt)))))
-      (self.clauses 𝓛 mem run) (WpFn 𝓤 H 𝓣.C 𝓣.Λ code.function) (WpFn-mono 𝓤 H 𝓛.laws 𝓣 code.function) array-walks
+      (Goes-dropped 𝓛 2 (plain (λ _. E.the_row)) yes (λ κs x f. refl), (Goes-dropped 𝓛 2 (ArrayOf (plain (λ _. T.the_row)) (λ _. tt) most_cards) yes (λ κs x f. refl), (Goes-dropped 𝓛 2 (plain (λ _. usize)) yes (λ κs x f. refl), (Goes-gave_slice 𝓛 2 0 tt (plain (λ _. u8)), (Goes-gave_slice 𝓛 2 1 tt (plain (λ _. u8)), tt)))))
+      (self.clauses 𝓛 mem run) (WpFn 𝓤 H 𝓣.C 𝓣.Λ code.function) (WpFn-mono 𝓤 H 𝓛.laws 𝓣 code.function) array_walks
 
-pub sweep-array-spec : {M : Type 1} → stated.statement M
+pub sweep_array_spec : {M : Type 1} → stated.statement M
 unfolding code.routine tables_of
-sweep-array-spec 𝓤 𝓛 𝓜 𝓡 =
+sweep_array_spec 𝓤 𝓛 𝓜 𝓡 =
     entered 𝓤 𝓛.H (triple_of 𝓛 self.signature (self.spec 𝓛 𝓜.mem 𝓡.run))
     (tables 𝓤 𝓛.H 𝓜 𝓡 code.env).C (tables 𝓤 𝓛.H 𝓜 𝓡 code.env).Λ #self code.function (code.unfolded 𝓤 𝓛.H 𝓜 𝓡)
-    (array-meets 𝓛 𝓜.mem 𝓡.run (tables_of 𝓤 𝓛.H 𝓜 (tables 𝓤 𝓛.H 𝓜 𝓡 code.env))
+    (array_meets 𝓛 𝓜.mem 𝓡.run (tables_of 𝓤 𝓛.H 𝓜 (tables 𝓤 𝓛.H 𝓜 𝓡 code.env))
     (cited 𝓤 𝓛.H (Sweeping 𝓛 𝓜.mem 𝓡.run) 𝓜 𝓡 code.env #row row_def.routine code.calls-memory-row::sweep-row (row-thm.met 𝓤 𝓛 𝓜 𝓡)))

@@ -1,6 +1,6 @@
 -- `parity::within::wide_at` meets its contract, by that of `four`. Assumes nothing.
 use native.Mathlib.Omega.{arith}
-use Rattle.parity.specs.WideLaws.{wide-halves}
+use Rattle.parity.specs.WideLaws.{wide_halves}
 use borrow.Author.Rules.{rules}
 use Rattle.parity.proofs.within.wide_at.Statement.{statement}
 use Rattle.parity.proofs.within.wide_at.Tie as tie
@@ -66,10 +66,10 @@ returns : tie.Need-returns
 returns c =
     let l = c.before.before.before.before.before in
     let a = l.before.before.before.before.before.before.args in
-    rw (l.four.ensures.0, c.four2.ensures.0) (wide-halves a.row.now a.at (omega arith))
+    rw (l.four.ensures.0, c.four2.ensures.0) (wide_halves a.row.now a.at (omega arith))
 
-pub wide-at-spec : {M : Type 1} → statement M
-wide-at-spec =
+pub wide_at_spec : {M : Type 1} → statement M
+wide_at_spec =
     tie.close
     (tie.spec
     shared-slice-read-four

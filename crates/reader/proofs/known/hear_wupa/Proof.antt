@@ -1,6 +1,6 @@
 -- `reader::known::hear_wupa` meets its contract, by what was read. Assumes nothing.
 use mathlib.Core.Path.{sym, ◌∙◌}
-use Rattle.reader.specs.KnownLaws.{wupa-at}
+use Rattle.reader.specs.KnownLaws.{wupa_at}
 use borrow.Author.Rules.{rules}
 use Rattle.reader.proofs.known.hear_wupa.Statement.{statement}
 use Rattle.reader.proofs.known.hear_wupa.Tie as tie
@@ -23,15 +23,15 @@ stop-requires c κs = search rules
 returns : tie.Need-returns
 returns c =
     let a = c.before.before.before.before.before.before.args in
-    c.picks.ensures ∙ sym (wupa-at a.r a.row.now _ (sym c.before.before.before.read-atqa.ensures.0 ∙ c.before.enum_told.given.1))
+    c.picks.ensures ∙ sym (wupa_at a.r a.row.now _ (sym c.before.before.before.read-atqa.ensures.0 ∙ c.before.enum_told.given.1))
 
 returns-2 : tie.Need-returns-2
 returns-2 c =
     let a = c.before.before.before.before.before.before.before.args in
-    c.stop.ensures ∙ sym (wupa-at a.r a.row.now _ (sym c.before.before.before.before.read-atqa.ensures.0 ∙ c.before.before.a.given.1))
+    c.stop.ensures ∙ sym (wupa_at a.r a.row.now _ (sym c.before.before.before.before.read-atqa.ensures.0 ∙ c.before.before.a.given.1))
 
-pub hear-wupa-spec : {M : Type 1} → statement M
-hear-wupa-spec =
+pub hear_wupa_spec : {M : Type 1} → statement M
+hear_wupa_spec =
     tie.close
     (tie.spec
     read-atqa-requires

@@ -1,6 +1,6 @@
 -- `reader::known::pick_next` meets its contract, level by level. Assumes nothing.
 use mathlib.Core.Path.{sym, ap, ◌∙◌}
-use Rattle.reader.specs.Reader.{pickNext}
+use Rattle.reader.specs.Reader.{pick_next}
 use borrow.Author.Rules.{rules}
 use Rattle.reader.proofs.known.pick_next.Statement.{statement}
 use Rattle.reader.proofs.known.pick_next.Tie as tie
@@ -24,16 +24,16 @@ stop-requires : tie.Need-stop-requires
 stop-requires c κs = search rules
 
 returns : tie.Need-returns
-returns c = c.picks.ensures ∙ ap (λ l. pickNext l c.before.before.before.args.u) (sym c.before.enum_told.given.1)
+returns c = c.picks.ensures ∙ ap (λ l. pick_next l c.before.before.before.args.u) (sym c.before.enum_told.given.1)
 
 returns-2 : tie.Need-returns-2
-returns-2 c = c.picks2.ensures ∙ ap (λ l. pickNext l c.before.before.before.args.u) (sym c.before.enum-told2.given.1)
+returns-2 c = c.picks2.ensures ∙ ap (λ l. pick_next l c.before.before.before.args.u) (sym c.before.enum-told2.given.1)
 
 returns-3 : tie.Need-returns-3
-returns-3 c = c.stop.ensures ∙ ap (λ l. pickNext l c.before.before.before.args.u) (sym c.before.enum-told3.given.1)
+returns-3 c = c.stop.ensures ∙ ap (λ l. pick_next l c.before.before.before.args.u) (sym c.before.enum-told3.given.1)
 
-pub pick-next-spec : {M : Type 1} → statement M
-pick-next-spec =
+pub pick_next_spec : {M : Type 1} → statement M
+pick_next_spec =
     tie.close
     (tie.spec
     enum_told

@@ -5,7 +5,7 @@ use mathlib.Core.List.{[]}
 use lib.ListN.{get_or}
 use native.Mathlib.Omega.{arith}
 use Rattle.reader.specs.Reader.{reader, sends, picks}
-use Rattle.reader.specs.StepLaws.{place-most}
+use Rattle.reader.specs.StepLaws.{place_most}
 use Rattle.reader.specs.declared.Phase.TheVariants.{UidSelectSent}
 use borrow.Author.Rules.{rules}
 use Rattle.reader.proofs.known.picks.Statement.{statement}
@@ -18,10 +18,10 @@ levels-requires : tie.Need-levels-requires
 levels-requires c κs = search rules
 
 mul-five : tie.Need-overflow-mul-five
-mul-five c = omega (arith, c.before.place.ensures, place-most c.before.before.args.l)
+mul-five c = omega (arith, c.before.place.ensures, place_most c.before.before.args.l)
 
 array-copy-out-five : tie.Need-array-copy-out-five
-array-copy-out-five c = omega (arith, c.before.place.ensures, place-most c.before.before.args.l)
+array-copy-out-five c = omega (arith, c.before.place.ensures, place_most c.before.before.args.l)
 
 sends-requires : tie.Need-sends-requires
 sends-requires c κs = search rules
@@ -33,7 +33,7 @@ returns c =
     c.sends.ensures
     ∙ ap (λ f. sends (reader (UidSelectSent a.l) false f 40 a.u 0)) (ap₂ (λ ls i. get_or ls i []) c.before.before.levels.ensures c.before.before.before.place.ensures)
 
-pub picks-spec : {M : Type 1} → statement M
-picks-spec =
+pub picks_spec : {M : Type 1} → statement M
+picks_spec =
     tie.close
     (tie.spec place-requires levels-requires mul-five array-copy-out-five sends-requires returns)

@@ -1,6 +1,6 @@
 -- `reader::known::wake_turn` meets its contract: a UID is made, or 6. Assumes nothing.
 use mathlib.Core.Path.{sym, ap, ◌∙◌}
-use Rattle.reader.specs.Calls.{wakeMade, wakeTurn}
+use Rattle.reader.specs.Calls.{wake_made, wake_turn}
 use borrow.Author.Rules.{rules}
 use Rattle.reader.proofs.known.wake_turn.Statement.{statement}
 use Rattle.reader.proofs.known.wake_turn.Tie as tie
@@ -18,19 +18,19 @@ enum-told-2 : tie.Need-enum-told-2
 enum-told-2 c = search rules
 
 returns : tie.Need-returns
-unfolding wakeTurn
+unfolding wake_turn
 returns c =
     let a = c.before.before.before.before.before.before.args in
     let n = c.before.before.before.before.new-uid in
-    c.wakes.ensures ∙ ap (wakeMade a.r n.result) (sym c.before.enum_told.given.1) ∙ ap (λ u. wakeMade a.r u u.made) n.ensures.0
+    c.wakes.ensures ∙ ap (wake_made a.r n.result) (sym c.before.enum_told.given.1) ∙ ap (λ u. wake_made a.r u u.made) n.ensures.0
 
 returns-2 : tie.Need-returns-2
-unfolding wakeTurn
+unfolding wake_turn
 returns-2 c =
     let a = c.before.before.before.before.before.args in
     let n = c.before.before.before.new-uid in
-    ap (wakeMade a.r n.result) (sym c.enum-told2.given.1) ∙ ap (λ u. wakeMade a.r u u.made) n.ensures.0
+    ap (wake_made a.r n.result) (sym c.enum-told2.given.1) ∙ ap (λ u. wake_made a.r u u.made) n.ensures.0
 
-pub wake-turn-spec : {M : Type 1} → statement M
-wake-turn-spec =
+pub wake_turn_spec : {M : Type 1} → statement M
+wake_turn_spec =
     tie.close (tie.spec new-uid-requires enum_told wakes-requires enum-told-2 returns returns-2)

@@ -15,5 +15,5 @@ returns-2 : tie.Need-returns-2
 unfolding completes
 returns-2 c = rw c.if1.false
 
-pub completes-spec : {M : Type 1} → statement M
-completes-spec = tie.close (tie.spec finds-requires returns returns-2)
+pub completes_spec : {M : Type 1} → statement M
+completes_spec = tie.close (tie.spec finds-requires returns returns-2)

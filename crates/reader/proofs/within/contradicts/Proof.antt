@@ -26,5 +26,5 @@ returns-3 : tie.Need-returns-3
 unfolding contradicts
 returns-3 c = rw (c.before.before.if1.false, ← c.before.place.ensures, le-ltb _ 2 c.if2.false)
 
-pub contradicts-spec : {M : Type 1} → statement M
-contradicts-spec = tie.close (tie.spec returns place-requires returns-2 returns-3)
+pub contradicts_spec : {M : Type 1} → statement M
+contradicts_spec = tie.close (tie.spec returns place-requires returns-2 returns-3)

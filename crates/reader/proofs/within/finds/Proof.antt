@@ -10,7 +10,7 @@ frame-bits-requires c κs = search rules
 
 returns : tie.Need-returns
 unfolding finds
-returns c = ap (λ n. turn c.before.args.r (Finds n)) c.frame-bits.ensures
+returns c = ap (λ n. turn c.before.args.r (Finds n)) c.frame_bits.ensures
 
-pub finds-spec : {M : Type 1} → statement M
-finds-spec = tie.close (tie.spec frame-bits-requires returns)
+pub finds_spec : {M : Type 1} → statement M
+finds_spec = tie.close (tie.spec frame-bits-requires returns)

@@ -1,8 +1,8 @@
 use mathlib.Core.Path.{◌≡◌, sym, ap, ◌∙◌}
 use mathlib.Core.Bool.{true, false}
 use Rattle.uid.specs.declared.Level.TheVariants.{One}
-use Rattle.reader.specs.Reader.{hearAtqa, turn, opens}
-use Rattle.reader.specs.StepLaws.{atqa-at}
+use Rattle.reader.specs.Reader.{hear_atqa, turn, opens}
+use Rattle.reader.specs.StepLaws.{atqa_at}
 use Rattle.reader.specs.declared.Answer.TheVariants.{Finishes}
 use borrow.Author.Rules.{rules}
 use Rattle.reader.proofs.within.hear_atqa.Statement.{statement}
@@ -15,7 +15,7 @@ blank-requires : tie.Need-blank-requires
 blank-requires c κs = search rules
 
 returns : tie.Need-returns
-unfolding hearAtqa
+unfolding hear_atqa
 returns c = rw (sym c.before.before.is-over.ensures ∙ c.before.if1.true) (ap (λ r. turn r Finishes) c.blank.ensures)
 
 read-atqa-requires : tie.Need-read-atqa-requires
@@ -39,16 +39,16 @@ stop-requires c κs = search rules
 returns-2 : tie.Need-returns-2
 returns-2 c =
     let a = c.before.before.before.before.before.before.before.before.args in
-    c.opens.ensures ∙ ap (opens One a.r.sweeps) c.before.no-uid.ensures
-    ∙ sym (atqa-at a.r a.row.now _ (sym c.before.before.before.before.before.before.is-over.ensures ∙ c.before.before.before.before.before.if1.false) (sym c.before.before.before.before.read-atqa.ensures.0 ∙ c.before.before.enum_told.given.1))
+    c.opens.ensures ∙ ap (opens One a.r.sweeps) c.before.no_uid.ensures
+    ∙ sym (atqa_at a.r a.row.now _ (sym c.before.before.before.before.before.before.is-over.ensures ∙ c.before.before.before.before.before.if1.false) (sym c.before.before.before.before.read-atqa.ensures.0 ∙ c.before.before.enum_told.given.1))
 
 returns-3 : tie.Need-returns-3
 returns-3 c =
     let a = c.before.before.before.before.before.before.before.before.args in
-    c.stop.ensures ∙ sym (atqa-at a.r a.row.now _ (sym c.before.before.before.before.before.before.is-over.ensures ∙ c.before.before.before.before.before.if1.false) (sym c.before.before.before.before.read-atqa.ensures.0 ∙ c.before.before.a.given.1))
+    c.stop.ensures ∙ sym (atqa_at a.r a.row.now _ (sym c.before.before.before.before.before.before.is-over.ensures ∙ c.before.before.before.before.before.if1.false) (sym c.before.before.before.before.read-atqa.ensures.0 ∙ c.before.before.a.given.1))
 
-pub hear-atqa-spec : {M : Type 1} → statement M
-hear-atqa-spec =
+pub hear_atqa_spec : {M : Type 1} → statement M
+hear_atqa_spec =
     tie.close
     (tie.spec
     is-over-requires

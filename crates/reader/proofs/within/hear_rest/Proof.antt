@@ -41,8 +41,8 @@ returns-2 c = let a = c.before.before.before.before.before.before.before.args in
 returns-3 : tie.Need-returns-3
 returns-3 c = let a = c.before.before.before.before.before.before.before.args in c.stop.ensures ∙ sym (rest_at a.l a.r a.row.now _ _ c.before.before.before.before.read-rest.ensures.0 c.before.before.says.given.1)
 
-pub hear-rest-spec : {M : Type 1} → statement M
-hear-rest-spec =
+pub hear_rest_spec : {M : Type 1} → statement M
+hear_rest_spec =
     tie.close
     (tie.spec
     read-rest-requires

@@ -1,5 +1,5 @@
 use mathlib.Core.Path.{sym, ◌∙◌}
-use Rattle.reader.specs.StepLaws.{hear-at}
+use Rattle.reader.specs.StepLaws.{hear_at}
 use borrow.Author.Rules.{rules}
 use Rattle.reader.proofs.within.hear_rules.Statement.{statement}
 use Rattle.reader.proofs.within.hear_rules.Tie as tie
@@ -65,37 +65,37 @@ hear-uid-sak-requires : tie.Need-hear-uid-sak-requires
 hear-uid-sak-requires c κs = search rules
 
 returns : tie.Need-returns
-returns c = let a = c.before.before.before.before.args in c.not-due.ensures ∙ sym (hear-at a.r a.row.now _ c.before.enum_told.given.1)
+returns c = let a = c.before.before.before.before.args in c.not_due.ensures ∙ sym (hear_at a.r a.row.now _ c.before.enum_told.given.1)
 
 returns-2 : tie.Need-returns-2
-returns-2 c = let a = c.before.before.before.before.args in c.hear-atqa.ensures ∙ sym (hear-at a.r a.row.now _ c.before.enum-told2.given.1)
+returns-2 c = let a = c.before.before.before.before.args in c.hear-atqa.ensures ∙ sym (hear_at a.r a.row.now _ c.before.enum-told2.given.1)
 
 returns-3 : tie.Need-returns-3
-returns-3 c = let a = c.before.before.before.before.before.args in c.hear-rest.ensures ∙ sym (hear-at a.r a.row.now _ c.before.before.p.given.1)
+returns-3 c = let a = c.before.before.before.before.before.args in c.hear-rest.ensures ∙ sym (hear_at a.r a.row.now _ c.before.before.p.given.1)
 
 returns-4 : tie.Need-returns-4
-returns-4 c = let a = c.before.before.before.before.before.args in c.hear-sak.ensures ∙ sym (hear-at a.r a.row.now _ c.before.before.p2.given.1)
+returns-4 c = let a = c.before.before.before.before.before.args in c.hear-sak.ensures ∙ sym (hear_at a.r a.row.now _ c.before.before.p2.given.1)
 
 returns-5 : tie.Need-returns-5
-returns-5 c = let a = c.before.before.before.before.args in c.hear-silence.ensures ∙ sym (hear-at a.r a.row.now _ c.before.enum-told3.given.1)
+returns-5 c = let a = c.before.before.before.before.args in c.hear-silence.ensures ∙ sym (hear_at a.r a.row.now _ c.before.enum-told3.given.1)
 
 returns-6 : tie.Need-returns-6
-returns-6 c = let a = c.before.before.before.before.args in c.not-due2.ensures ∙ sym (hear-at a.r a.row.now _ c.before.enum-told4.given.1)
+returns-6 c = let a = c.before.before.before.before.args in c.not-due2.ensures ∙ sym (hear_at a.r a.row.now _ c.before.enum-told4.given.1)
 
 returns-7 : tie.Need-returns-7
-returns-7 c = let a = c.before.before.before.before.args in c.not-due3.ensures ∙ sym (hear-at a.r a.row.now _ c.before.enum-told5.given.1)
+returns-7 c = let a = c.before.before.before.before.args in c.not-due3.ensures ∙ sym (hear_at a.r a.row.now _ c.before.enum-told5.given.1)
 
 returns-8 : tie.Need-returns-8
-returns-8 c = let a = c.before.before.before.before.args in c.not-due4.ensures ∙ sym (hear-at a.r a.row.now _ c.before.enum-told6.given.1)
+returns-8 c = let a = c.before.before.before.before.args in c.not-due4.ensures ∙ sym (hear_at a.r a.row.now _ c.before.enum-told6.given.1)
 
 returns-9 : tie.Need-returns-9
-returns-9 c = let a = c.before.before.before.before.args in c.hear-wupa.ensures ∙ sym (hear-at a.r a.row.now _ c.before.enum-told7.given.1)
+returns-9 c = let a = c.before.before.before.before.args in c.hear_wupa_law.ensures ∙ sym (hear_at a.r a.row.now _ c.before.enum-told7.given.1)
 
 returns-10 : tie.Need-returns-10
-returns-10 c = let a = c.before.before.before.before.before.args in c.hear-uid-sak.ensures ∙ sym (hear-at a.r a.row.now _ c.before.before.p3.given.1)
+returns-10 c = let a = c.before.before.before.before.before.args in c.hear-uid-sak.ensures ∙ sym (hear_at a.r a.row.now _ c.before.before.p3.given.1)
 
-pub hear-rules-spec : {M : Type 1} → statement M
-hear-rules-spec =
+pub hear_rules_spec : {M : Type 1} → statement M
+hear_rules_spec =
     tie.close
     (tie.spec
     enum_told

@@ -1,5 +1,5 @@
 use mathlib.Core.Path.{sym, ◌∙◌}
-use Rattle.reader.specs.StepLaws.{sak-at}
+use Rattle.reader.specs.StepLaws.{sak_at}
 use borrow.Author.Rules.{rules}
 use Rattle.reader.proofs.within.hear_sak.Statement.{statement}
 use Rattle.reader.proofs.within.hear_sak.Tie as tie
@@ -31,14 +31,14 @@ stop-requires c κs = search rules
 
 -- src/within.rt:330:1
 returns : tie.Need-returns
-returns c = let a = c.before.before.before.before.before.before.args in c.sak-heard.ensures ∙ sym (sak-at a.l a.r a.row.now _ (sym c.before.before.before.before.read-sak.ensures.0 ∙ c.before.before.a.given.1))
+returns c = let a = c.before.before.before.before.before.before.args in c.sak-heard.ensures ∙ sym (sak_at a.l a.r a.row.now _ (sym c.before.before.before.before.read-sak.ensures.0 ∙ c.before.before.a.given.1))
 
 -- src/within.rt:330:1
 returns-2 : tie.Need-returns-2
-returns-2 c = let a = c.before.before.before.before.before.before.args in c.stop.ensures ∙ sym (sak-at a.l a.r a.row.now _ (sym c.before.before.before.before.read-sak.ensures.0 ∙ c.before.before.a2.given.1))
+returns-2 c = let a = c.before.before.before.before.before.before.args in c.stop.ensures ∙ sym (sak_at a.l a.r a.row.now _ (sym c.before.before.before.before.read-sak.ensures.0 ∙ c.before.before.a2.given.1))
 
-pub hear-sak-spec : {M : Type 1} → statement M
-hear-sak-spec =
+pub hear_sak_spec : {M : Type 1} → statement M
+hear_sak_spec =
     tie.close
     (tie.spec
     read-sak-requires

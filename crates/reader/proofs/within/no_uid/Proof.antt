@@ -7,5 +7,5 @@ returns : tie.Need-returns
 unfolding fill
 returns c = refl
 
-pub no-uid-spec : {M : Type 1} → statement M
-no-uid-spec = tie.close (tie.spec returns)
+pub no_uid_spec : {M : Type 1} → statement M
+no_uid_spec = tie.close (tie.spec returns)

@@ -10,5 +10,5 @@ returns : tie.Need-returns
 unfolding opens
 returns c = c.sends.ensures
 
-pub opens-spec : {M : Type 1} → statement M
-opens-spec = tie.close (tie.spec sends-requires returns)
+pub opens_spec : {M : Type 1} → statement M
+opens_spec = tie.close (tie.spec sends-requires returns)

@@ -1,6 +1,6 @@
 use mathlib.Core.Path.{◌≡◌, sym, ap, ◌∙◌}
 use Rattle.rows.specs.Rows.{overlay}
-use Rattle.rows.specs.RowLaws.{overlay-nil}
+use Rattle.rows.specs.RowLaws.{overlay_nil}
 use Rattle.reader.specs.StepLaws.{frame_at}
 use borrow.Author.Rules.{rules}
 use Rattle.reader.proofs.within.put_frame.Statement.{statement}
@@ -85,7 +85,7 @@ put-requires-5 : tie.Need-put-requires-5
 put-requires-5 c κs = search rules
 
 returns : tie.Need-returns
-returns c = let a = c.before.before.before.before.args in sym (ap (overlay a.out.now 0) (frame_at a.r _ c.enum_told.given.1) ∙ overlay-nil a.out.now 0)
+returns c = let a = c.before.before.before.before.args in sym (ap (overlay a.out.now 0) (frame_at a.r _ c.enum_told.given.1) ∙ overlay_nil a.out.now 0)
 
 same_length : tie.Need-same-length
 same_length c = search rules
@@ -112,13 +112,13 @@ returns-5 : tie.Need-returns-5
 returns-5 c = let a = c.before.before.before.before.before.before.before.before.before.before.args in c.before.before.put3.ensures ∙ ap (overlay a.out.now 0) (c.before.before.before.before.before.hlta.ensures ∙ sym (frame_at a.r _ c.before.before.before.before.before.before.enum-told3.given.1))
 
 returns-6 : tie.Need-returns-6
-returns-6 c = let a = c.before.before.before.before.args in sym (ap (overlay a.out.now 0) (frame_at a.r _ c.enum-told4.given.1) ∙ overlay-nil a.out.now 0)
+returns-6 c = let a = c.before.before.before.before.args in sym (ap (overlay a.out.now 0) (frame_at a.r _ c.enum-told4.given.1) ∙ overlay_nil a.out.now 0)
 
 returns-7 : tie.Need-returns-7
-returns-7 c = let a = c.before.before.before.before.args in sym (ap (overlay a.out.now 0) (frame_at a.r _ c.enum-told5.given.1) ∙ overlay-nil a.out.now 0)
+returns-7 c = let a = c.before.before.before.before.args in sym (ap (overlay a.out.now 0) (frame_at a.r _ c.enum-told5.given.1) ∙ overlay_nil a.out.now 0)
 
 returns-8 : tie.Need-returns-8
-returns-8 c = let a = c.before.before.before.before.args in sym (ap (overlay a.out.now 0) (frame_at a.r _ c.enum-told6.given.1) ∙ overlay-nil a.out.now 0)
+returns-8 c = let a = c.before.before.before.before.args in sym (ap (overlay a.out.now 0) (frame_at a.r _ c.enum-told6.given.1) ∙ overlay_nil a.out.now 0)
 
 same-length-5 : tie.Need-same-length-5
 same-length-5 c = search rules
@@ -132,8 +132,8 @@ same-length-6 c = search rules
 returns-10 : tie.Need-returns-10
 returns-10 c = let a = c.before.before.before.before.before.before.before.before.before.before.before.args in c.before.before.put5.ensures ∙ ap (overlay a.out.now 0) (c.before.before.before.before.before.select2.ensures ∙ sym (frame_at a.r _ c.before.before.before.before.before.before.before.p3.given.1))
 
-pub put-frame-spec : {M : Type 1} → statement M
-put-frame-spec =
+pub put_frame_spec : {M : Type 1} → statement M
+put_frame_spec =
     tie.close
     (tie.spec
     enum_told

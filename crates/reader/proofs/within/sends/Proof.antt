@@ -10,7 +10,7 @@ frame-bits-requires c κs = search rules
 
 returns : tie.Need-returns
 unfolding sends
-returns c = ap (λ n. turn c.before.args.r (Sends n)) c.frame-bits.ensures
+returns c = ap (λ n. turn c.before.args.r (Sends n)) c.frame_bits.ensures
 
-pub sends-spec : {M : Type 1} → statement M
-sends-spec = tie.close (tie.spec frame-bits-requires returns)
+pub sends_spec : {M : Type 1} → statement M
+sends_spec = tie.close (tie.spec frame-bits-requires returns)

@@ -11,5 +11,5 @@ blank-requires c κs = search rules
 returns : tie.Need-returns
 returns c = ap (λ r. turn r (Declines c.before.args.e)) c.blank.ensures
 
-pub stop-spec : {M : Type 1} → statement M
-stop-spec = tie.close (tie.spec blank-requires returns)
+pub stop_spec : {M : Type 1} → statement M
+stop_spec = tie.close (tie.spec blank-requires returns)

@@ -1,6 +1,6 @@
 -- `reader_b::within::hear_rules` meets its contract, phase by phase. Assumes nothing.
 use mathlib.Core.Path.{◌∙◌}
-use Rattle.reader_b.specs.ReaderBLaws.{by-phase}
+use Rattle.reader_b.specs.ReaderBLaws.{by_phase}
 use borrow.Author.Rules.{rules}
 use Rattle.reader_b.proofs.within.hear_rules.Statement.{statement}
 use Rattle.reader_b.proofs.within.hear_rules.Tie as tie
@@ -38,30 +38,30 @@ turn-requires-2 c κs = search rules
 returns : tie.Need-returns
 returns c =
     let a = c.before.before.before.before.args in
-    c.turn.ensures ∙ by-phase a.r a.row.now _ c.before.enum_told.given.1
+    c.turn.ensures ∙ by_phase a.r a.row.now _ c.before.enum_told.given.1
 
 returns-2 : tie.Need-returns-2
 returns-2 c =
     let a = c.before.before.before.before.args in
-    c.hear-slot.ensures ∙ by-phase a.r a.row.now _ c.before.enum-told2.given.1
+    c.hear-slot.ensures ∙ by_phase a.r a.row.now _ c.before.enum-told2.given.1
 
 returns-3 : tie.Need-returns-3
 returns-3 c =
     let a = c.before.before.before.before.args in
-    c.hear-attrib.ensures ∙ by-phase a.r a.row.now _ c.before.enum-told3.given.1
+    c.hear-attrib.ensures ∙ by_phase a.r a.row.now _ c.before.enum-told3.given.1
 
 returns-4 : tie.Need-returns-4
 returns-4 c =
     let a = c.before.before.before.before.args in
-    c.hear-hltb.ensures ∙ by-phase a.r a.row.now _ c.before.enum-told4.given.1
+    c.hear-hltb.ensures ∙ by_phase a.r a.row.now _ c.before.enum-told4.given.1
 
 returns-5 : tie.Need-returns-5
 returns-5 c =
     let a = c.before.before.before.before.args in
-    c.turn2.ensures ∙ by-phase a.r a.row.now _ c.before.enum-told5.given.1
+    c.turn2.ensures ∙ by_phase a.r a.row.now _ c.before.enum-told5.given.1
 
-pub hear-rules-spec : {M : Type 1} → statement M
-hear-rules-spec =
+pub hear_rules_spec : {M : Type 1} → statement M
+hear_rules_spec =
     tie.close
     (tie.spec
     enum_told

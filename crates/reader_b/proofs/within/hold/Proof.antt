@@ -20,5 +20,5 @@ returns-2 c =
     let a = c.before.before.before.args in
     rw c.new-reader.ensures (ends a.r a.k _ c.before.if1.false)
 
-pub hold-spec : {M : Type 1} → statement M
-hold-spec = tie.close (tie.spec add-t8 returns new-reader-requires returns-2)
+pub hold_spec : {M : Type 1} → statement M
+hold_spec = tie.close (tie.spec add-t8 returns new-reader-requires returns-2)

@@ -37,8 +37,8 @@ returns-2 c =
     let a = g.before.before.args in
     c.before.before.put.ensures ∙ ap (overlay a.out.now 0) m.marker.ensures ∙ row_goes a.t.answer (marker a.t.reader.slot) a.out.now (sym g.goes.ensures ∙ not-false _ m.before.before.if1.false)
 
-pub put-next-spec : {M : Type 1} → statement M
-put-next-spec =
+pub put_next_spec : {M : Type 1} → statement M
+put_next_spec =
     tie.close
     (tie.spec
     goes-requires

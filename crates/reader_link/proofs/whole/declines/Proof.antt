@@ -8,5 +8,5 @@ declined-by-requires c κs = search rules
 returns : tie.Need-returns
 returns c = rw c.declined-by.ensures
 
-pub declines-spec : {M : Type 1} → statement M
-declines-spec = tie.close (tie.spec declined-by-requires returns)
+pub declines_spec : {M : Type 1} → statement M
+declines_spec = tie.close (tie.spec declined-by-requires returns)

@@ -1,9 +1,9 @@
 -- `reader_link::whole::deselect_due` meets its contract, by those of `parts` and `finish`. Assumes nothing.
 use mathlib.Core.Path.{refl, sym, ap, ◌∙◌}
 use mathlib.Core.List.{[]}
-use Rattle.reader_blocks.specs.ReaderFrames.{readerOut, readerDeselect}
-use Rattle.reader_link.specs.ReaderCalls.{linking, deselectIn}
-use Rattle.reader_link.specs.WholeLaws.{two, declined-at}
+use Rattle.reader_blocks.specs.ReaderFrames.{reader_out, reader_deselect}
+use Rattle.reader_link.specs.ReaderCalls.{linking, deselect_in}
+use Rattle.reader_link.specs.WholeLaws.{two, declined_at}
 use borrow.Author.Rules.{rules}
 use Rattle.reader_link.proofs.whole.deselect_due.Statement.{statement}
 use Rattle.reader_link.proofs.whole.deselect_due.Tie as tie
@@ -35,24 +35,24 @@ finish-requires c κs = search rules
 returns : tie.Need-returns
 returns c =
     let a = c.before.before.before.before.before.args in
-    declined-at (λ k. deselectIn k a.x) a.x _ a.out.now c.before.enum_told.given.1 refl c.declines.ensures
+    declined_at (λ k. deselect_in k a.x) a.x _ a.out.now c.before.enum_told.given.1 refl c.declines.ensures
 
 returns-2 : tie.Need-returns-2
 returns-2 c =
     let a = c.before.before.before.before.before.args in
-    declined-at (λ k. deselectIn k a.x) a.x _ a.out.now c.before.enum-told2.given.1 refl c.declines2.ensures
+    declined_at (λ k. deselect_in k a.x) a.x _ a.out.now c.before.enum-told2.given.1 refl c.declines2.ensures
 
 same_length : tie.Need-same-length
 same_length c = search rules
 
 returns-3 : tie.Need-returns-3
-unfolding readerDeselect
+unfolding reader_deselect
 returns-3 c =
     let a = c.before.before.before.before.before.before.before.before.before.before.before.args in
-    two a.out.now (ap (λ s. linking a.x.reader (readerOut s [] [] 0 [])) c.before.before.before.before.before.parts.ensures ∙ sym (ap (λ k. deselectIn k a.x) c.before.before.before.before.before.before.before.link.given.1)) c.before.before.finish.ensures
+    two a.out.now (ap (λ s. linking a.x.reader (reader_out s [] [] 0 [])) c.before.before.before.before.before.parts.ensures ∙ sym (ap (λ k. deselect_in k a.x) c.before.before.before.before.before.before.before.link.given.1)) c.before.before.finish.ensures
 
-pub deselect-due-spec : {M : Type 1} → statement M
-deselect-due-spec =
+pub deselect_due_spec : {M : Type 1} → statement M
+deselect_due_spec =
     tie.close
     (tie.spec
     enum_told

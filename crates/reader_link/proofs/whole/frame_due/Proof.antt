@@ -26,8 +26,8 @@ returns-2 c = search rules
 returns-3 : tie.Need-returns-3
 returns-3 c = rw (c.awaits-block.ensures, c.before.before.link.given.1)
 
-pub frame-due-spec : {M : Type 1} → statement M
-frame-due-spec =
+pub frame_due_spec : {M : Type 1} → statement M
+frame_due_spec =
     tie.close
     (tie.spec
     enum_told

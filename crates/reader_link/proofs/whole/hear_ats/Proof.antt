@@ -25,8 +25,8 @@ returns c = rw (c.«open».ensures, sym c.before.before.before.before.read-ats.e
 returns-2 : tie.Need-returns-2
 returns-2 c = rw (c.over.ensures, sym c.before.before.before.before.read-ats.ensures.0 ∙ c.before.before.a2.given.1)
 
-pub hear-ats-spec : {M : Type 1} → statement M
-hear-ats-spec =
+pub hear_ats_spec : {M : Type 1} → statement M
+hear_ats_spec =
     tie.close
     (tie.spec
     read-ats-requires

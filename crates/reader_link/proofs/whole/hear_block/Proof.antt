@@ -19,8 +19,8 @@ same-length-2 c = search rules
 returns : tie.Need-returns
 returns c =
     let a = c.before.before.before.before.before.before.before.before.before.before.before.before.args in
-    block_made a.r a.l a.row.now a.message.now a.buffer.now a.out.now c.before.before.before.before.before.before.hear-row.result c.before.before.before.before.before.before.hear-row.ensures c.before.before.finish.ensures
+    block_made a.r a.l a.row.now a.message.now a.buffer.now a.out.now c.before.before.before.before.before.before.hear_row.result c.before.before.before.before.before.before.hear_row.ensures c.before.before.finish.ensures
 
-pub hear-block-spec : {M : Type 1} → statement M
-hear-block-spec =
+pub hear_block_spec : {M : Type 1} → statement M
+hear_block_spec =
     tie.close (tie.spec hear-row-requires finish-requires same_length same-length-2 returns)

@@ -1,5 +1,5 @@
 -- `reader_link::whole::hear_due` meets its contract, by how far the reader is. Assumes nothing.
-use Rattle.reader_link.specs.WholeLaws.{hears-selecting, hears-ats, hears-block}
+use Rattle.reader_link.specs.WholeLaws.{hears_selecting, hears_ats, hears_block}
 use borrow.Author.Rules.{rules}
 use Rattle.reader_link.proofs.whole.hear_due.Statement.{statement}
 use Rattle.reader_link.proofs.whole.hear_due.Tie as tie
@@ -28,12 +28,12 @@ same_length c = search rules
 returns : tie.Need-returns
 returns c =
     let a = c.before.before.before.before.before.before.before.before.before.before.before.args in
-    hears-selecting a.x a.row.now a.message.now a.buffer.now a.out.now c.before.before.before.before.enum_told.given.1 c.before.before.hear-selecting.ensures
+    hears_selecting a.x a.row.now a.message.now a.buffer.now a.out.now c.before.before.before.before.enum_told.given.1 c.before.before.hear-selecting.ensures
 
 returns-2 : tie.Need-returns-2
 returns-2 c =
     let a = c.before.before.before.before.before.before.before.before.before.args in
-    hears-ats a.x a.row.now a.message.now a.buffer.now a.out.now _ c.before.before.link.given.1 c.hear-ats.ensures
+    hears_ats a.x a.row.now a.message.now a.buffer.now a.out.now _ c.before.before.link.given.1 c.hear-ats.ensures
 
 same-length-2 : tie.Need-same-length-2
 same-length-2 c = search rules
@@ -44,10 +44,10 @@ same-length-3 c = search rules
 returns-3 : tie.Need-returns-3
 returns-3 c =
     let a = c.before.before.before.before.before.before.before.before.before.before.before.before.before.before.before.args in
-    hears-block a.x a.row.now a.message.now a.buffer.now a.out.now _ c.before.before.before.before.before.before.before.before.link2.given.1 c.before.before.before.before.hear-block.ensures
+    hears_block a.x a.row.now a.message.now a.buffer.now a.out.now _ c.before.before.before.before.before.before.before.before.link2.given.1 c.before.before.before.before.hear_block.ensures
 
-pub hear-due-spec : {M : Type 1} → statement M
-hear-due-spec =
+pub hear_due_spec : {M : Type 1} → statement M
+hear_due_spec =
     tie.close
     (tie.spec
     enum_told

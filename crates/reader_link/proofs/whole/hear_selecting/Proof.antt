@@ -19,6 +19,6 @@ same_length c = search rules
 returns : tie.Need-returns
 returns c = two c.before.before.before.before.before.before.before.args.out.now (ap (λ t. selecting t []) c.before.before.before.before.hear-rules.ensures) c.before.before.select-turn.ensures
 
-pub hear-selecting-spec : {M : Type 1} → statement M
-hear-selecting-spec =
+pub hear_selecting_spec : {M : Type 1} → statement M
+hear_selecting_spec =
     tie.close (tie.spec hear-rules-requires select-turn-requires same_length returns)

@@ -38,8 +38,8 @@ returns-4 c = rw (c.over.ensures, c.before.enum-told4.given.1)
 returns-5 : tie.Need-returns-5
 returns-5 c = rw (c.over2.ensures, c.before.enum-told5.given.1)
 
-pub linked-spec : {M : Type 1} → statement M
-linked-spec =
+pub linked_spec : {M : Type 1} → statement M
+linked_spec =
     tie.close
     (tie.spec
     enum_told

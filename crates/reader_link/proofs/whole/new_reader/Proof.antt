@@ -8,5 +8,5 @@ new-reader-requires c κs = search rules
 returns : tie.Need-returns
 returns c = rw c.new-reader.ensures
 
-pub new-reader-spec : {M : Type 1} → statement M
-new-reader-spec = tie.close (tie.spec new-reader-requires returns)
+pub new_reader_spec : {M : Type 1} → statement M
+new_reader_spec = tie.close (tie.spec new-reader-requires returns)

@@ -8,5 +8,5 @@ blank-requires c κs = search rules
 returns : tie.Need-returns
 returns c = rw c.blank.ensures
 
-pub over-spec : {M : Type 1} → statement M
-over-spec = tie.close (tie.spec blank-requires returns)
+pub over_spec : {M : Type 1} → statement M
+over_spec = tie.close (tie.spec blank-requires returns)

@@ -23,8 +23,8 @@ returns-2 c = search rules
 returns-3 : tie.Need-returns-3
 returns-3 c = search rules
 
-pub rats-due-spec : {M : Type 1} → statement M
-rats-due-spec =
+pub rats_due_spec : {M : Type 1} → statement M
+rats_due_spec =
     tie.close
     (tie.spec
     enum_told

@@ -14,5 +14,5 @@ returns : tie.Need-returns
 unfolding selecting
 returns c = (refl, c.before.before.before.put-sent.ensures)
 
-pub select-turn-spec : {M : Type 1} → statement M
-select-turn-spec = tie.close (tie.spec put-sent-requires same_length returns)
+pub select_turn_spec : {M : Type 1} → statement M
+select_turn_spec = tie.close (tie.spec put-sent-requires same_length returns)

@@ -12,5 +12,5 @@ returns c = rw (sym c.before.before.is-selected.ensures ∙ c.before.if1.true)
 returns-2 : tie.Need-returns-2
 returns-2 c = search rules
 
-pub selects-blocks-spec : {M : Type 1} → statement M
-selects-blocks-spec = tie.close (tie.spec is-selected-requires returns returns-2)
+pub selects_blocks_spec : {M : Type 1} → statement M
+selects_blocks_spec = tie.close (tie.spec is-selected-requires returns returns-2)

@@ -1,9 +1,9 @@
 -- `reader_link::whole::send` meets its contract, by that of `send_due`. Assumes nothing.
 use mathlib.Core.Path.{sym, ◌∙◌}
 use borrow.Author.Tests.{not-true, not-false}
-use Rattle.reader_link.specs.ReaderCalls.{between, sendCall}
-use Rattle.reader_link.specs.WholeLaws.{two-not-due, two-no-room, two-is-due}
-use Rattle.reader_link.specs.SaysLaws.{send-said}
+use Rattle.reader_link.specs.ReaderCalls.{between, send_call}
+use Rattle.reader_link.specs.WholeLaws.{two_not_due, two_no_room, two_is_due}
+use Rattle.reader_link.specs.SaysLaws.{send_said}
 use borrow.Author.Rules.{rules}
 use Rattle.reader_link.proofs.whole.send.Statement.{statement}
 use Rattle.reader_link.proofs.whole.send.Tie as tie
@@ -15,21 +15,21 @@ declines-requires : tie.Need-declines-requires
 declines-requires c κs = search rules
 
 returns : tie.Need-returns
-unfolding sendCall
+unfolding send_call
 returns c =
     let a = c.before.before.before.before.before.args in
-    send-said a.x a.out.now a.message.now
-    (two-not-due (between a.x.link) a.x _ a.out.now (sym c.before.before.is-between.ensures ∙ not-true _ c.before.if1.true) c.declines.ensures)
+    send_said a.x a.out.now a.message.now
+    (two_not_due (between a.x.link) a.x _ a.out.now (sym c.before.before.is-between.ensures ∙ not-true _ c.before.if1.true) c.declines.ensures)
 
 declines-requires-2 : tie.Need-declines-requires-2
 declines-requires-2 c κs = search rules
 
 returns-2 : tie.Need-returns-2
-unfolding sendCall
+unfolding send_call
 returns-2 c =
     let a = c.before.before.before.before.before.before.args in
-    send-said a.x a.out.now a.message.now
-    (two-no-room (between a.x.link) a.x _ a.out.now (sym c.before.before.before.is-between.ensures ∙ not-false _ c.before.before.if1.false) c.before.if2.true c.declines2.ensures)
+    send_said a.x a.out.now a.message.now
+    (two_no_room (between a.x.link) a.x _ a.out.now (sym c.before.before.before.is-between.ensures ∙ not-false _ c.before.before.if1.false) c.before.if2.true c.declines2.ensures)
 
 send-due-requires : tie.Need-send-due-requires
 send-due-requires c κs = search rules
@@ -38,14 +38,14 @@ same_length : tie.Need-same-length
 same_length c = search rules
 
 returns-3 : tie.Need-returns-3
-unfolding sendCall
+unfolding send_call
 returns-3 c =
     let a = c.before.before.before.before.before.before.before.before.before.args in
-    send-said a.x a.out.now a.message.now
-    (two-is-due (between a.x.link) a.x _ a.out.now (sym c.before.before.before.before.before.before.is-between.ensures ∙ not-false _ c.before.before.before.before.before.if1.false) c.before.before.before.before.if2.false c.before.before.send-due.ensures)
+    send_said a.x a.out.now a.message.now
+    (two_is_due (between a.x.link) a.x _ a.out.now (sym c.before.before.before.before.before.before.is-between.ensures ∙ not-false _ c.before.before.before.before.before.if1.false) c.before.before.before.before.if2.false c.before.before.send-due.ensures)
 
-pub send-spec : {M : Type 1} → statement M
-send-spec =
+pub send_spec : {M : Type 1} → statement M
+send_spec =
     tie.close
     (tie.spec
     is-between-requires

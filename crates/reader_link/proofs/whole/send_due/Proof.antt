@@ -1,9 +1,9 @@
 -- `reader_link::whole::send_due` meets its contract, by those of `starts` and `finish`. Assumes nothing.
 use mathlib.Core.Path.{refl, sym, ap, ◌∙◌}
 use mathlib.Core.List.{[]}
-use Rattle.reader_blocks.specs.ReaderFrames.{readerOut, readerSend}
-use Rattle.reader_link.specs.ReaderCalls.{linking, sendIn}
-use Rattle.reader_link.specs.WholeLaws.{two, declined-at}
+use Rattle.reader_blocks.specs.ReaderFrames.{reader_out, reader_send}
+use Rattle.reader_link.specs.ReaderCalls.{linking, send_in}
+use Rattle.reader_link.specs.WholeLaws.{two, declined_at}
 use borrow.Author.Rules.{rules}
 use Rattle.reader_link.proofs.whole.send_due.Statement.{statement}
 use Rattle.reader_link.proofs.whole.send_due.Tie as tie
@@ -32,24 +32,24 @@ finish-requires c κs = search rules
 returns : tie.Need-returns
 returns c =
     let a = c.before.before.before.before.before.before.args in
-    declined-at (λ k. sendIn k a.x a.message.now) a.x _ a.out.now c.before.enum_told.given.1 refl c.declines.ensures
+    declined_at (λ k. send_in k a.x a.message.now) a.x _ a.out.now c.before.enum_told.given.1 refl c.declines.ensures
 
 returns-2 : tie.Need-returns-2
 returns-2 c =
     let a = c.before.before.before.before.before.before.args in
-    declined-at (λ k. sendIn k a.x a.message.now) a.x _ a.out.now c.before.enum-told2.given.1 refl c.declines2.ensures
+    declined_at (λ k. send_in k a.x a.message.now) a.x _ a.out.now c.before.enum-told2.given.1 refl c.declines2.ensures
 
 same_length : tie.Need-same-length
 same_length c = search rules
 
 returns-3 : tie.Need-returns-3
-unfolding readerSend
+unfolding reader_send
 returns-3 c =
     let a = c.before.before.before.before.before.before.before.before.before.before.before.args in
-    two a.out.now (ap (λ s. linking a.x.reader (readerOut s a.message.now [] 0 [])) c.before.before.before.before.starts.ensures ∙ sym (ap (λ k. sendIn k a.x a.message.now) c.before.before.before.before.before.before.link.given.1)) c.before.before.finish.ensures
+    two a.out.now (ap (λ s. linking a.x.reader (reader_out s a.message.now [] 0 [])) c.before.before.before.before.starts.ensures ∙ sym (ap (λ k. send_in k a.x a.message.now) c.before.before.before.before.before.before.link.given.1)) c.before.before.finish.ensures
 
-pub send-due-spec : {M : Type 1} → statement M
-send-due-spec =
+pub send_due_spec : {M : Type 1} → statement M
+send_due_spec =
     tie.close
     (tie.spec
     enum_told

@@ -3,9 +3,9 @@ use mathlib.Core.Path.{sym, ap, ◌∙◌}
 use mathlib.Core.List.{[]}
 use borrow.Author.Tests.{not-true, not-false}
 use Rattle.reader.specs.Reader.{sends}
-use Rattle.reader_link.specs.ReaderCalls.{isNewIn, selecting, startCall}
-use Rattle.reader_link.specs.WholeLaws.{two, two-not-due, two-no-room, two-is-due}
-use Rattle.reader_link.specs.SaysLaws.{start-said}
+use Rattle.reader_link.specs.ReaderCalls.{is_new_in, selecting, start_call}
+use Rattle.reader_link.specs.WholeLaws.{two, two_not_due, two_no_room, two_is_due}
+use Rattle.reader_link.specs.SaysLaws.{start_said}
 use borrow.Author.Rules.{rules}
 use Rattle.reader_link.proofs.whole.start.Statement.{statement}
 use Rattle.reader_link.proofs.whole.start.Tie as tie
@@ -17,21 +17,21 @@ declines-requires : tie.Need-declines-requires
 declines-requires c κs = search rules
 
 returns : tie.Need-returns
-unfolding startCall
+unfolding start_call
 returns c =
     let a = c.before.before.before.before.before.args in
-    start-said a.x a.out.now a.sweeps
-    (two-not-due (isNewIn a.x.link a.x.reader) a.x _ a.out.now (sym c.before.before.is-new.ensures ∙ not-true _ c.before.if1.true) c.declines.ensures)
+    start_said a.x a.out.now a.sweeps
+    (two_not_due (is_new_in a.x.link a.x.reader) a.x _ a.out.now (sym c.before.before.is-new.ensures ∙ not-true _ c.before.if1.true) c.declines.ensures)
 
 declines-requires-2 : tie.Need-declines-requires-2
 declines-requires-2 c κs = search rules
 
 returns-2 : tie.Need-returns-2
-unfolding startCall
+unfolding start_call
 returns-2 c =
     let a = c.before.before.before.before.before.before.args in
-    start-said a.x a.out.now a.sweeps
-    (two-no-room (isNewIn a.x.link a.x.reader) a.x _ a.out.now (sym c.before.before.before.is-new.ensures ∙ not-false _ c.before.before.if1.false) c.before.if2.true c.declines2.ensures)
+    start_said a.x a.out.now a.sweeps
+    (two_no_room (is_new_in a.x.link a.x.reader) a.x _ a.out.now (sym c.before.before.before.is-new.ensures ∙ not-false _ c.before.before.if1.false) c.before.if2.true c.declines2.ensures)
 
 blank-requires : tie.Need-blank-requires
 blank-requires c κs = search rules
@@ -46,12 +46,12 @@ same_length : tie.Need-same-length
 same_length c = search rules
 
 returns-3 : tie.Need-returns-3
-unfolding startCall
+unfolding start_call
 returns-3 c =
     let a = c.before.before.before.before.before.before.before.before.before.before.before.args in
     let n = sym c.before.before.before.before.before.before.before.before.is-new.ensures ∙ not-false _ c.before.before.before.before.before.before.before.if1.false in
-    start-said a.x a.out.now a.sweeps
-    (two-is-due (isNewIn a.x.link a.x.reader) a.x _ a.out.now n c.before.before.before.before.before.before.if2.false
+    start_said a.x a.out.now a.sweeps
+    (two_is_due (is_new_in a.x.link a.x.reader) a.x _ a.out.now n c.before.before.before.before.before.before.if2.false
     (two a.out.now (ap (λ t. selecting t []) (c.before.before.before.before.sends.ensures ∙ ap sends c.before.before.before.before.before.blank.ensures)) c.before.before.select-turn.ensures))
 
 pub start_spec : {M : Type 1} → statement M

@@ -29,8 +29,8 @@ same_length c = search rules
 returns : tie.Need-returns
 returns c = rw (c.before.before.before.before.before.before.before.head-for.ensures, c.before.before.before.before.blank.ensures) at c.before.before.send-request.ensures
 
-pub lock-spec : {M : Type 1} → statement M
-lock-spec =
+pub lock_spec : {M : Type 1} → statement M
+lock_spec =
     tie.close
     (tie.spec
     head-for-requires

@@ -35,8 +35,8 @@ same_length c = search rules
 returns : tie.Need-returns
 returns c = rw (c.before.before.before.before.before.before.before.before.before.is-count.ensures, c.before.before.before.before.before.before.before.head-for.ensures, c.before.before.before.before.reading.ensures, c.before.before.before.before.before.before.before.before.less_one.ensures) at c.before.before.send-request.ensures
 
-pub reads-spec : {M : Type 1} → statement M
-reads-spec =
+pub reads_spec : {M : Type 1} → statement M
+reads_spec =
     tie.close
     (tie.spec
     is-count-requires

@@ -32,8 +32,8 @@ same_length c = search rules
 returns : tie.Need-returns
 returns c = rw (c.before.before.before.before.before.before.before.head-for.ensures, c.before.before.before.before.blank.ensures) at c.before.before.send-request.ensures
 
-pub select-spec : {M : Type 1} → statement M
-select-spec =
+pub select_spec : {M : Type 1} → statement M
+select_spec =
     tie.close
     (tie.spec
     head-for-requires

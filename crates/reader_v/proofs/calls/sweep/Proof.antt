@@ -19,6 +19,6 @@ same_length c = search rules
 returns : tie.Need-returns
 returns c = rw (c.before.before.before.before.start.ensures, c.before.before.before.before.before.round-for.ensures) at c.before.before.send-round.ensures
 
-pub sweep-spec : {M : Type 1} → statement M
-sweep-spec =
+pub sweep_spec : {M : Type 1} → statement M
+sweep_spec =
     tie.close (tie.spec round-for-requires start-requires send-round-requires same_length returns)

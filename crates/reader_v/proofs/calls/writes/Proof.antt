@@ -29,8 +29,8 @@ same_length c = search rules
 returns : tie.Need-returns
 returns c = rw (c.before.before.before.before.before.before.before.before.is-filling.ensures, c.before.before.before.before.before.before.less_one.ensures, c.before.before.before.before.before.before.before.head-for.ensures, c.before.before.before.before.blank.ensures) at c.before.before.send-request.ensures
 
-pub writes-spec : {M : Type 1} → statement M
-writes-spec =
+pub writes_spec : {M : Type 1} → statement M
+writes_spec =
     tie.close
     (tie.spec
     is-filling-requires

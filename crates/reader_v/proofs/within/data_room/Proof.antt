@@ -40,7 +40,7 @@ returns-4 : tie.Need-returns-4
 returns-4 c = search rules
 
 returns-5 : tie.Need-returns-5
-returns-5 c = rw c.before.enum-told5.given.1 c.read-room.ensures
+returns-5 c = rw c.before.enum-told5.given.1 c.read_room.ensures
 
 returns-6 : tie.Need-returns-6
 returns-6 c = search rules
@@ -48,8 +48,8 @@ returns-6 c = search rules
 returns-7 : tie.Need-returns-7
 returns-7 c = search rules
 
-pub data-room-spec : {M : Type 1} → statement M
-data-room-spec =
+pub data_room_spec : {M : Type 1} → statement M
+data_room_spec =
     tie.close
     (tie.spec
     enum_told

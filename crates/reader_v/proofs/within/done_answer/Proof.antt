@@ -10,5 +10,5 @@ returns c = rw c.if1.true
 returns-2 : tie.Need-returns-2
 returns-2 c = rw c.if1.false
 
-pub done-answer-spec : {M : Type 1} → statement M
-done-answer-spec = tie.close (tie.spec returns returns-2)
+pub done_answer_spec : {M : Type 1} → statement M
+done_answer_spec = tie.close (tie.spec returns returns-2)

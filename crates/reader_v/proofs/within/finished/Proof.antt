@@ -45,8 +45,8 @@ returns-3 : tie.Need-returns-3
 unfolding finished
 returns-3 c = rw (not-false c.before.before.before.before.before.args.sweeps c.before.before.before.before.if1.false, ← c.before.before.before.first-met.ensures, le-ltb _ 240 c.before.before.if2.false, c.telling3.ensures, c.before.blank2.ensures)
 
-pub finished-spec : {M : Type 1} → statement M
-finished-spec =
+pub finished_spec : {M : Type 1} → statement M
+finished_spec =
     tie.close
     (tie.spec
     blank-requires

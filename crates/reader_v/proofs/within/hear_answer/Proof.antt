@@ -44,8 +44,8 @@ returns-2 c = (rw (c.turn2.ensures, c.before.blank2.ensures) (answered c.before.
 returns-3 : tie.Need-returns-3
 returns-3 c = c.stop.ensures ∙ answered c.before.before.before.before.before.before.args.reads c.before.before.before.before.before.before.args.count c.before.before.before.before.before.before.args.status c.before.before.before.before.before.before.args.row.now c.before.before.before.before.read_answer.result _ c.before.before.before.before.read_answer.ensures.0 c.before.before.s3.given.1
 
-pub hear-answer-spec : {M : Type 1} → statement M
-hear-answer-spec =
+pub hear_answer_spec : {M : Type 1} → statement M
+hear_answer_spec =
     tie.close
     (tie.spec
     read-answer-requires

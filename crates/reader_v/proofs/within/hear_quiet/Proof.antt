@@ -1,7 +1,7 @@
 -- `reader_v::within::hear_quiet` meets its contract: the definition has the same tests. Assumes nothing.
 use borrow.Author.Tests.{eq-eqb, ne_eqb, le-leb, lt-leb, lt-ltb, le-ltb, not-true, not-false}
 use mathlib.Core.Path.{◌≡◌, refl, sym, ap, ◌∙◌}
-use Rattle.rows.specs.CleanLaws.{not-nil}
+use Rattle.rows.specs.CleanLaws.{not_nil}
 use Rattle.answer_v.specs.HeardLaws.{nil_is}
 use borrow.Author.Rules.{rules}
 use native.Mathlib.Omega.{arith}
@@ -21,7 +21,7 @@ stop-requires : tie.Need-stop-requires
 stop-requires c κs = search rules
 
 returns-2 : tie.Need-returns-2
-returns-2 c = rw (not-nil c.before.before.before.args.row.now (omega (arith, c.before.if1.false))) c.stop.ensures
+returns-2 c = rw (not_nil c.before.before.before.args.row.now (omega (arith, c.before.if1.false))) c.stop.ensures
 
-pub hear-quiet-spec : {M : Type 1} → statement M
-hear-quiet-spec = tie.close (tie.spec blank-requires turn-requires returns stop-requires returns-2)
+pub hear_quiet_spec : {M : Type 1} → statement M
+hear_quiet_spec = tie.close (tie.spec blank-requires turn-requires returns stop-requires returns-2)

@@ -1,6 +1,6 @@
 -- `reader_v::within::hear_rules` meets its contract: the definition has the same cases. Assumes nothing.
 use mathlib.Core.Path.{◌≡◌, ◌∙◌}
-use Rattle.reader_v.specs.HearLaws.{by-phase}
+use Rattle.reader_v.specs.HearLaws.{by_phase}
 use Rattle.reader_v.specs.declared.PhaseV.TheVariants.{Ready, InRound, InSweep, QuietSent, ReadSent, OtherSent, Stopped}
 use borrow.Author.Rules.{rules}
 use Rattle.reader_v.proofs.within.hear_rules.Statement.{statement}
@@ -49,28 +49,28 @@ turn-requires-2 : tie.Need-turn-requires-2
 turn-requires-2 c κs = search rules
 
 returns : tie.Need-returns
-returns c = c.turn.ensures ∙ by-phase c.before.before.before.before.args.r c.before.before.before.before.args.row.now Ready c.before.enum_told.given.1
+returns c = c.turn.ensures ∙ by_phase c.before.before.before.before.args.r c.before.before.before.before.args.row.now Ready c.before.enum_told.given.1
 
 returns-2 : tie.Need-returns-2
-returns-2 c = c.hear-slot.ensures ∙ by-phase c.before.before.before.before.args.r c.before.before.before.before.args.row.now InRound c.before.enum-told2.given.1
+returns-2 c = c.hear-slot.ensures ∙ by_phase c.before.before.before.before.args.r c.before.before.before.before.args.row.now InRound c.before.enum-told2.given.1
 
 returns-3 : tie.Need-returns-3
-returns-3 c = c.hear-slot2.ensures ∙ by-phase c.before.before.before.before.args.r c.before.before.before.before.args.row.now InSweep c.before.enum-told3.given.1
+returns-3 c = c.hear-slot2.ensures ∙ by_phase c.before.before.before.before.args.r c.before.before.before.before.args.row.now InSweep c.before.enum-told3.given.1
 
 returns-4 : tie.Need-returns-4
-returns-4 c = c.hear-quiet.ensures ∙ by-phase c.before.before.before.before.args.r c.before.before.before.before.args.row.now QuietSent c.before.enum-told4.given.1
+returns-4 c = c.hear-quiet.ensures ∙ by_phase c.before.before.before.before.args.r c.before.before.before.before.args.row.now QuietSent c.before.enum-told4.given.1
 
 returns-5 : tie.Need-returns-5
-returns-5 c = c.hear-answer.ensures ∙ by-phase c.before.before.before.before.args.r c.before.before.before.before.args.row.now ReadSent c.before.enum-told5.given.1
+returns-5 c = c.hear-answer.ensures ∙ by_phase c.before.before.before.before.args.r c.before.before.before.before.args.row.now ReadSent c.before.enum-told5.given.1
 
 returns-6 : tie.Need-returns-6
-returns-6 c = c.hear-answer2.ensures ∙ by-phase c.before.before.before.before.args.r c.before.before.before.before.args.row.now OtherSent c.before.enum-told6.given.1
+returns-6 c = c.hear-answer2.ensures ∙ by_phase c.before.before.before.before.args.r c.before.before.before.before.args.row.now OtherSent c.before.enum-told6.given.1
 
 returns-7 : tie.Need-returns-7
-returns-7 c = c.turn2.ensures ∙ by-phase c.before.before.before.before.args.r c.before.before.before.before.args.row.now Stopped c.before.enum-told7.given.1
+returns-7 c = c.turn2.ensures ∙ by_phase c.before.before.before.before.args.r c.before.before.before.before.args.row.now Stopped c.before.enum-told7.given.1
 
-pub hear-rules-spec : {M : Type 1} → statement M
-hear-rules-spec =
+pub hear_rules_spec : {M : Type 1} → statement M
+hear_rules_spec =
     tie.close
     (tie.spec
     enum_told

@@ -10,5 +10,5 @@ returns c = rw c.if1.true
 returns-2 : tie.Need-returns-2
 returns-2 c = rw c.if1.false
 
-pub is-deep-spec : {M : Type 1} → statement M
-is-deep-spec = tie.close (tie.spec returns returns-2)
+pub is_deep_spec : {M : Type 1} → statement M
+is_deep_spec = tie.close (tie.spec returns returns-2)

@@ -18,5 +18,5 @@ returns-2 : tie.Need-returns-2
 unfolding less_one
 returns-2 c = refl
 
-pub less-one-spec : {M : Type 1} → statement M
-less-one-spec = tie.close (tie.spec returns cast-result returns-2)
+pub less_one_spec : {M : Type 1} → statement M
+less_one_spec = tie.close (tie.spec returns cast-result returns-2)

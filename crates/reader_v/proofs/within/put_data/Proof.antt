@@ -2,9 +2,9 @@
 use Prim.Native.Nat.{◌-◌}
 use mathlib.Core.Path.{◌≡◌, sym, ◌∙◌}
 use lib.ListN.{length, length-take, length-drop}
-use Rattle.rows.specs.HeardLaws.{clean-take, clean_drop}
-use Rattle.rows.specs.RowLaws.{overlay-nil}
-use Rattle.reader_v.specs.SafeLaws.{rest-is}
+use Rattle.rows.specs.HeardLaws.{clean_take, clean_drop}
+use Rattle.rows.specs.RowLaws.{overlay_nil}
+use Rattle.reader_v.specs.SafeLaws.{rest_is}
 use borrow.Author.Rules.{rules}
 use native.Mathlib.Omega.{arith}
 use Rattle.reader_v.proofs.within.put_data.Statement.{statement}
@@ -38,7 +38,7 @@ part-bytes-of-end : tie.Need-slice-bounds-bytes-of-end
 part-bytes-of-end c = search rules
 
 bytes-of-requires : tie.Need-bytes-of-requires
-bytes-of-requires c κs = let h = rw c.before.before.before.a.given.1 at c.before.before.before.before.before.before.before.requires in (rw (length-take, length-drop) (omega (arith, h.0)), h.1, clean-take (length c.before.before.before.before.before.before.before.args.row.now - 8) _ (clean_drop 8 _ h.2))
+bytes-of-requires c κs = let h = rw c.before.before.before.a.given.1 at c.before.before.before.before.before.before.before.requires in (rw (length-take, length-drop) (omega (arith, h.0)), h.1, clean_take (length c.before.before.before.before.before.before.before.args.row.now - 8) _ (clean_drop 8 _ h.2))
 
 enum-told-6 : tie.Need-enum-told-6
 enum-told-6 c = search rules
@@ -50,37 +50,37 @@ enum-told-8 : tie.Need-enum-told-8
 enum-told-8 c = search rules
 
 returns : tie.Need-returns
-returns c = rw c.enum_told.given.1 (sym (overlay-nil _ 0))
+returns c = rw c.enum_told.given.1 (sym (overlay_nil _ 0))
 
 returns-2 : tie.Need-returns-2
-returns-2 c = rw c.enum-told2.given.1 (sym (overlay-nil _ 0))
+returns-2 c = rw c.enum-told2.given.1 (sym (overlay_nil _ 0))
 
 returns-3 : tie.Need-returns-3
-returns-3 c = rw c.enum-told3.given.1 (sym (overlay-nil _ 0))
+returns-3 c = rw c.enum-told3.given.1 (sym (overlay_nil _ 0))
 
 returns-4 : tie.Need-returns-4
-returns-4 c = rw c.enum-told4.given.1 (sym (overlay-nil _ 0))
+returns-4 c = rw c.enum-told4.given.1 (sym (overlay_nil _ 0))
 
 returns-5 : tie.Need-returns-5
-returns-5 c = rw c.enum-told5.given.1 (sym (overlay-nil _ 0))
+returns-5 c = rw c.enum-told5.given.1 (sym (overlay_nil _ 0))
 
 same_length : tie.Need-same-length
 same_length c = search rules
 
 returns-6 : tie.Need-returns-6
-returns-6 c = rw (c.before.before.before.before.before.before.a.given.1, ← rest-is c.before.before.before.before.before.before.before.before.before.before.args.row.now 8) c.before.before.bytes_of.ensures
+returns-6 c = rw (c.before.before.before.before.before.before.a.given.1, ← rest_is c.before.before.before.before.before.before.before.before.before.before.args.row.now 8) c.before.before.bytes_of.ensures
 
 returns-7 : tie.Need-returns-7
-returns-7 c = rw c.enum-told6.given.1 (sym (overlay-nil _ 0))
+returns-7 c = rw c.enum-told6.given.1 (sym (overlay_nil _ 0))
 
 returns-8 : tie.Need-returns-8
-returns-8 c = rw c.enum-told7.given.1 (sym (overlay-nil _ 0))
+returns-8 c = rw c.enum-told7.given.1 (sym (overlay_nil _ 0))
 
 returns-9 : tie.Need-returns-9
-returns-9 c = rw c.enum-told8.given.1 (sym (overlay-nil _ 0))
+returns-9 c = rw c.enum-told8.given.1 (sym (overlay_nil _ 0))
 
-pub put-data-spec : {M : Type 1} → statement M
-put-data-spec =
+pub put_data_spec : {M : Type 1} → statement M
+put_data_spec =
     tie.close
     (tie.spec
     enum_told

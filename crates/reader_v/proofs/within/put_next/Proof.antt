@@ -1,7 +1,7 @@
 -- `reader_v::within::put_next` meets its contract: the definition has the same cases. Assumes nothing.
 use mathlib.Core.Path.{◌≡◌, refl, sym}
-use Rattle.rows.specs.RowLaws.{overlay-nil}
-use Rattle.reader_v.specs.HearV.{outFrame}
+use Rattle.rows.specs.RowLaws.{overlay_nil}
+use Rattle.reader_v.specs.HearV.{out_frame}
 use borrow.Author.Rules.{rules}
 use Rattle.reader_v.proofs.within.put_next.Statement.{statement}
 use Rattle.reader_v.proofs.within.put_next.Tie as tie
@@ -37,46 +37,46 @@ enum-told-9 : tie.Need-enum-told-9
 enum-told-9 c = search rules
 
 returns : tie.Need-returns
-unfolding outFrame
-returns c = rw c.enum_told.given.1 (refl, sym (overlay-nil _ 0))
+unfolding out_frame
+returns c = rw c.enum_told.given.1 (refl, sym (overlay_nil _ 0))
 
 returns-2 : tie.Need-returns-2
-unfolding outFrame
-returns-2 c = rw c.enum-told2.given.1 (refl, sym (overlay-nil _ 0))
+unfolding out_frame
+returns-2 c = rw c.enum-told2.given.1 (refl, sym (overlay_nil _ 0))
 
 same_length : tie.Need-same-length
 same_length c = search rules
 
 returns-3 : tie.Need-returns-3
-unfolding outFrame
+unfolding out_frame
 returns-3 c = rw c.before.before.before.before.before.enum-told3.given.1 c.before.before.put-round.ensures
 
 returns-4 : tie.Need-returns-4
-unfolding outFrame
-returns-4 c = rw c.enum-told4.given.1 (refl, sym (overlay-nil _ 0))
+unfolding out_frame
+returns-4 c = rw c.enum-told4.given.1 (refl, sym (overlay_nil _ 0))
 
 returns-5 : tie.Need-returns-5
-unfolding outFrame
-returns-5 c = rw c.enum-told5.given.1 (refl, sym (overlay-nil _ 0))
+unfolding out_frame
+returns-5 c = rw c.enum-told5.given.1 (refl, sym (overlay_nil _ 0))
 
 returns-6 : tie.Need-returns-6
-unfolding outFrame
-returns-6 c = rw c.enum-told6.given.1 (refl, sym (overlay-nil _ 0))
+unfolding out_frame
+returns-6 c = rw c.enum-told6.given.1 (refl, sym (overlay_nil _ 0))
 
 returns-7 : tie.Need-returns-7
-unfolding outFrame
-returns-7 c = rw c.enum-told7.given.1 (refl, sym (overlay-nil _ 0))
+unfolding out_frame
+returns-7 c = rw c.enum-told7.given.1 (refl, sym (overlay_nil _ 0))
 
 returns-8 : tie.Need-returns-8
-unfolding outFrame
-returns-8 c = rw c.enum-told8.given.1 (refl, sym (overlay-nil _ 0))
+unfolding out_frame
+returns-8 c = rw c.enum-told8.given.1 (refl, sym (overlay_nil _ 0))
 
 returns-9 : tie.Need-returns-9
-unfolding outFrame
-returns-9 c = rw c.enum-told9.given.1 (refl, sym (overlay-nil _ 0))
+unfolding out_frame
+returns-9 c = rw c.enum-told9.given.1 (refl, sym (overlay_nil _ 0))
 
-pub put-next-spec : {M : Type 1} → statement M
-put-next-spec =
+pub put_next_spec : {M : Type 1} → statement M
+put_next_spec =
     tie.close
     (tie.spec
     enum_told

@@ -22,5 +22,5 @@ mul-result c = let h = mul-le-mul {n₁ = c.before.before.args.r.count + 1} {m�
 returns : tie.Need-returns
 returns c = ap (λ x. (c.before.before.args.r.count + 1) * x) c.widest.ensures.0
 
-pub read-room-spec : {M : Type 1} → statement M
-read-room-spec = tie.close (tie.spec cast-result add-result widest-requires mul-result returns)
+pub read_room_spec : {M : Type 1} → statement M
+read_room_spec = tie.close (tie.spec cast-result add-result widest-requires mul-result returns)

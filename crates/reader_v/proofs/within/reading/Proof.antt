@@ -9,5 +9,5 @@ blank-requires c κs = search rules
 returns : tie.Need-returns
 returns c = rw c.before.before.blank.ensures
 
-pub reading-spec : {M : Type 1} → statement M
-reading-spec = tie.close (tie.spec blank-requires returns)
+pub reading_spec : {M : Type 1} → statement M
+reading_spec = tie.close (tie.spec blank-requires returns)

@@ -1,5 +1,5 @@
 -- `reader_v::within::round_of` meets its contract: its mask grows by the slot. Assumes nothing.
-use Rattle.reader_v.specs.ReaderV.{roundOf}
+use Rattle.reader_v.specs.ReaderV.{round_of}
 use borrow.Author.Rules.{rules}
 use Rattle.reader_v.proofs.within.round_of.Statement.{statement}
 use Rattle.reader_v.proofs.within.round_of.Tie as tie
@@ -23,9 +23,9 @@ cast-t8 : tie.Need-overflow-cast-t8
 cast-t8 c = search rules
 
 returns : tie.Need-returns
-unfolding roundOf
+unfolding round_of
 returns c = rw c.grown-mask.ensures
 
-pub round-of-spec : {M : Type 1} → statement M
-round-of-spec =
+pub round_of_spec : {M : Type 1} → statement M
+round_of_spec =
     tie.close (tie.spec sub-n mul-n cast-grown-mask grown-mask-requires add-t7 cast-t8 returns)

@@ -3,8 +3,8 @@ use borrow.Author.Tests.{eq-eqb, ne_eqb, le-leb, lt-leb, lt-ltb, le-ltb, not-tru
 use mathlib.Core.Path.{◌≡◌, refl, sym, ap, ap₂, ◌∙◌}
 use lib.ListN.{length}
 use Rattle.reader_v.specs.HearV.{with_bits}
-use Rattle.reader_v.specs.CallsV.{askedFor, roundCall, requestCall}
-use Rattle.reader_v.specs.CallLaws.{not-due, no_room, not_good, goes-out}
+use Rattle.reader_v.specs.CallsV.{asked_for, round_call, request_call}
+use Rattle.reader_v.specs.CallLaws.{not_due, no_room, not_good, goes_out}
 use borrow.Author.Tests.{ltb-false}
 use borrow.Author.Rules.{rules}
 use native.Mathlib.Omega.{arith}
@@ -18,7 +18,7 @@ turn-requires : tie.Need-turn-requires
 turn-requires c κs = search rules
 
 returns : tie.Need-returns
-returns c = not-due c.before.before.before.before.before.before.args.r (requestCall c.before.before.before.before.before.before.args.good c.before.before.before.before.before.before.args.k c.before.before.before.before.before.before.args.parameters.now c.before.before.before.before.before.before.args.bytes.now c.before.before.before.before.before.before.args.next) c.before.before.before.before.before.before.args.out.now (sym c.before.before.is-ready.ensures ∙ not-true _ c.before.if1.true) c.turn.ensures
+returns c = not_due c.before.before.before.before.before.before.args.r (request_call c.before.before.before.before.before.before.args.good c.before.before.before.before.before.before.args.k c.before.before.before.before.before.before.args.parameters.now c.before.before.before.before.before.before.args.bytes.now c.before.before.before.before.before.before.args.next) c.before.before.before.before.before.before.args.out.now (sym c.before.before.is-ready.ensures ∙ not-true _ c.before.if1.true) c.turn.ensures
 
 is-narrow-requires : tie.Need-is-narrow-requires
 is-narrow-requires c κs = search rules
@@ -27,16 +27,16 @@ turn-requires-2 : tie.Need-turn-requires-2
 turn-requires-2 c κs = search rules
 
 returns-2 : tie.Need-returns-2
-returns-2 c = no_room c.before.before.before.before.before.before.before.before.args.r (requestCall c.before.before.before.before.before.before.before.before.args.good c.before.before.before.before.before.before.before.before.args.k c.before.before.before.before.before.before.before.before.args.parameters.now c.before.before.before.before.before.before.before.before.args.bytes.now c.before.before.before.before.before.before.before.before.args.next) c.before.before.before.before.before.before.before.before.args.out.now (sym c.before.before.before.before.is-ready.ensures ∙ not-false _ c.before.before.before.if1.false) (sym c.before.before.is-narrow.ensures ∙ c.before.if2.true) c.turn2.ensures
+returns-2 c = no_room c.before.before.before.before.before.before.before.before.args.r (request_call c.before.before.before.before.before.before.before.before.args.good c.before.before.before.before.before.before.before.before.args.k c.before.before.before.before.before.before.before.before.args.parameters.now c.before.before.before.before.before.before.before.before.args.bytes.now c.before.before.before.before.before.before.before.before.args.next) c.before.before.before.before.before.before.before.before.args.out.now (sym c.before.before.before.before.is-ready.ensures ∙ not-false _ c.before.before.before.if1.false) (sym c.before.before.is-narrow.ensures ∙ c.before.if2.true) c.turn2.ensures
 
 turn-requires-3 : tie.Need-turn-requires-3
 turn-requires-3 c κs = search rules
 
 returns-3 : tie.Need-returns-3
-returns-3 c = not_good c.before.before.before.before.before.before.before.before.before.args.r (requestCall c.before.before.before.before.before.before.before.before.before.args.good c.before.before.before.before.before.before.before.before.before.args.k c.before.before.before.before.before.before.before.before.before.args.parameters.now c.before.before.before.before.before.before.before.before.before.args.bytes.now c.before.before.before.before.before.before.before.before.before.args.next) c.before.before.before.before.before.before.before.before.before.args.out.now (sym c.before.before.before.before.before.is-ready.ensures ∙ not-false _ c.before.before.before.before.if1.false) (sym c.before.before.before.is-narrow.ensures ∙ c.before.before.if2.false) (not-true _ c.before.if3.true) c.turn3.ensures
+returns-3 c = not_good c.before.before.before.before.before.before.before.before.before.args.r (request_call c.before.before.before.before.before.before.before.before.before.args.good c.before.before.before.before.before.before.before.before.before.args.k c.before.before.before.before.before.before.before.before.before.args.parameters.now c.before.before.before.before.before.before.before.before.before.args.bytes.now c.before.before.before.before.before.before.before.before.before.args.next) c.before.before.before.before.before.before.before.before.before.args.out.now (sym c.before.before.before.before.before.is-ready.ensures ∙ not-false _ c.before.before.before.before.if1.false) (sym c.before.before.before.is-narrow.ensures ∙ c.before.before.if2.false) (not-true _ c.before.if3.true) c.turn3.ensures
 
 put-request-requires : tie.Need-put-request-requires
-put-request-requires c κs = omega (arith, c.before.before.before.before.before.before.before.before.before.requires, ltb-false (length c.before.before.before.before.before.before.before.before.before.args.out.now) (askedFor (length c.before.before.before.before.before.before.before.before.before.args.bytes.now)) (sym c.before.before.before.is-narrow.ensures ∙ c.before.before.if2.false))
+put-request-requires c κs = omega (arith, c.before.before.before.before.before.before.before.before.before.requires, ltb-false (length c.before.before.before.before.before.before.before.before.before.args.out.now) (asked_for (length c.before.before.before.before.before.before.before.before.before.args.bytes.now)) (sym c.before.before.before.is-narrow.ensures ∙ c.before.before.if2.false))
 
 turn-requires-4 : tie.Need-turn-requires-4
 turn-requires-4 c κs = search rules
@@ -48,10 +48,10 @@ same_length : tie.Need-same-length
 same_length c = search rules
 
 returns-4 : tie.Need-returns-4
-returns-4 c = goes-out c.before.before.before.before.before.before.before.before.before.before.before.before.before.before.args.r (requestCall c.before.before.before.before.before.before.before.before.before.before.before.before.before.before.args.good c.before.before.before.before.before.before.before.before.before.before.before.before.before.before.args.k c.before.before.before.before.before.before.before.before.before.before.before.before.before.before.args.parameters.now c.before.before.before.before.before.before.before.before.before.before.before.before.before.before.args.bytes.now c.before.before.before.before.before.before.before.before.before.before.before.before.before.before.args.next) c.before.before.before.before.before.before.before.before.before.before.before.before.before.before.args.out.now (sym c.before.before.before.before.before.before.before.before.before.before.is-ready.ensures ∙ not-false _ c.before.before.before.before.before.before.before.before.before.if1.false) (sym c.before.before.before.before.before.before.before.before.is-narrow.ensures ∙ c.before.before.before.before.before.before.before.if2.false) (not-false _ c.before.before.before.before.before.before.if3.false) (c.sized.ensures ∙ ap₂ with_bits c.before.turn4.ensures c.before.before.before.before.put-request.ensures.0) c.before.before.before.before.put-request.ensures.1
+returns-4 c = goes_out c.before.before.before.before.before.before.before.before.before.before.before.before.before.before.args.r (request_call c.before.before.before.before.before.before.before.before.before.before.before.before.before.before.args.good c.before.before.before.before.before.before.before.before.before.before.before.before.before.before.args.k c.before.before.before.before.before.before.before.before.before.before.before.before.before.before.args.parameters.now c.before.before.before.before.before.before.before.before.before.before.before.before.before.before.args.bytes.now c.before.before.before.before.before.before.before.before.before.before.before.before.before.before.args.next) c.before.before.before.before.before.before.before.before.before.before.before.before.before.before.args.out.now (sym c.before.before.before.before.before.before.before.before.before.before.is-ready.ensures ∙ not-false _ c.before.before.before.before.before.before.before.before.before.if1.false) (sym c.before.before.before.before.before.before.before.before.is-narrow.ensures ∙ c.before.before.before.before.before.before.before.if2.false) (not-false _ c.before.before.before.before.before.before.if3.false) (c.sized.ensures ∙ ap₂ with_bits c.before.turn4.ensures c.before.before.before.before.put-request.ensures.0) c.before.before.before.before.put-request.ensures.1
 
-pub send-request-spec : {M : Type 1} → statement M
-send-request-spec =
+pub send_request_spec : {M : Type 1} → statement M
+send_request_spec =
     tie.close
     (tie.spec
     is-ready-requires

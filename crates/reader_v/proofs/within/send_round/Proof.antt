@@ -3,8 +3,8 @@ use borrow.Author.Tests.{eq-eqb, ne_eqb, le-leb, lt-leb, lt-ltb, le-ltb, not-tru
 use mathlib.Core.Path.{◌≡◌, refl, sym, ap, ap₂, ◌∙◌}
 use lib.ListN.{length}
 use Rattle.reader_v.specs.HearV.{with_bits}
-use Rattle.reader_v.specs.CallsV.{askedFor, roundCall, requestCall}
-use Rattle.reader_v.specs.CallLaws.{not-due, no_room, not_good, goes-out}
+use Rattle.reader_v.specs.CallsV.{asked_for, round_call, request_call}
+use Rattle.reader_v.specs.CallLaws.{not_due, no_room, not_good, goes_out}
 use borrow.Author.Rules.{rules}
 use Rattle.reader_v.proofs.within.send_round.Statement.{statement}
 use Rattle.reader_v.proofs.within.send_round.Tie as tie
@@ -16,19 +16,19 @@ turn-requires : tie.Need-turn-requires
 turn-requires c κs = search rules
 
 returns : tie.Need-returns
-returns c = not-due c.before.before.before.before.args.r (roundCall c.before.before.before.before.args.good c.before.before.before.before.args.k c.before.before.before.before.args.next) c.before.before.before.before.args.out.now (sym c.before.before.is-ready.ensures ∙ not-true _ c.before.if1.true) c.turn.ensures
+returns c = not_due c.before.before.before.before.args.r (round_call c.before.before.before.before.args.good c.before.before.before.before.args.k c.before.before.before.before.args.next) c.before.before.before.before.args.out.now (sym c.before.before.is-ready.ensures ∙ not-true _ c.before.if1.true) c.turn.ensures
 
 turn-requires-2 : tie.Need-turn-requires-2
 turn-requires-2 c κs = search rules
 
 returns-2 : tie.Need-returns-2
-returns-2 c = no_room c.before.before.before.before.before.args.r (roundCall c.before.before.before.before.before.args.good c.before.before.before.before.before.args.k c.before.before.before.before.before.args.next) c.before.before.before.before.before.args.out.now (sym c.before.before.before.is-ready.ensures ∙ not-false _ c.before.before.if1.false) (lt-ltb (length c.before.before.before.before.before.args.out.now) 112 c.before.if2.true) c.turn2.ensures
+returns-2 c = no_room c.before.before.before.before.before.args.r (round_call c.before.before.before.before.before.args.good c.before.before.before.before.before.args.k c.before.before.before.before.before.args.next) c.before.before.before.before.before.args.out.now (sym c.before.before.before.is-ready.ensures ∙ not-false _ c.before.before.if1.false) (lt-ltb (length c.before.before.before.before.before.args.out.now) 112 c.before.if2.true) c.turn2.ensures
 
 turn-requires-3 : tie.Need-turn-requires-3
 turn-requires-3 c κs = search rules
 
 returns-3 : tie.Need-returns-3
-returns-3 c = not_good c.before.before.before.before.before.before.args.r (roundCall c.before.before.before.before.before.before.args.good c.before.before.before.before.before.before.args.k c.before.before.before.before.before.before.args.next) c.before.before.before.before.before.before.args.out.now (sym c.before.before.before.before.is-ready.ensures ∙ not-false _ c.before.before.before.if1.false) (le-ltb (length c.before.before.before.before.before.before.args.out.now) 112 c.before.before.if2.false) (not-true _ c.before.if3.true) c.turn3.ensures
+returns-3 c = not_good c.before.before.before.before.before.before.args.r (round_call c.before.before.before.before.before.before.args.good c.before.before.before.before.before.before.args.k c.before.before.before.before.before.before.args.next) c.before.before.before.before.before.before.args.out.now (sym c.before.before.before.before.is-ready.ensures ∙ not-false _ c.before.before.before.if1.false) (le-ltb (length c.before.before.before.before.before.before.args.out.now) 112 c.before.before.if2.false) (not-true _ c.before.if3.true) c.turn3.ensures
 
 put-round-requires : tie.Need-put-round-requires
 put-round-requires c κs = (c.before.before.if2.false, c.before.before.before.before.before.before.requires (not-false _ c.before.if3.false))
@@ -43,10 +43,10 @@ same_length : tie.Need-same-length
 same_length c = search rules
 
 returns-4 : tie.Need-returns-4
-returns-4 c = goes-out c.before.before.before.before.before.before.before.before.before.before.before.args.r (roundCall c.before.before.before.before.before.before.before.before.before.before.before.args.good c.before.before.before.before.before.before.before.before.before.before.before.args.k c.before.before.before.before.before.before.before.before.before.before.before.args.next) c.before.before.before.before.before.before.before.before.before.before.before.args.out.now (sym c.before.before.before.before.before.before.before.before.before.is-ready.ensures ∙ not-false _ c.before.before.before.before.before.before.before.before.if1.false) (le-ltb (length c.before.before.before.before.before.before.before.before.before.before.before.args.out.now) 112 c.before.before.before.before.before.before.before.if2.false) (not-false _ c.before.before.before.before.before.before.if3.false) (c.sized.ensures ∙ ap₂ with_bits c.before.turn4.ensures c.before.before.before.before.put-round.ensures.0) c.before.before.before.before.put-round.ensures.1
+returns-4 c = goes_out c.before.before.before.before.before.before.before.before.before.before.before.args.r (round_call c.before.before.before.before.before.before.before.before.before.before.before.args.good c.before.before.before.before.before.before.before.before.before.before.before.args.k c.before.before.before.before.before.before.before.before.before.before.before.args.next) c.before.before.before.before.before.before.before.before.before.before.before.args.out.now (sym c.before.before.before.before.before.before.before.before.before.is-ready.ensures ∙ not-false _ c.before.before.before.before.before.before.before.before.if1.false) (le-ltb (length c.before.before.before.before.before.before.before.before.before.before.before.args.out.now) 112 c.before.before.before.before.before.before.before.if2.false) (not-false _ c.before.before.before.before.before.before.if3.false) (c.sized.ensures ∙ ap₂ with_bits c.before.turn4.ensures c.before.before.before.before.put-round.ensures.0) c.before.before.before.before.put-round.ensures.1
 
-pub send-round-spec : {M : Type 1} → statement M
-send-round-spec =
+pub send_round_spec : {M : Type 1} → statement M
+send_round_spec =
     tie.close
     (tie.spec
     is-ready-requires

@@ -12,5 +12,5 @@ turn-requires c κs = search rules
 returns : tie.Need-returns
 returns c = rw (c.turn.ensures, c.before.blank.ensures)
 
-pub stop-spec : {M : Type 1} → statement M
-stop-spec = tie.close (tie.spec blank-requires turn-requires returns)
+pub stop_spec : {M : Type 1} → statement M
+stop_spec = tie.close (tie.spec blank-requires turn-requires returns)

@@ -9,5 +9,5 @@ is-deep-requires c κs = search rules
 returns : tie.Need-returns
 returns c = rw c.is-deep.ensures
 
-pub turn-of-spec : {M : Type 1} → statement M
-turn-of-spec = tie.close (tie.spec is-deep-requires returns)
+pub turn_of_spec : {M : Type 1} → statement M
+turn_of_spec = tie.close (tie.spec is-deep-requires returns)

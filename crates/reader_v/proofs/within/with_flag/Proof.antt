@@ -15,5 +15,5 @@ returns c = search rules
 returns-2 : tie.Need-returns-2
 returns-2 c = sym (set_out c.before.args.met c.before.args.i c.before.args.v (search rules))
 
-pub with-flag-spec : {M : Type 1} → statement M
-with-flag-spec = tie.close (tie.spec array-write-m returns returns-2)
+pub with_flag_spec : {M : Type 1} → statement M
+with_flag_spec = tie.close (tie.spec array-write-m returns returns-2)

@@ -25,5 +25,5 @@ returns-3 : tie.Need-returns-3
 unfolding count_of
 returns-3 c = (rw (sym c.before.before.is-many.ensures ∙ c.before.if1.false, lt-leb _ 0x22 c.if2.false), omega arith)
 
-pub count-of-spec : {M : Type 1} → statement M
-count-of-spec = tie.close (tie.spec is-many-requires add-result returns returns-2 returns-3)
+pub count_of_spec : {M : Type 1} → statement M
+count_of_spec = tie.close (tie.spec is-many-requires add-result returns returns-2 returns-3)

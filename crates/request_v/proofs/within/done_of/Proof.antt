@@ -42,8 +42,8 @@ returns-6 : tie.Need-returns-6
 unfolding done_of
 returns-6 c = rw (sym c.before.before.before.before.before.is_read.ensures ∙ c.before.before.before.before.if1.false, ne_eqb _ 0x21 c.before.before.before.if2.false, ne_eqb _ 0x24 c.before.before.if3.false, ne_eqb _ 0x22 c.before.if4.false, ne_eqb _ 0x25 c.if5.false)
 
-pub done-of-spec : {M : Type 1} → statement M
-done-of-spec =
+pub done_of_spec : {M : Type 1} → statement M
+done_of_spec =
     tie.close
     (tie.spec
     count-of-requires

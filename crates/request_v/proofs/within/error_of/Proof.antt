@@ -3,8 +3,8 @@ use borrow.Author.Tests.{eq-eqb, ne_eqb, le-leb, lt-leb, lt-ltb, le-ltb, not-tru
 use mathlib.Core.Path.{◌≡◌, refl, sym, ap, ◌∙◌}
 use Prim.Native.Nat.{◌≤◌}
 use lib.ListN.{length}
-use Rattle.request_v.specs.Request.{errorOf}
-use Rattle.request_v.specs.RequestLaws.{not-absent}
+use Rattle.request_v.specs.Request.{error_of}
+use Rattle.request_v.specs.RequestLaws.{not_absent}
 use borrow.Author.Rules.{rules}
 use native.Mathlib.Omega.{arith}
 use Rattle.request_v.proofs.within.error_of.Statement.{statement}
@@ -14,14 +14,14 @@ is-command-requires : tie.Need-is-command-requires
 is-command-requires c κs = search rules
 
 returns : tie.Need-returns
-unfolding errorOf
+unfolding error_of
 returns c = rw (sym c.before.is-command.ensures ∙ not-true _ c.if1.true)
 
 length-due-requires : tie.Need-length-due-requires
 length-due-requires c κs = search rules
 
 returns-2 : tie.Need-returns-2
-unfolding errorOf
+unfolding error_of
 returns-2 c = rw (sym c.before.before.before.is-command.ensures ∙ not-false _ c.before.before.if1.false, ← c.before.length-due.ensures, ne_eqb _ _ c.if2.true)
 
 count-of-requires : tie.Need-count-of-requires
@@ -31,28 +31,28 @@ is-absent-requires : tie.Need-is-absent-requires
 is-absent-requires c κs = c.count_of.ensures.1
 
 returns-3 : tie.Need-returns-3
-unfolding errorOf
+unfolding error_of
 returns-3 c = rw (sym c.before.before.before.before.before.before.is-command.ensures ∙ not-false _ c.before.before.before.before.before.if1.false, ← c.before.before.before.before.length-due.ensures, eq-eqb _ _ c.before.before.before.if2.false, ← c.before.before.count_of.ensures.0, sym c.before.is-absent.ensures ∙ c.if3.true)
 
 is-any-locked-requires : tie.Need-is-any-locked-requires
-is-any-locked-requires c κs = λ h. let k = not-absent c.before.before.before.before.before.before.before.before.args.t.blocks c.before.before.before.before.before.before.before.before.args.a c.before.before.count_of.result (sym c.before.is-absent.ensures ∙ c.if3.false) h in omega (arith, k, c.before.before.before.before.before.before.before.before.requires)
+is-any-locked-requires c κs = λ h. let k = not_absent c.before.before.before.before.before.before.before.before.args.t.blocks c.before.before.before.before.before.before.before.before.args.a c.before.before.count_of.result (sym c.before.is-absent.ensures ∙ c.if3.false) h in omega (arith, k, c.before.before.before.before.before.before.before.before.requires)
 
 lock-error-requires : tie.Need-lock-error-requires
 lock-error-requires c κs = search rules
 
 returns-4 : tie.Need-returns-4
-unfolding errorOf
+unfolding error_of
 returns-4 c = rw (sym c.before.before.before.before.before.before.before.before.before.is-command.ensures ∙ not-false _ c.before.before.before.before.before.before.before.before.if1.false, ← c.before.before.before.before.before.before.before.length-due.ensures, eq-eqb _ _ c.before.before.before.before.before.before.if2.false, ← c.before.before.before.before.before.count_of.ensures.0, sym c.before.before.before.before.is-absent.ensures ∙ c.before.before.before.if3.false, ← c.before.before.is-any-locked.ensures, ← c.before.lock-error.ensures, ne_eqb _ 0 c.if4.true)
 
 option-error-requires : tie.Need-option-error-requires
 option-error-requires c κs = search rules
 
 returns-5 : tie.Need-returns-5
-unfolding errorOf
+unfolding error_of
 returns-5 c = rw (sym c.before.before.before.before.before.before.before.before.before.before.is-command.ensures ∙ not-false _ c.before.before.before.before.before.before.before.before.before.if1.false, ← c.before.before.before.before.before.before.before.before.length-due.ensures, eq-eqb _ _ c.before.before.before.before.before.before.before.if2.false, ← c.before.before.before.before.before.before.count_of.ensures.0, sym c.before.before.before.before.before.is-absent.ensures ∙ c.before.before.before.before.if3.false, ← c.before.before.before.is-any-locked.ensures, ← c.before.before.lock-error.ensures, eq-eqb _ 0 c.before.if4.false) c.option-error.ensures
 
-pub error-of-spec : {M : Type 1} → statement M
-error-of-spec =
+pub error_of_spec : {M : Type 1} → statement M
+error_of_spec =
     tie.close
     (tie.spec
     is-command-requires

@@ -17,5 +17,5 @@ returns-2 : tie.Need-returns-2
 unfolding absent
 returns-2 c = rw (ne_eqb _ 0 c.if1.false)
 
-pub is-absent-spec : {M : Type 1} → statement M
-is-absent-spec = tie.close (tie.spec returns add-result returns-2)
+pub is_absent_spec : {M : Type 1} → statement M
+is_absent_spec = tie.close (tie.spec returns add-result returns-2)

@@ -21,5 +21,5 @@ returns-3 : tie.Need-returns-3
 unfolding admitted
 returns-3 c = rw (not-false c.before.before.before.before.before.args.q.fifth c.before.before.before.if1.false, not-false c.before.before.before.before.before.args.t.supports c.before.if2.false) c.admits.ensures
 
-pub is-admitted-spec : {M : Type 1} → statement M
-is-admitted-spec = tie.close (tie.spec returns returns-2 admits-requires returns-3)
+pub is_admitted_spec : {M : Type 1} → statement M
+is_admitted_spec = tie.close (tie.spec returns returns-2 admits-requires returns-3)

@@ -17,5 +17,5 @@ returns-3 : tie.Need-returns-3
 unfolding is_bare
 returns-3 c = rw (not-false c.before.before.before.args.q.sixth c.before.if1.false, c.if2.false)
 
-pub is-bare-spec : {M : Type 1} → statement M
-is-bare-spec = tie.close (tie.spec returns returns-2 returns-3)
+pub is_bare_spec : {M : Type 1} → statement M
+is_bare_spec = tie.close (tie.spec returns returns-2 returns-3)

@@ -10,5 +10,5 @@ returns c = rw (lt-leb 32 _ c.if1.true)
 returns-2 : tie.Need-returns-2
 returns-2 c = rw (le-leb 32 _ c.if1.false)
 
-pub is-command-spec : {M : Type 1} → statement M
-is-command-spec = tie.close (tie.spec returns returns-2)
+pub is_command_spec : {M : Type 1} → statement M
+is_command_spec = tie.close (tie.spec returns returns-2)

@@ -23,5 +23,5 @@ returns-5 : tie.Need-returns-5
 unfolding formed
 returns-5 c = rw (c.before.before.before.if1.false, c.before.before.if2.false, c.before.if3.false, c.if4.false)
 
-pub is-formed-spec : {M : Type 1} → statement M
-is-formed-spec = tie.close (tie.spec returns returns-2 returns-3 returns-4 returns-5)
+pub is_formed_spec : {M : Type 1} → statement M
+is_formed_spec = tie.close (tie.spec returns returns-2 returns-3 returns-4 returns-5)

@@ -10,5 +10,5 @@ returns c = rw (eq-eqb _ 0x25 c.if1.true)
 returns-2 : tie.Need-returns-2
 returns-2 c = rw (ne_eqb _ 0x25 c.if1.false)
 
-pub is-lone-select-spec : {M : Type 1} → statement M
-is-lone-select-spec = tie.close (tie.spec returns returns-2)
+pub is_lone_select_spec : {M : Type 1} → statement M
+is_lone_select_spec = tie.close (tie.spec returns returns-2)

@@ -10,5 +10,5 @@ returns c = rw (eq-eqb _ 0x23 c.if1.true)
 returns-2 : tie.Need-returns-2
 returns-2 c = rw (ne_eqb _ 0x23 c.if1.false)
 
-pub is-many-spec : {M : Type 1} → statement M
-is-many-spec = tie.close (tie.spec returns returns-2)
+pub is_many_spec : {M : Type 1} → statement M
+is_many_spec = tie.close (tie.spec returns returns-2)

@@ -39,8 +39,8 @@ returns c =
     let e : a.at + a.len - a.at ≡ a.len = omega arith in
     rw (c.is_same.ensures, e, c.before.before.before.uid-bits.ensures)
 
-pub is-matching-spec : {M : Type 1} → statement M
-is-matching-spec =
+pub is_matching_spec : {M : Type 1} → statement M
+is_matching_spec =
     tie.close
     (tie.spec
     uid-bits-requires

@@ -28,7 +28,7 @@ returns-3 : tie.Need-returns-3
 unfolding meant
 returns-3 c = rw (c.before.before.if1.false, c.before.if2.false) (ap not c.is-quiet.ensures)
 
-pub is-meant-spec : {M : Type 1} → statement M
-is-meant-spec =
+pub is_meant_spec : {M : Type 1} → statement M
+is_meant_spec =
     tie.close
     (tie.spec is-own-requires returns is-selected-requires returns-2 is-quiet-requires returns-3)

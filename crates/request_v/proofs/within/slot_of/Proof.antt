@@ -2,9 +2,9 @@
 use Prim.Native.Nat.{◌+◌, ◌-◌}
 use mathlib.Core.Path.{◌≡◌, sym, ◌∙◌}
 use lib.ListN.{length-take}
-use Rattle.rows.specs.HeardLaws.{clean-take, clean_drop}
+use Rattle.rows.specs.HeardLaws.{clean_take, clean_drop}
 use Rattle.request_v.specs.Inventory.{slot_of}
-use Rattle.request_v.specs.InventoryLaws.{uid-clean}
+use Rattle.request_v.specs.InventoryLaws.{uid_clean}
 use borrow.Author.Rules.{rules}
 use native.Mathlib.Omega.{arith}
 use Rattle.request_v.proofs.within.slot_of.Statement.{statement}
@@ -29,7 +29,7 @@ number-of-requires : tie.Need-number-of-requires
 number-of-requires c κs =
     let a = c.before.before.before.args in
     let e : a.len + 4 - a.len ≡ 4 = omega arith in
-    (rw (e, length-take) (omega arith), clean-take (a.len + 4 - a.len) _ (clean_drop a.len _ (uid-clean _ _ c.before.before.uid-bits.ensures)))
+    (rw (e, length-take) (omega arith), clean_take (a.len + 4 - a.len) _ (clean_drop a.len _ (uid_clean _ _ c.before.before.uid-bits.ensures)))
 
 returns : tie.Need-returns
 unfolding slot_of
@@ -38,8 +38,8 @@ returns c =
     let e : a.len + 4 - a.len ≡ 4 = omega arith in
     rw (c.number_of_lem.ensures, e, c.before.before.before.uid-bits.ensures)
 
-pub slot-of-spec : {M : Type 1} → statement M
-slot-of-spec =
+pub slot_of_spec : {M : Type 1} → statement M
+slot_of_spec =
     tie.close
     (tie.spec
     uid-bits-requires

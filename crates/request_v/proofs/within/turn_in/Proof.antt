@@ -1,7 +1,7 @@
 -- `request_v::within::turn_in` meets its contract: the definition has the same tests. Assumes nothing.
 use borrow.Author.Tests.{eq-eqb, ne_eqb, le-leb, lt-leb, lt-ltb, le-ltb, not-true, not-false}
 use mathlib.Core.Path.{◌≡◌, refl, sym, ap, ◌∙◌}
-use Rattle.request_v.specs.Inventory.{mostMask, turnIn}
+use Rattle.request_v.specs.Inventory.{most_mask, turn_in}
 use Prim.Native.Nat.{◌≤◌}
 use Rattle.request_v.proofs.within.turn_in.Statement.{statement}
 use Rattle.request_v.proofs.within.turn_in.Tie as tie
@@ -18,5 +18,5 @@ returns-2 c = rw (c.before.before.if1.false, eq-eqb _ 0 (sym c.before.slot_of.en
 returns-3 : tie.Need-returns-3
 returns-3 c = rw (c.before.before.if1.false, ← c.before.slot_of.ensures, ne_eqb _ 0 c.if2.false)
 
-pub turn-in-spec : {M : Type 1} → statement M
-turn-in-spec = tie.close (tie.spec returns slot-of-requires returns-2 returns-3)
+pub turn_in_spec : {M : Type 1} → statement M
+turn_in_spec = tie.close (tie.spec returns slot-of-requires returns-2 returns-3)

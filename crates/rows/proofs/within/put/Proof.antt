@@ -5,7 +5,7 @@ use native.Mathlib.Omega.{arith}
 use lib.ListN.{length, take, length-set}
 use lib.Seq.{take_all}
 use Rattle.rows.specs.Rows.{overlay}
-use Rattle.rows.specs.RowLaws.{overlay-nil, overlay-copy}
+use Rattle.rows.specs.RowLaws.{overlay_nil, overlay_copy}
 use Rattle.rows.proofs.within.put.Statement.{statement}
 use Rattle.rows.proofs.within.put.Tie as tie
 
@@ -16,7 +16,7 @@ abbrev decreases-loop : tie.decreases-loop
 decreases-loop out₀ at src i₀ i-end out i = length src - i
 
 loop-holds : tie.Need-loop-init invariant-loop decreases-loop
-loop-holds c = (omega arith, omega arith, sym (overlay-nil _ _))
+loop-holds c = (omega arith, omega arith, sym (overlay_nil _ _))
 
 shared-slice-read-out : tie.Need-shared-slice-read-out invariant-loop decreases-loop
 shared-slice-read-out c = omega arith
@@ -37,7 +37,7 @@ loop-again : tie.Need-loop-preserved invariant-loop decreases-loop
 loop-again c =
     let l = c.before.before.loop in
     let a = c.before.before.before.args in
-    (omega arith, simp length-set (omega arith), rw l.invariant.2 (overlay-copy a.out.now a.at a.src.now l.i (omega arith) (omega arith)))
+    (omega arith, simp length-set (omega arith), rw l.invariant.2 (overlay_copy a.out.now a.at a.src.now l.i (omega arith) (omega arith)))
 
 same_length : tie.Need-same-length invariant-loop decreases-loop
 same_length c = omega arith

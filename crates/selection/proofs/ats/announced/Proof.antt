@@ -17,5 +17,5 @@ returns : tie.Need-returns
 unfolding announced
 returns c = refl
 
-pub announced-spec : {M : Type 1} → statement M
-announced-spec = tie.close (tie.spec add-n add-n-2 cast-result returns)
+pub announced_spec : {M : Type 1} → statement M
+announced_spec = tie.close (tie.spec add-n add-n-2 cast-result returns)

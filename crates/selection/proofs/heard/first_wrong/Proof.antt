@@ -2,8 +2,8 @@ use mathlib.Core.Path.{ap}
 use Prim.Native.Nat.{◌+◌, ◌-◌, ◌*◌, ◌/◌}
 use lib.ListN.{drop}
 use native.Mathlib.Omega.{arith}
-use Rattle.frame.specs.WrongLaws.{first-most}
-use Rattle.selection.specs.Heard.{restPlace}
+use Rattle.frame.specs.WrongLaws.{first_most}
+use Rattle.selection.specs.Heard.{rest_place}
 use borrow.Author.Rules.{rules}
 use Rattle.selection.proofs.heard.first_wrong.Statement.{statement}
 use Rattle.selection.proofs.heard.first_wrong.Tie as tie
@@ -26,14 +26,14 @@ first-wrong-requires c κs = search rules
 add-result : tie.Need-overflow-add-result
 add-result c =
     let a = c.before.before.args in
-    record { fits = omega (arith, c.first-wrong.ensures, first-most (5 - (a.k + 7) / 8) (drop (9 * ((a.k + 7) / 8)) a.t2)) }
+    record { fits = omega (arith, c.first-wrong.ensures, first_most (5 - (a.k + 7) / 8) (drop (9 * ((a.k + 7) / 8)) a.t2)) }
 
 returns : tie.Need-returns
-unfolding restPlace
+unfolding rest_place
 returns c = ap (λ n. (c.before.before.args.k + 7) / 8 + n) c.first-wrong.ensures
 
-pub first-wrong-spec : {M : Type 1} → statement M
-first-wrong-spec =
+pub first_wrong_spec : {M : Type 1} → statement M
+first_wrong_spec =
     tie.close
     (tie.spec
     add-i

@@ -24,8 +24,8 @@ check-byte-requires c κs = search rules
 returns : tie.Need-returns
 returns c = checked c.before.args.t1 _ (search rules) c.check-byte.ensures
 
-pub is-checked-spec : {M : Type 1} → statement M
-is-checked-spec =
+pub is_checked_spec : {M : Type 1} → statement M
+is_checked_spec =
     tie.close
     (tie.spec
     array-read-result

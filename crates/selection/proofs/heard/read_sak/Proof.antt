@@ -1,31 +1,31 @@
 use borrow.Author.Tests.{not-true, not-false}
-use Rattle.selection.specs.RestLaws.{sak-crc, sak-good}
+use Rattle.selection.specs.RestLaws.{sak_crc, sak_good}
 use mathlib.Core.Path.{refl, sym, ◌∙◌}
 use native.Mathlib.Omega.{arith}
 use borrow.Author.Tests.{eq-eqb, ne_eqb}
-use Rattle.selection.specs.Heard.{readSak}
-use Rattle.selection.specs.Says.{sakSays}
-use Rattle.selection.specs.SaysLaws.{with-says}
-use Rattle.selection.specs.RestLaws.{nil-yes, nil-no}
-use Rattle.frame.specs.WrongLaws.{found-wrong, found_none}
+use Rattle.selection.specs.Heard.{read_sak}
+use Rattle.selection.specs.Says.{sak_says}
+use Rattle.selection.specs.SaysLaws.{with_says}
+use Rattle.selection.specs.RestLaws.{nil_yes, nil_no}
+use Rattle.frame.specs.WrongLaws.{found_wrong, found_none}
 use borrow.Author.Rules.{rules}
 use Rattle.selection.proofs.heard.read_sak.Statement.{statement}
 use Rattle.selection.proofs.heard.read_sak.Tie as tie
 
 returns : tie.Need-returns
-unfolding readSak
-returns c = rw (nil-yes _ c.if1.true) (refl, refl)
+unfolding read_sak
+returns c = rw (nil_yes _ c.if1.true) (refl, refl)
 
 returns-2 : tie.Need-returns-2
-unfolding readSak
-returns-2 c = rw (nil-no _ c.before.if1.false, ne_eqb _ _ c.if2.true) (refl, refl)
+unfolding read_sak
+returns-2 c = rw (nil_no _ c.before.if1.false, ne_eqb _ _ c.if2.true) (refl, refl)
 
 is-clean-requires : tie.Need-is-clean-requires
 is-clean-requires c κs = search rules
 
 returns-3 : tie.Need-returns-3
-unfolding readSak
-returns-3 c = rw (nil-no _ c.before.before.before.if1.false, eq-eqb _ _ c.before.before.if2.false, sym c.before.is-clean.ensures ∙ not-true _ c.if3.true) (refl, refl)
+unfolding read_sak
+returns-3 c = rw (nil_no _ c.before.before.before.if1.false, eq-eqb _ _ c.before.before.if2.false, sym c.before.is_clean.ensures ∙ not-true _ c.if3.true) (refl, refl)
 
 first-wrong-requires : tie.Need-first-wrong-requires
 first-wrong-requires c κs = search rules
@@ -34,14 +34,14 @@ cast-t10 : tie.Need-overflow-cast-t10
 cast-t10 c = search rules
 
 returns-4 : tie.Need-returns-4
-unfolding readSak
-returns-4 c = rw (nil-no _ c.before.before.before.before.before.if1.false, eq-eqb _ _ c.before.before.before.before.if2.false, sym c.before.before.before.is-clean.ensures ∙ not-false _ c.before.before.if3.false, found-wrong _ _ _ c.before.first-wrong.ensures c.if4.true, ← c.before.first-wrong.ensures) (refl, refl)
+unfolding read_sak
+returns-4 c = rw (nil_no _ c.before.before.before.before.before.if1.false, eq-eqb _ _ c.before.before.before.before.if2.false, sym c.before.before.before.is_clean.ensures ∙ not-false _ c.before.before.if3.false, found_wrong _ _ _ c.before.first-wrong.ensures c.if4.true, ← c.before.first-wrong.ensures) (refl, refl)
 
 slice-aggregate-bytes-of : tie.Need-slice-aggregate-bytes-of
 slice-aggregate-bytes-of c = search rules
 
 bytes-of-requires : tie.Need-bytes-of-requires
-bytes-of-requires c κs = (omega arith, omega arith, sym c.before.before.before.before.is-clean.ensures ∙ not-false _ c.before.before.before.if3.false)
+bytes-of-requires c κs = (omega arith, omega arith, sym c.before.before.before.before.is_clean.ensures ∙ not-false _ c.before.before.before.if3.false)
 
 slice-aggregate-is-good : tie.Need-slice-aggregate-is-good
 slice-aggregate-is-good c = search rules
@@ -50,16 +50,16 @@ is-good-requires : tie.Need-is-good-requires
 is-good-requires c κs = search rules
 
 returns-5 : tie.Need-returns-5
-returns-5 c = with-says sakSays _ _ (sym (sak-crc c.before.before.before.before.before.before.before.before.before.before.before.before.before.args.row.now _ c.before.before.before.before.before.before.before.before.before.before.if2.false (sym c.before.before.before.before.before.before.before.before.before.is-clean.ensures ∙ not-false _ c.before.before.before.before.before.before.before.before.if3.false) (found_none _ _ _ c.before.before.before.before.before.before.before.first-wrong.ensures c.before.before.before.before.before.before.if4.false) c.before.before.before.before.bytes_of.ensures (sym c.before.is-good.ensures ∙ not-true _ c.if5.true)))
+returns-5 c = with_says sak_says _ _ (sym (sak_crc c.before.before.before.before.before.before.before.before.before.before.before.before.before.args.row.now _ c.before.before.before.before.before.before.before.before.before.before.if2.false (sym c.before.before.before.before.before.before.before.before.before.is_clean.ensures ∙ not-false _ c.before.before.before.before.before.before.before.before.if3.false) (found_none _ _ _ c.before.before.before.before.before.before.before.first-wrong.ensures c.before.before.before.before.before.before.if4.false) c.before.before.before.before.bytes_of.ensures (sym c.before.is-good.ensures ∙ not-true _ c.if5.true)))
 
 array-read-t20 : tie.Need-array-read-t20
 array-read-t20 c = search rules
 
 returns-6 : tie.Need-returns-6
-returns-6 c = with-says sakSays _ _ (sym (sak-good c.before.before.before.before.before.before.before.before.before.before.before.before.before.args.row.now _ c.before.before.before.before.before.before.before.before.before.before.if2.false (sym c.before.before.before.before.before.before.before.before.before.is-clean.ensures ∙ not-false _ c.before.before.before.before.before.before.before.before.if3.false) (found_none _ _ _ c.before.before.before.before.before.before.before.first-wrong.ensures c.before.before.before.before.before.before.if4.false) c.before.before.before.before.bytes_of.ensures (sym c.before.is-good.ensures ∙ not-false _ c.if5.false)))
+returns-6 c = with_says sak_says _ _ (sym (sak_good c.before.before.before.before.before.before.before.before.before.before.before.before.before.args.row.now _ c.before.before.before.before.before.before.before.before.before.before.if2.false (sym c.before.before.before.before.before.before.before.before.before.is_clean.ensures ∙ not-false _ c.before.before.before.before.before.before.before.before.if3.false) (found_none _ _ _ c.before.before.before.before.before.before.before.first-wrong.ensures c.before.before.before.before.before.before.if4.false) c.before.before.before.before.bytes_of.ensures (sym c.before.is-good.ensures ∙ not-false _ c.if5.false)))
 
-pub read-sak-spec : {M : Type 1} → statement M
-read-sak-spec =
+pub read_sak_spec : {M : Type 1} → statement M
+read_sak_spec =
     tie.close
     (tie.spec
     returns

@@ -2,13 +2,13 @@ use Prim.Native.Nat.{◌≤◌, ◌-◌, ◌+◌}
 use mathlib.Core.Path.{◌≡◌, refl, sym, ap, ◌∙◌}
 use native.Mathlib.Omega.{arith}
 use lib.ListN.{length, drop}
-use Rattle.selection.specs.Level.{firstCollided}
-use Rattle.selection.specs.LevelLaws.{first_next, first-here, first_done}
+use Rattle.selection.specs.Level.{first_collided}
+use Rattle.selection.specs.LevelLaws.{first_next, first_here, first_done}
 use Rattle.selection.proofs.level.first_collided.Statement.{statement}
 use Rattle.selection.proofs.level.first_collided.Tie as tie
 
 abbrev invariant-loop : tie.invariant-loop
-invariant-loop h i₀ i-end i = (i ≤ length h) × (i + firstCollided (drop i h) ≡ firstCollided h)
+invariant-loop h i₀ i-end i = (i ≤ length h) × (i + first_collided (drop i h) ≡ first_collided h)
 
 abbrev decreases-loop : tie.decreases-loop
 decreases-loop h i₀ i-end i = length h - i
@@ -23,7 +23,7 @@ returns : tie.Need-returns invariant-loop decreases-loop
 returns c =
     let l = c.before.before.before.loop in
     let h = c.before.before.before.before.args.h.now in
-    omega (arith, first-here h l.i (omega arith) (omega arith), l.invariant.1)
+    omega (arith, first_here h l.i (omega arith) (omega arith), l.invariant.1)
 
 add-i : tie.Need-overflow-add-i invariant-loop decreases-loop
 add-i c = omega arith
@@ -43,8 +43,8 @@ returns-2 c =
     let h = c.before.before.args.h.now in
     omega (arith, first_done h l.i (omega arith), l.invariant.1)
 
-pub first-collided-spec : {M : Type 1} → statement M
-first-collided-spec =
+pub first_collided_spec : {M : Type 1} → statement M
+first_collided_spec =
     tie.close
     (tie.spec
     invariant-loop

@@ -7,22 +7,22 @@ use native.Mathlib.Omega.{arith}
 use lib.ListN.{length, take, drop, length-set}
 use lib.Seq.{take_all}
 use Rattle.rows.specs.Rows.{overlay, clean}
-use Rattle.rows.specs.RowLaws.{overlay-nil, overlay-all}
-use Rattle.rows.specs.HeardLaws.{clean-take, clean_drop}
-use Rattle.frame.specs.Frame.{bytesOf}
-use Rattle.frame.specs.ByteLaws.{length-bytes}
-use Rattle.selection.specs.LevelLaws.{bytes-turn}
+use Rattle.rows.specs.RowLaws.{overlay_nil, overlay_all}
+use Rattle.rows.specs.HeardLaws.{clean_take, clean_drop}
+use Rattle.frame.specs.Frame.{bytes_of}
+use Rattle.frame.specs.ByteLaws.{length_bytes}
+use Rattle.selection.specs.LevelLaws.{bytes_turn}
 use Rattle.selection.proofs.level.five_bytes.Statement.{statement}
 use Rattle.selection.proofs.level.five_bytes.Tie as tie
 
 abbrev invariant-loop : tie.invariant-loop
-invariant-loop e five₀ i₀ five i = (i ≤ 5) × (length five ≡ 5) × (length e ≡ 40) × (clean e ≡ true) × (five ≡ overlay five₀ 0 (take i (bytesOf 5 e))) × (length five₀ ≡ 5)
+invariant-loop e five₀ i₀ five i = (i ≤ 5) × (length five ≡ 5) × (length e ≡ 40) × (clean e ≡ true) × (five ≡ overlay five₀ 0 (take i (bytes_of 5 e))) × (length five₀ ≡ 5)
 
 abbrev decreases-loop : tie.decreases-loop
 decreases-loop e five₀ i₀ five i = 5 - i
 
 loop-holds : tie.Need-loop-init invariant-loop decreases-loop
-loop-holds c = (omega arith, search rules, search rules, search rules, sym (overlay-nil _ _), search rules)
+loop-holds c = (omega arith, search rules, search rules, search rules, sym (overlay_nil _ _), search rules)
 
 slice-aggregate-byte-at : tie.Need-slice-aggregate-byte-at invariant-loop decreases-loop
 slice-aggregate-byte-at c = omega arith
@@ -34,7 +34,7 @@ byte-at-requires : tie.Need-byte-at-requires invariant-loop decreases-loop
 byte-at-requires c κs =
     let l = c.before.before.loop in
     let e = c.before.before.before.args.t1 in
-    (omega arith, clean-take 8 (drop (8 * l.i) e) (clean_drop (8 * l.i) e l.invariant.3))
+    (omega arith, clean_take 8 (drop (8 * l.i) e) (clean_drop (8 * l.i) e l.invariant.3))
 
 array-write-five : tie.Need-array-write-five invariant-loop decreases-loop
 array-write-five c = omega arith
@@ -53,7 +53,7 @@ loop-again c =
       simp length-set (omega arith),
       omega arith,
       l.invariant.3,
-      rw (c.byte_at.ensures, l.invariant.4) (bytes-turn (replicate 5 0) e l.i refl (omega arith)),
+      rw (c.byte_at.ensures, l.invariant.4) (bytes_turn (replicate 5 0) e l.i refl (omega arith)),
       refl,
     )
 
@@ -61,11 +61,11 @@ returns : tie.Need-returns invariant-loop decreases-loop
 returns c =
     let l = c.before.loop in
     let e = c.before.before.args.t1 in
-    let n : length (bytesOf 5 e) ≡ 5 = length-bytes 5 e in
-    l.invariant.4 ∙ ap (overlay (replicate 5 0) 0) (take_all l.i (bytesOf 5 e) (omega arith)) ∙ overlay-all (replicate 5 0) (bytesOf 5 e) (sym n)
+    let n : length (bytes_of 5 e) ≡ 5 = length_bytes 5 e in
+    l.invariant.4 ∙ ap (overlay (replicate 5 0) 0) (take_all l.i (bytes_of 5 e) (omega arith)) ∙ overlay_all (replicate 5 0) (bytes_of 5 e) (sym n)
 
-pub five-bytes-spec : {M : Type 1} → statement M
-five-bytes-spec =
+pub five_bytes_spec : {M : Type 1} → statement M
+five_bytes_spec =
     tie.close
     (tie.spec
     invariant-loop

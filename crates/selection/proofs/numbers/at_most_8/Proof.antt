@@ -8,5 +8,5 @@ returns c = simp (lt-ltb _ _ c.if1.true)
 returns-2 : tie.Need-returns-2
 returns-2 c = simp (le-ltb _ _ c.if1.false)
 
-pub at-most-8-spec : {M : Type 1} → statement M
-at-most-8-spec = tie.close (tie.spec returns returns-2)
+pub at_most_8_spec : {M : Type 1} → statement M
+at_most_8_spec = tie.close (tie.spec returns returns-2)

@@ -1,7 +1,7 @@
 use native.Mathlib.Omega.{arith}
 use borrow.Author.Rules.{rules}
 use Rattle.selection.specs.Selection.{size}
-use Rattle.selection.specs.SizeLaws.{size_small, size-large}
+use Rattle.selection.specs.SizeLaws.{size_small, size_large}
 use Rattle.selection.proofs.numbers.size_of.Statement.{statement}
 use Rattle.selection.proofs.numbers.size_of.Tie as tie
 
@@ -16,7 +16,7 @@ unfolding size
 returns c = size_small c.before.args.index (omega arith)
 
 returns-2 : tie.Need-returns-2
-returns-2 c = size-large c.before.args.index (omega arith)
+returns-2 c = size_large c.before.args.index (omega arith)
 
-pub size-of-spec : {M : Type 1} → statement M
-size-of-spec = tie.close (tie.spec mul-result array-read-result returns returns-2)
+pub size_of_spec : {M : Type 1} → statement M
+size_of_spec = tie.close (tie.spec mul-result array-read-result returns returns-2)

@@ -23,8 +23,8 @@ returns : tie.Need-returns
 unfolding atqa
 returns c = made _ (replicate 18 0) _ _ refl (ap (λ b. b ∷ 0 ∷ []) c.before.before.before.before.atqa-byte.ensures) c.before.put-bytes.ensures
 
-pub atqa-spec : {M : Type 1} → statement M
-atqa-spec =
+pub atqa_spec : {M : Type 1} → statement M
+atqa_spec =
     tie.close
     (tie.spec
     atqa-byte-requires

@@ -10,5 +10,5 @@ returns : tie.Need-returns
 unfolding hlta
 returns c = c.two_bytes.ensures
 
-pub hlta-spec : {M : Type 1} → statement M
-hlta-spec = tie.close (tie.spec two-bytes-requires returns)
+pub hlta_spec : {M : Type 1} → statement M
+hlta_spec = tie.close (tie.spec two-bytes-requires returns)

@@ -17,7 +17,7 @@ put-bytes-requires c κs = search rules
 returns : tie.Need-returns
 returns c = let n : length c.before.before.before.before.args.t1 ≡ 5 = search rules in made _ (replicate 45 0) _ _ (rw n) refl c.before.put-bytes.ensures
 
-pub level-row-spec : {M : Type 1} → statement M
-level-row-spec =
+pub level_row_spec : {M : Type 1} → statement M
+level_row_spec =
     tie.close
     (tie.spec slice-aggregate-put-bytes slice-aggregate-put-bytes-2 put-bytes-requires returns)

@@ -1,8 +1,8 @@
 use mathlib.Core.Path.{refl}
 use mathlib.Core.List.{[], ◌∷◌}
 use lib.ListN.{replicate}
-use Rattle.selection.specs.Selection.{sakFrame}
-use Rattle.selection.specs.SentLaws.{made, with-crc}
+use Rattle.selection.specs.Selection.{sak_frame}
+use Rattle.selection.specs.SentLaws.{made, with_crc_law}
 use borrow.Author.Rules.{rules}
 use Rattle.selection.proofs.sent.sak_frame.Statement.{statement}
 use Rattle.selection.proofs.sent.sak_frame.Tie as tie
@@ -29,11 +29,11 @@ put-bytes-requires : tie.Need-put-bytes-requires
 put-bytes-requires c κs = search rules
 
 returns : tie.Need-returns
-unfolding sakFrame
-returns c = made _ (replicate 27 0) _ _ refl (with-crc (c.before.before.before.before.before.before.args.sak ∷ []) c.before.before.before.before.crc-bytes.result c.before.before.before.before.crc-bytes.ensures) c.before.put-bytes.ensures
+unfolding sak_frame
+returns c = made _ (replicate 27 0) _ _ refl (with_crc_law (c.before.before.before.before.before.before.args.sak ∷ []) c.before.before.before.before.crc-bytes.result c.before.before.before.before.crc-bytes.ensures) c.before.put-bytes.ensures
 
-pub sak-frame-spec : {M : Type 1} → statement M
-sak-frame-spec =
+pub sak_frame_spec : {M : Type 1} → statement M
+sak_frame_spec =
     tie.close
     (tie.spec
     slice-aggregate-crc-bytes

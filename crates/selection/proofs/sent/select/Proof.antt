@@ -1,10 +1,10 @@
 use mathlib.Core.Path.{◌≡◌, refl, ap, ◌∙◌}
 use mathlib.Core.List.{[], ◌∷◌, ◌++◌}
 use lib.ListN.{length, replicate}
-use Rattle.crc.specs.Crc.{withCrc}
+use Rattle.crc.specs.Crc.{with_crc}
 use Rattle.frame.specs.Frame.{standard}
 use Rattle.selection.specs.Selection.{sel, select}
-use Rattle.selection.specs.SentLaws.{made-two, with-crc-whole, five-list, crc-two}
+use Rattle.selection.specs.SentLaws.{made_two, with_crc_whole, five_list, crc_two}
 use borrow.Author.Rules.{rules}
 use Rattle.selection.proofs.sent.select.Statement.{statement}
 use Rattle.selection.proofs.sent.select.Tie as tie
@@ -55,12 +55,12 @@ returns : tie.Need-returns
 unfolding select
 returns c =
     let n : length c.before.before.before.before.before.before.before.before.before.before.before.args.t2 ≡ 5 = search rules in
-    made-two _ _ (replicate 81 0) _ _ 63 (rw c.before.before.before.before.before.before.before.before.crc-bytes.ensures (crc-two _)) refl c.before.before.before.before.before.put-bytes.ensures c.before.put-bytes2.ensures
-    ∙ ap standard (with-crc-whole _ _ c.before.before.before.before.before.before.before.before.crc-bytes.ensures)
-    ∙ rw c.before.before.before.before.before.before.before.before.before.before.sel.ensures (ap (λ f. standard (withCrc (sel c.before.before.before.before.before.before.before.before.before.before.before.args.l ∷ 0x70 ∷ f))) (five-list c.before.before.before.before.before.before.before.before.before.before.before.args.t2 n))
+    made_two _ _ (replicate 81 0) _ _ 63 (rw c.before.before.before.before.before.before.before.before.crc-bytes.ensures (crc_two _)) refl c.before.before.before.before.before.put-bytes.ensures c.before.put-bytes2.ensures
+    ∙ ap standard (with_crc_whole _ _ c.before.before.before.before.before.before.before.before.crc-bytes.ensures)
+    ∙ rw c.before.before.before.before.before.before.before.before.before.before.sel.ensures (ap (λ f. standard (with_crc (sel c.before.before.before.before.before.before.before.before.before.before.before.args.l ∷ 0x70 ∷ f))) (five_list c.before.before.before.before.before.before.before.before.before.before.before.args.t2 n))
 
-pub select-spec : {M : Type 1} → statement M
-select-spec =
+pub select_spec : {M : Type 1} → statement M
+select_spec =
     tie.close
     (tie.spec
     sel-requires

@@ -10,5 +10,5 @@ returns : tie.Need-returns
 unfolding ats
 returns c = c.two_bytes.ensures
 
-pub ats-spec : {M : Type 1} → statement M
-ats-spec = tie.close (tie.spec two-bytes-requires returns)
+pub ats_spec : {M : Type 1} → statement M
+ats_spec = tie.close (tie.spec two-bytes-requires returns)

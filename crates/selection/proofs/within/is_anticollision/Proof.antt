@@ -4,8 +4,8 @@ use lib.ListN.{length-take}
 use mathlib.Core.Path.{◌≡◌, sym, ap, ◌∙◌}
 use native.Mathlib.Omega.{arith}
 use lib.ListN.{length}
-use Rattle.rows.specs.RowLaws.{overlay-front}
-use Rattle.selection.specs.SentLaws.{anti-length}
+use Rattle.rows.specs.RowLaws.{overlay_front}
+use Rattle.selection.specs.SentLaws.{anti_length}
 use borrow.Author.Rules.{rules}
 use Rattle.selection.proofs.within.is_anticollision.Statement.{statement}
 use Rattle.selection.proofs.within.is_anticollision.Tie as tie
@@ -31,11 +31,11 @@ is-same-requires c κs = search rules
 returns : tie.Need-returns
 returns c =
     let a = c.before.before.before.before.before.before.before.args in
-    let n : c.before.before.anticollision-bits.result ≡ length (anticollision a.l a.k a.five) = c.before.before.anticollision-bits.ensures ∙ sym (anti-length a.l a.k a.five (search rules)) in
-    c.is_same.ensures ∙ ap (same a.row.now) (rw (c.before.before.before.before.put-anticollision.ensures, n) (overlay-front _ (anticollision a.l a.k a.five)))
+    let n : c.before.before.anticollision-bits.result ≡ length (anticollision a.l a.k a.five) = c.before.before.anticollision-bits.ensures ∙ sym (anti_length a.l a.k a.five (search rules)) in
+    c.is_same.ensures ∙ ap (same a.row.now) (rw (c.before.before.before.before.put-anticollision.ensures, n) (overlay_front _ (anticollision a.l a.k a.five)))
 
-pub is-anticollision-spec : {M : Type 1} → statement M
-is-anticollision-spec =
+pub is_anticollision_spec : {M : Type 1} → statement M
+is_anticollision_spec =
     tie.close
     (tie.spec
     slice-aggregate-put-anticollision

@@ -1,8 +1,8 @@
 use mathlib.Core.Path.{◌≡◌, refl, sym, ◌∙◌}
 use native.Mathlib.Omega.{arith}
 use lib.ListN.{length, take, length-take}
-use Rattle.rows.specs.RowLaws.{length-overlay}
-use Rattle.selection.specs.SentLaws.{anti-made}
+use Rattle.rows.specs.RowLaws.{length_overlay}
+use Rattle.selection.specs.SentLaws.{anti_made}
 use borrow.Author.Rules.{rules}
 use Rattle.selection.proofs.within.put_anticollision.Statement.{statement}
 use Rattle.selection.proofs.within.put_anticollision.Tie as tie
@@ -29,10 +29,10 @@ array-share-prefix-level : tie.Need-array-share-prefix-level
 array-share-prefix-level c = search rules
 
 slice-aggregate-put : tie.Need-slice-aggregate-put
-slice-aggregate-put c = let n : length c.before.before.before.level-row.result ≡ 45 = search rules in rw length-take (omega arith)
+slice-aggregate-put c = let n : length c.before.before.before.level_row_law.result ≡ 45 = search rules in rw length-take (omega arith)
 
 put-requires : tie.Need-put-requires
-put-requires c κs = let n : length c.before.before.before.level-row.result ≡ 45 = search rules in rw length-take (omega (arith, c.before.before.before.before.before.before.put-bytes.auto.0))
+put-requires c κs = let n : length c.before.before.before.level_row_law.result ≡ 45 = search rules in rw length-take (omega (arith, c.before.before.before.before.before.before.put-bytes.auto.0))
 
 same_length : tie.Need-same-length
 same_length c = search rules
@@ -40,11 +40,11 @@ same_length c = search rules
 returns : tie.Need-returns
 returns c =
     let a = c.before.before.before.before.before.before.before.before.before.before.before.before.before.before.before.args in
-    anti-made a.l a.k a.five (search rules) a.out.now _ _ _ _ _ _ (omega arith) c.before.before.before.before.before.before.before.before.before.before.before.before.before.sel.ensures c.before.before.before.before.before.before.before.before.before.before.before.before.nvb.ensures c.before.before.before.before.before.cut.ensures c.before.before.before.before.before.before.level-row.ensures
+    anti_made a.l a.k a.five (search rules) a.out.now _ _ _ _ _ _ (omega arith) c.before.before.before.before.before.before.before.before.before.before.before.before.before.sel.ensures c.before.before.before.before.before.before.before.before.before.before.before.before.nvb.ensures c.before.before.before.before.before.cut.ensures c.before.before.before.before.before.before.level_row_law.ensures
     c.before.before.before.before.before.before.before.before.before.put-bytes.ensures c.before.before.put.ensures
 
-pub put-anticollision-spec : {M : Type 1} → statement M
-put-anticollision-spec =
+pub put_anticollision_spec : {M : Type 1} → statement M
+put_anticollision_spec =
     tie.close
     (tie.spec
     sel-requires

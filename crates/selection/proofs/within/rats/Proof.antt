@@ -13,5 +13,5 @@ returns : tie.Need-returns
 unfolding rats
 returns c = c.two_bytes.ensures
 
-pub rats-spec : {M : Type 1} → statement M
-rats-spec = tie.close (tie.spec mul-two-bytes two-bytes-requires returns)
+pub rats_spec : {M : Type 1} → statement M
+rats_spec = tie.close (tie.spec mul-two-bytes two-bytes-requires returns)

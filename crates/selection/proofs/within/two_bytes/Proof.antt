@@ -1,7 +1,7 @@
 use mathlib.Core.Path.{refl}
 use mathlib.Core.List.{[], ◌∷◌}
 use lib.ListN.{replicate}
-use Rattle.selection.specs.SentLaws.{made, with-crc}
+use Rattle.selection.specs.SentLaws.{made, with_crc_law}
 use borrow.Author.Rules.{rules}
 use Rattle.selection.proofs.within.two_bytes.Statement.{statement}
 use Rattle.selection.proofs.within.two_bytes.Tie as tie
@@ -28,10 +28,10 @@ put-bytes-requires : tie.Need-put-bytes-requires
 put-bytes-requires c κs = search rules
 
 returns : tie.Need-returns
-returns c = made _ (replicate 36 0) _ _ refl (with-crc (c.before.before.before.before.before.before.args.a ∷ c.before.before.before.before.before.before.args.b ∷ []) c.before.before.before.before.crc-bytes.result c.before.before.before.before.crc-bytes.ensures) c.before.put-bytes.ensures
+returns c = made _ (replicate 36 0) _ _ refl (with_crc_law (c.before.before.before.before.before.before.args.a ∷ c.before.before.before.before.before.before.args.b ∷ []) c.before.before.before.before.crc-bytes.result c.before.before.before.before.crc-bytes.ensures) c.before.put-bytes.ensures
 
-pub two-bytes-spec : {M : Type 1} → statement M
-two-bytes-spec =
+pub two_bytes_spec : {M : Type 1} → statement M
+two_bytes_spec =
     tie.close
     (tie.spec
     slice-aggregate-crc-bytes

@@ -1,6 +1,6 @@
 -- `selection_b::heard::read_attrib` meets its contract: what the byte says. Assumes nothing.
-use Rattle.selection_b.specs.HeardBLaws.{attrib-forbidden, attrib-mbli, attrib-not, says-too}
-use Rattle.selection_b.specs.SaysB.{attribSays}
+use Rattle.selection_b.specs.HeardBLaws.{attrib_forbidden, attrib_mbli, attrib_not, says_too}
+use Rattle.selection_b.specs.SaysB.{attrib_says}
 use borrow.Author.Rules.{rules}
 use Rattle.selection_b.proofs.heard.read_attrib.Statement.{statement}
 use Rattle.selection_b.proofs.heard.read_attrib.Tie as tie
@@ -12,17 +12,17 @@ enum-known-a : tie.Need-enum-known-a
 enum-known-a c = search rules
 
 returns : tie.Need-returns
-returns c = says-too attribSays (attrib-forbidden _ _ c.before.before.before.before.read_byte.ensures _ c.before.before.a.given.1 c.if1.true)
+returns c = says_too attrib_says (attrib_forbidden _ _ c.before.before.before.before.read_byte.ensures _ c.before.before.a.given.1 c.if1.true)
 
 enum-known-a-2 : tie.Need-enum-known-a-2
 enum-known-a-2 c = search rules
 
 returns-2 : tie.Need-returns-2
-returns-2 c = says-too attribSays (attrib-mbli _ _ c.before.before.before.before.read_byte.ensures _ c.before.before.a.given.1 c.if1.false)
+returns-2 c = says_too attrib_says (attrib_mbli _ _ c.before.before.before.before.read_byte.ensures _ c.before.before.a.given.1 c.if1.false)
 
 returns-3 : tie.Need-returns-3
-returns-3 c = says-too attribSays (attrib-not _ _ c.before.before.before.read_byte.ensures _ c.before.a2.given.1)
+returns-3 c = says_too attrib_says (attrib_not _ _ c.before.before.before.read_byte.ensures _ c.before.a2.given.1)
 
-pub read-attrib-spec : {M : Type 1} → statement M
-read-attrib-spec =
+pub read_attrib_spec : {M : Type 1} → statement M
+read_attrib_spec =
     tie.close (tie.spec read-byte-requires enum-known-a returns enum-known-a-2 returns-2 returns-3)

@@ -3,8 +3,8 @@ use mathlib.Core.Path.{sym, ap, ◌∙◌}
 use lib.ListN.{length, length-take}
 use native.Mathlib.Omega.{arith}
 use borrow.Author.Tests.{not-true, not-false}
-use Rattle.frame.specs.ByteLaws.{length-bytes}
-use Rattle.selection_b.specs.HeardBLaws.{bytes_whole, slot-crc, slot-forbidden, slot-one}
+use Rattle.frame.specs.ByteLaws.{length_bytes}
+use Rattle.selection_b.specs.HeardBLaws.{bytes_whole, slot_crc, slot_forbidden, slot_one}
 use borrow.Author.Rules.{rules}
 use Rattle.selection_b.proofs.heard.slot_in.Statement.{statement}
 use Rattle.selection_b.proofs.heard.slot_in.Tie as tie
@@ -25,7 +25,7 @@ nobody-requires : tie.Need-nobody-requires
 nobody-requires c κs = search rules
 
 returns : tie.Need-returns
-returns c = c.nobody.ensures ∙ slot-crc _ _ (bytes_whole 14 _ _ c.before.before.before.before.before.bytes_of.ensures) (sym c.before.before.is-good-b.ensures ∙ not-true _ c.before.if1.true)
+returns c = c.nobody.ensures ∙ slot_crc _ _ (bytes_whole 14 _ _ c.before.before.before.before.before.bytes_of.ensures) (sym c.before.before.is-good-b.ensures ∙ not-true _ c.before.if1.true)
 
 array-read-if2 : tie.Need-array-read-if2
 array-read-if2 c = search rules
@@ -36,7 +36,7 @@ nobody-requires-2 c κs = search rules
 returns-2 : tie.Need-returns-2
 returns-2 c = let g = c.before.before.before in
     let e = bytes_whole 14 _ _ g.before.before.before.bytes_of.ensures in
-    c.nobody2.ensures ∙ slot-forbidden _ _ e (ap length e ∙ length-bytes 14 _) (sym g.is-good-b.ensures ∙ not-false _ c.before.before.if1.false) c.before.if2.true
+    c.nobody2.ensures ∙ slot_forbidden _ _ e (ap length e ∙ length_bytes 14 _) (sym g.is-good-b.ensures ∙ not-false _ c.before.before.if1.false) c.before.if2.true
 
 slice-aggregate-put : tie.Need-slice-aggregate-put
 slice-aggregate-put c = search rules
@@ -46,19 +46,19 @@ array-share-prefix-held c = search rules
 
 slice-aggregate-put-2 : tie.Need-slice-aggregate-put-2
 slice-aggregate-put-2 c = let e = bytes_whole 14 _ _ c.before.before.before.before.before.before.before.bytes_of.ensures in
-    rw length-take (omega (arith, ap length e ∙ length-bytes 14 _))
+    rw length-take (omega (arith, ap length e ∙ length_bytes 14 _))
 
 put-requires : tie.Need-put-requires
 put-requires c κs = let e = bytes_whole 14 _ _ c.before.before.before.before.before.before.before.bytes_of.ensures in
-    rw length-take (omega (arith, ap length e ∙ length-bytes 14 _))
+    rw length-take (omega (arith, ap length e ∙ length_bytes 14 _))
 
 returns-3 : tie.Need-returns-3
 returns-3 c = let g = c.before.before.before.before.before.before in
     let e = bytes_whole 14 _ _ g.before.before.before.bytes_of.ensures in
-    slot-one _ _ e (ap length e ∙ length-bytes 14 _) (sym g.is-good-b.ensures ∙ not-false _ c.before.before.before.before.before.if1.false) c.before.before.before.before.if2.false _ c.before.put.ensures
+    slot_one _ _ e (ap length e ∙ length_bytes 14 _) (sym g.is-good-b.ensures ∙ not-false _ c.before.before.before.before.before.if1.false) c.before.before.before.before.if2.false _ c.before.put.ensures
 
-pub slot-in-spec : {M : Type 1} → statement M
-slot-in-spec =
+pub slot_in_spec : {M : Type 1} → statement M
+slot_in_spec =
     tie.close
     (tie.spec
     slice-aggregate-bytes-of

@@ -2,7 +2,7 @@
 use mathlib.Core.Path.{◌≡◌, ap, ◌∙◌}
 use lib.ListN.{length}
 use native.Mathlib.Omega.{arith}
-use Rattle.frame_b.specs.FrameB.{frameB}
+use Rattle.frame_b.specs.FrameB.{frame_b}
 use Rattle.selection_b.specs.SentBLaws.{framed}
 use borrow.Author.Rules.{rules}
 use Rattle.selection_b.proofs.sent.atqb.Statement.{statement}
@@ -23,10 +23,10 @@ put-frame-requires c κs = search rules
 returns : tie.Need-returns
 returns c = let b = c.before.before.before.before in
     let n : length b.atqb-bytes.result ≡ 12 = search rules in
-    framed 112 _ _ (omega arith) c.before.put-frame.ensures ∙ ap frameB b.atqb-bytes.ensures
+    framed 112 _ _ (omega arith) c.before.put-frame.ensures ∙ ap frame_b b.atqb-bytes.ensures
 
-pub atqb-spec : {M : Type 1} → statement M
-atqb-spec =
+pub atqb_spec : {M : Type 1} → statement M
+atqb_spec =
     tie.close
     (tie.spec
     atqb-bytes-requires

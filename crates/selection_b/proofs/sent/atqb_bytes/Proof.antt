@@ -1,8 +1,8 @@
 -- `selection_b::sent::atqb_bytes` meets its contract: the parts are written one behind the other. Assumes nothing.
 use mathlib.Core.Path.{◌≡◌}
 use lib.ListN.{length}
-use Rattle.selection_b.specs.TypeB.{atqbBytes}
-use Rattle.selection_b.specs.SentBLaws.{joined-three}
+use Rattle.selection_b.specs.TypeB.{atqb_bytes}
+use Rattle.selection_b.specs.SentBLaws.{joined_three}
 use borrow.Author.Rules.{rules}
 use Rattle.selection_b.proofs.sent.atqb_bytes.Statement.{statement}
 use Rattle.selection_b.proofs.sent.atqb_bytes.Tie as tie
@@ -40,16 +40,16 @@ lengths : {k : lts.Claims} (s : lts.Start k reads.Pre reads.Post) → (length s.
 lengths s = (search rules, search rules, search rules)
 
 returns : tie.Need-returns
-unfolding atqbBytes
+unfolding atqb_bytes
 returns c = let b = c.before in
     let d = b.before.before.before.before in
     let e = d.before.before.before.before in
     let a = e.before.before.before.args in
     let l = lengths e.before.before.before in
-    joined-three 0x50 a.t1 l.0 a.t2 l.1 a.t3 l.2 _ _ _ e.put.ensures d.put2.ensures b.put3.ensures
+    joined_three 0x50 a.t1 l.0 a.t2 l.1 a.t3 l.2 _ _ _ e.put.ensures d.put2.ensures b.put3.ensures
 
-pub atqb-bytes-spec : {M : Type 1} → statement M
-atqb-bytes-spec =
+pub atqb_bytes_spec : {M : Type 1} → statement M
+atqb_bytes_spec =
     tie.close
     (tie.spec
     slice-aggregate-put

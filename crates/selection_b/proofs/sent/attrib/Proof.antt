@@ -4,9 +4,9 @@ use mathlib.Core.List.{◌∷◌, ◌++◌}
 use lib.ListN.{length, length-append, replicate}
 use native.Mathlib.Omega.{arith}
 use Rattle.rows.specs.Rows.{overlay}
-use Rattle.frame_b.specs.FrameB.{frameB}
+use Rattle.frame_b.specs.FrameB.{frame_b}
 use Rattle.selection_b.specs.TypeB.{attrib}
-use Rattle.selection_b.specs.SentBLaws.{framed, joined-two}
+use Rattle.selection_b.specs.SentBLaws.{framed, joined_two}
 use borrow.Author.Rules.{rules}
 use Rattle.selection_b.proofs.sent.attrib.Statement.{statement}
 use Rattle.selection_b.proofs.sent.attrib.Tie as tie
@@ -45,10 +45,10 @@ returns c = let b = c.before.before.before.before.before in
     let a = d.before.before.before.args in
     let n : length a.t1 ≡ 4 = search rules in
     let m : length a.t2 ≡ 4 = search rules in
-    framed 88 (0x1D ∷ (a.t1 ++ a.t2)) _ (rw length-append (omega arith)) (c.before.put-frame.ensures ∙ ap (λ l. overlay (replicate 88 0) 0 (frameB l)) (joined-two 0x1D a.t1 n a.t2 m _ _ d.put.ensures b.put2.ensures))
+    framed 88 (0x1D ∷ (a.t1 ++ a.t2)) _ (rw length-append (omega arith)) (c.before.put-frame.ensures ∙ ap (λ l. overlay (replicate 88 0) 0 (frame_b l)) (joined_two 0x1D a.t1 n a.t2 m _ _ d.put.ensures b.put2.ensures))
 
-pub attrib-spec : {M : Type 1} → statement M
-attrib-spec =
+pub attrib_spec : {M : Type 1} → statement M
+attrib_spec =
     tie.close
     (tie.spec
     slice-aggregate-put

@@ -2,8 +2,8 @@
 use mathlib.Core.Path.{◌≡◌, refl, ap₂, ◌∙◌}
 use lib.ListN.{length}
 use native.Mathlib.Omega.{arith}
-use Rattle.selection_b.specs.TypeB.{attrib, parametersFor, attribFor}
-use Rattle.selection_b.specs.SentBLaws.{pupi-of}
+use Rattle.selection_b.specs.TypeB.{attrib, parameters_for, attrib_for}
+use Rattle.selection_b.specs.SentBLaws.{pupi_of}
 use borrow.Author.Rules.{rules}
 use Rattle.selection_b.proofs.sent.attrib_for.Statement.{statement}
 use Rattle.selection_b.proofs.sent.attrib_for.Tie as tie
@@ -30,13 +30,13 @@ attrib-requires : tie.Need-attrib-requires
 attrib-requires c κs = search rules
 
 returns : tie.Need-returns
-unfolding attribFor parametersFor
+unfolding attrib_for parameters_for
 returns c = let a = c.before.before.args in
     let n : length a.t1 ≡ 12 = search rules in
-    c.attrib.ensures ∙ rw c.before.kind-of.ensures (ap₂ attrib (pupi-of a.t1 (omega arith)) refl)
+    c.attrib.ensures ∙ rw c.before.kind-of.ensures (ap₂ attrib (pupi_of a.t1 (omega arith)) refl)
 
-pub attrib-for-spec : {M : Type 1} → statement M
-attrib-for-spec =
+pub attrib_for_spec : {M : Type 1} → statement M
+attrib_for_spec =
     tie.close
     (tie.spec
     array-read-kind-of

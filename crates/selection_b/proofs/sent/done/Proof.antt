@@ -11,5 +11,5 @@ returns : tie.Need-returns
 unfolding done
 returns c = c.one_byte.ensures
 
-pub done-spec : {M : Type 1} → statement M
-done-spec = tie.close (tie.spec one-byte-requires returns)
+pub done_spec : {M : Type 1} → statement M
+done_spec = tie.close (tie.spec one-byte-requires returns)

@@ -4,7 +4,7 @@ use mathlib.Core.List.{◌∷◌}
 use lib.ListN.{length, replicate}
 use native.Mathlib.Omega.{arith}
 use Rattle.rows.specs.Rows.{overlay}
-use Rattle.frame_b.specs.FrameB.{frameB}
+use Rattle.frame_b.specs.FrameB.{frame_b}
 use Rattle.selection_b.specs.TypeB.{hltb}
 use Rattle.selection_b.specs.SentBLaws.{framed, joined}
 use borrow.Author.Rules.{rules}
@@ -34,10 +34,10 @@ unfolding hltb
 returns c = let b = c.before.before.before.before.before in
     let a = b.before.before.before.args in
     let n : length a.t1 ≡ 4 = search rules in
-    framed 56 (0x50 ∷ a.t1) _ (omega arith) (c.before.put-frame.ensures ∙ ap (λ l. overlay (replicate 56 0) 0 (frameB l)) (joined 0x50 a.t1 n _ b.put.ensures))
+    framed 56 (0x50 ∷ a.t1) _ (omega arith) (c.before.put-frame.ensures ∙ ap (λ l. overlay (replicate 56 0) 0 (frame_b l)) (joined 0x50 a.t1 n _ b.put.ensures))
 
-pub hltb-spec : {M : Type 1} → statement M
-hltb-spec =
+pub hltb_spec : {M : Type 1} → statement M
+hltb_spec =
     tie.close
     (tie.spec
     slice-aggregate-put

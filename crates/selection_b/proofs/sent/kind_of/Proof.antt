@@ -12,5 +12,5 @@ returns-2 : tie.Need-returns-2
 unfolding kind_of
 returns-2 c = simp (ne_eqb _ _ c.if1.false)
 
-pub kind-of-spec : {M : Type 1} → statement M
-kind-of-spec = tie.close (tie.spec returns returns-2)
+pub kind_of_spec : {M : Type 1} → statement M
+kind_of_spec = tie.close (tie.spec returns returns-2)

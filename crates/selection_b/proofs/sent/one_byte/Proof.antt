@@ -17,7 +17,7 @@ put-frame-requires c κs = search rules
 returns : tie.Need-returns
 returns c = framed 24 _ _ refl c.before.put-frame.ensures
 
-pub one-byte-spec : {M : Type 1} → statement M
-one-byte-spec =
+pub one_byte_spec : {M : Type 1} → statement M
+one_byte_spec =
     tie.close
     (tie.spec slice-aggregate-put-frame slice-aggregate-put-frame-2 put-frame-requires returns)

@@ -14,5 +14,5 @@ returns : tie.Need-returns
 unfolding request
 returns c = rw (c.three-bytes.ensures, c.before.param.ensures)
 
-pub request-spec : {M : Type 1} → statement M
-request-spec = tie.close (tie.spec param-requires three-bytes-requires returns)
+pub request_spec : {M : Type 1} → statement M
+request_spec = tie.close (tie.spec param-requires three-bytes-requires returns)

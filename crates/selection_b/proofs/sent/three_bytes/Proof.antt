@@ -17,7 +17,7 @@ put-frame-requires c κs = search rules
 returns : tie.Need-returns
 returns c = framed 40 _ _ refl c.before.put-frame.ensures
 
-pub three-bytes-spec : {M : Type 1} → statement M
-three-bytes-spec =
+pub three_bytes_spec : {M : Type 1} → statement M
+three_bytes_spec =
     tie.close
     (tie.spec slice-aggregate-put-frame slice-aggregate-put-frame-2 put-frame-requires returns)

@@ -4,12 +4,12 @@ use Prim.Native.Nat.{◌-◌}
 use lib.ListN.{length, length-take, length-drop}
 use native.Mathlib.Omega.{arith}
 use borrow.Author.Tests.{not-true, not-false}
-use Rattle.rows.specs.HeardLaws.{clean-take, clean_drop}
+use Rattle.rows.specs.HeardLaws.{clean_take, clean_drop}
 use Rattle.rows.specs.Rows.{same}
 use Rattle.selection_b.specs.TypeB.{attrib}
-use Rattle.selection_b.specs.TakenB.{isAttrib}
-use Rattle.selection_b.specs.TypeBLaws.{attrib-length}
-use Rattle.selection_b.specs.SentBLaws.{attrib-clean, parameters-are}
+use Rattle.selection_b.specs.TakenB.{is_attrib}
+use Rattle.selection_b.specs.TypeBLaws.{attrib_length}
+use Rattle.selection_b.specs.SentBLaws.{attrib_clean, parameters_are}
 use borrow.Author.Rules.{rules}
 use Rattle.selection_b.proofs.taken.is_attrib.Statement.{statement}
 use Rattle.selection_b.proofs.taken.is_attrib.Tie as tie
@@ -17,13 +17,13 @@ use Rattle.selection_b.proofs.taken.is_attrib.Tie as tie
 returns : tie.Need-returns
 returns c = let a = c.before.before.args in
     let n : length a.pupi ≡ 4 = search rules in
-    sym (attrib-length a.pupi a.row.now n c.if1.true)
+    sym (attrib_length a.pupi a.row.now n c.if1.true)
 
 is-clean-requires : tie.Need-is-clean-requires
 is-clean-requires c κs = search rules
 
 returns-2 : tie.Need-returns-2
-returns-2 c = sym (attrib-clean _ _ (sym c.before.is-clean.ensures ∙ not-true _ c.if2.true))
+returns-2 c = sym (attrib_clean _ _ (sym c.before.is_clean.ensures ∙ not-true _ c.if2.true))
 
 sub-bytes-of : tie.Need-overflow-sub-bytes-of
 sub-bytes-of c = search rules
@@ -40,7 +40,7 @@ slice-aggregate-bytes-of c = search rules
 bytes-of-requires : tie.Need-bytes-of-requires
 bytes-of-requires c κs = let b = c.before.before in
     let l : length b.before.before.before.before.args.row.now ≡ 88 = b.before.before.if1.false in
-    (rw (length-take, length-drop) (omega arith), omega arith, clean-take (length b.before.before.before.before.args.row.now - 40) _ (clean_drop 40 _ (sym b.before.is-clean.ensures ∙ not-false _ b.if2.false)))
+    (rw (length-take, length-drop) (omega arith), omega arith, clean_take (length b.before.before.before.before.args.row.now - 40) _ (clean_drop 40 _ (sym b.before.is_clean.ensures ∙ not-false _ b.if2.false)))
 
 attrib-requires : tie.Need-attrib-requires
 attrib-requires c κs = search rules
@@ -52,15 +52,15 @@ is-same-requires : tie.Need-is-same-requires
 is-same-requires c κs = search rules
 
 returns-3 : tie.Need-returns-3
-unfolding isAttrib
+unfolding is_attrib
 returns-3 c = let d = c.before.before.before.before in
     let b = d.before.before.before in
     let a = b.before.before.before.before.args in
     let f = a.row.now in
-    c.is_same.ensures ∙ ap (same f) (c.before.before.attrib.ensures ∙ ap (attrib a.pupi) (parameters-are f _ b.before.before.if1.false d.bytes_of.ensures))
+    c.is_same.ensures ∙ ap (same f) (c.before.before.attrib.ensures ∙ ap (attrib a.pupi) (parameters_are f _ b.before.before.if1.false d.bytes_of.ensures))
 
-pub is-attrib-spec : {M : Type 1} → statement M
-is-attrib-spec =
+pub is_attrib_spec : {M : Type 1} → statement M
+is_attrib_spec =
     tie.close
     (tie.spec
     returns

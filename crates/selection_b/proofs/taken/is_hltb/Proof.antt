@@ -17,5 +17,5 @@ is-same-requires c κs = search rules
 returns : tie.Need-returns
 returns c = c.is_same.ensures ∙ ap (same c.before.before.before.before.args.row.now) c.before.before.hltb.ensures
 
-pub is-hltb-spec : {M : Type 1} → statement M
-is-hltb-spec = tie.close (tie.spec hltb-requires slice-aggregate-is-same is-same-requires returns)
+pub is_hltb_spec : {M : Type 1} → statement M
+is_hltb_spec = tie.close (tie.spec hltb-requires slice-aggregate-is-same is-same-requires returns)

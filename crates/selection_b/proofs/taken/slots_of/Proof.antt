@@ -28,5 +28,5 @@ returns-6 : tie.Need-returns-6
 unfolding slots_of
 returns-6 c = simp (ne_eqb _ _ c.before.before.before.before.if1.false, ne_eqb _ _ c.before.before.before.if2.false, ne_eqb _ _ c.before.before.if3.false, ne_eqb _ _ c.before.if4.false, ne_eqb _ _ c.if5.false)
 
-pub slots-of-spec : {M : Type 1} → statement M
-slots-of-spec = tie.close (tie.spec returns returns-2 returns-3 returns-4 returns-5 returns-6)
+pub slots_of_spec : {M : Type 1} → statement M
+slots_of_spec = tie.close (tie.spec returns returns-2 returns-3 returns-4 returns-5 returns-6)

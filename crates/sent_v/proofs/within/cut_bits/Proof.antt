@@ -2,8 +2,8 @@
 use mathlib.Core.Path.{◌≡◌, ap, ◌∙◌}
 use lib.ListN.{length, length-take, take, replicate}
 use Rattle.rows.specs.Rows.{overlay}
-use Rattle.request_v.specs.InventoryLaws.{bits-whole}
-use Rattle.sent_v.specs.SentLaws.{cut-is}
+use Rattle.request_v.specs.InventoryLaws.{bits_whole}
+use Rattle.sent_v.specs.SentLaws.{cut_is}
 use borrow.Author.Rules.{rules}
 use native.Mathlib.Omega.{arith}
 use Rattle.sent_v.proofs.within.cut_bits.Statement.{statement}
@@ -32,11 +32,11 @@ put-requires c κs = rw length-take (omega arith)
 
 returns : tie.Need-returns
 returns c =
-    let w = bits-whole c.before.before.before.before.before.before.before.before.args.t1 _ (search rules) c.before.before.before.before.before.put-bits.ensures in
-    cut-is _ _ (c.before.put.ensures ∙ ap (λ r. overlay (replicate 64 0) 0 (take c.before.before.before.before.before.before.before.before.args.len r)) w)
+    let w = bits_whole c.before.before.before.before.before.before.before.before.args.t1 _ (search rules) c.before.before.before.before.before.put-bits.ensures in
+    cut_is _ _ (c.before.put.ensures ∙ ap (λ r. overlay (replicate 64 0) 0 (take c.before.before.before.before.before.before.before.before.args.len r)) w)
 
-pub cut-bits-spec : {M : Type 1} → statement M
-cut-bits-spec =
+pub cut_bits_spec : {M : Type 1} → statement M
+cut_bits_spec =
     tie.close
     (tie.spec
     slice-aggregate-put-bits

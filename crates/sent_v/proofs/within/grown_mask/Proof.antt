@@ -3,10 +3,10 @@ use mathlib.Core.Path.{◌≡◌, sym, ap, ◌∙◌}
 use mathlib.Core.List.{◌++◌}
 use lib.ListN.{length, length-take, take}
 use Rattle.rows.specs.Rows.{overlay, fill}
-use Rattle.frame.specs.Frame.{airBits, bytesOf}
-use Rattle.frame.specs.ByteLaws.{length-airBits}
-use Rattle.sent_v.specs.Sent.{grownMask}
-use Rattle.sent_v.specs.SentLaws.{grown-bits, grown-read, fill-clean, whole-bytes}
+use Rattle.frame.specs.Frame.{air_bits, bytes_of}
+use Rattle.frame.specs.ByteLaws.{length_air_bits}
+use Rattle.sent_v.specs.Sent.{grown_mask}
+use Rattle.sent_v.specs.SentLaws.{grown_bits, grown_read, fill_clean, whole_bytes_law}
 use borrow.Author.Rules.{rules}
 use native.Mathlib.Omega.{arith}
 use Rattle.sent_v.proofs.within.grown_mask.Statement.{statement}
@@ -37,14 +37,14 @@ slice-aggregate-bytes-of-2 : tie.Need-slice-aggregate-bytes-of-2
 slice-aggregate-bytes-of-2 c = search rules
 
 bytes-of-requires : tie.Need-bytes-of-requires
-bytes-of-requires c κs = (search rules, search rules, rw (grown-read c.before.before.before.before.before.before.before.before.args.mask c.before.before.before.before.before.before.before.before.args.len c.before.before.before.before.before.before.before.before.args.slot _ _ _ (search rules) c.before.before.before.before.before.before.before.before.requires c.before.before.before.before.before.before.before.cut-bits.ensures c.before.before.before.before.before.before.bits_of.ensures c.before.before.before.put.ensures) (fill-clean _ (grown-bits c.before.before.before.before.before.before.before.before.args.mask c.before.before.before.before.before.before.before.before.args.len c.before.before.before.before.before.before.before.before.args.slot)))
+bytes-of-requires c κs = (search rules, search rules, rw (grown_read c.before.before.before.before.before.before.before.before.args.mask c.before.before.before.before.before.before.before.before.args.len c.before.before.before.before.before.before.before.before.args.slot _ _ _ (search rules) c.before.before.before.before.before.before.before.before.requires c.before.before.before.before.before.before.before.cut_bits.ensures c.before.before.before.before.before.before.bits_of.ensures c.before.before.before.put.ensures) (fill_clean _ (grown_bits c.before.before.before.before.before.before.before.before.args.mask c.before.before.before.before.before.before.before.before.args.len c.before.before.before.before.before.before.before.before.args.slot)))
 
 returns : tie.Need-returns
-unfolding grownMask
-returns c = whole-bytes _ _ c.before.bytes_of.ensures ∙ ap (bytesOf 8) (grown-read c.before.before.before.before.before.before.before.before.before.before.args.mask c.before.before.before.before.before.before.before.before.before.before.args.len c.before.before.before.before.before.before.before.before.before.before.args.slot _ _ _ (search rules) c.before.before.before.before.before.before.before.before.before.before.requires c.before.before.before.before.before.before.before.before.before.cut-bits.ensures c.before.before.before.before.before.before.before.before.bits_of.ensures c.before.before.before.before.before.put.ensures)
+unfolding grown_mask
+returns c = whole_bytes_law _ _ c.before.bytes_of.ensures ∙ ap (bytes_of 8) (grown_read c.before.before.before.before.before.before.before.before.before.before.args.mask c.before.before.before.before.before.before.before.before.before.before.args.len c.before.before.before.before.before.before.before.before.before.before.args.slot _ _ _ (search rules) c.before.before.before.before.before.before.before.before.before.before.requires c.before.before.before.before.before.before.before.before.before.cut_bits.ensures c.before.before.before.before.before.before.before.before.bits_of.ensures c.before.before.before.before.before.put.ensures)
 
-pub grown-mask-spec : {M : Type 1} → statement M
-grown-mask-spec =
+pub grown_mask_spec : {M : Type 1} → statement M
+grown_mask_spec =
     tie.close
     (tie.spec
     cut-bits-requires

@@ -2,7 +2,7 @@
 use mathlib.Core.Path.{◌≡◌, ap, ◌∙◌}
 use mathlib.Core.List.{◌∷◌}
 use lib.ListN.{length}
-use Rattle.sent_v.specs.SentLaws.{head-put}
+use Rattle.sent_v.specs.SentLaws.{head_put}
 use borrow.Author.Rules.{rules}
 use native.Mathlib.Omega.{arith}
 use Rattle.sent_v.proofs.within.head_bytes.Statement.{statement}
@@ -27,10 +27,10 @@ put-requires : tie.Need-put-requires
 put-requires c κs = let n : length c.before.before.before.before.args.k.uid ≡ 8 = search rules in omega arith
 
 returns : tie.Need-returns
-returns c = head-put _ c.before.before.before.before.before.before.args.k.code c.before.before.before.before.before.before.args.k.uid _ (search rules) c.before.put.ensures ∙ ap (λ f. f ∷ c.before.before.before.before.before.before.args.k.code ∷ c.before.before.before.before.before.before.args.k.uid) c.before.before.before.before.head-flags.ensures
+returns c = head_put _ c.before.before.before.before.before.before.args.k.code c.before.before.before.before.before.before.args.k.uid _ (search rules) c.before.put.ensures ∙ ap (λ f. f ∷ c.before.before.before.before.before.before.args.k.code ∷ c.before.before.before.before.before.before.args.k.uid) c.before.before.before.before.head-flags.ensures
 
-pub head-bytes-spec : {M : Type 1} → statement M
-head-bytes-spec =
+pub head_bytes_spec : {M : Type 1} → statement M
+head_bytes_spec =
     tie.close
     (tie.spec
     head-flags-requires

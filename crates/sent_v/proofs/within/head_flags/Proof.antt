@@ -18,5 +18,5 @@ returns c = rw (c.if1.true, c.before.mode-flags.ensures.0)
 returns-2 : tie.Need-returns-2
 returns-2 c = rw c.if1.false (omega (arith, c.before.mode-flags.ensures.0))
 
-pub head-flags-spec : {M : Type 1} → statement M
-head-flags-spec = tie.close (tie.spec mode-flags-requires add-result returns returns-2)
+pub head_flags_spec : {M : Type 1} → statement M
+head_flags_spec = tie.close (tie.spec mode-flags-requires add-result returns returns-2)

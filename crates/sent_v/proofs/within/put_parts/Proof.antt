@@ -2,10 +2,10 @@
 use mathlib.Core.List.{◌++◌}
 use Prim.Native.Nat.{◌+◌}
 use lib.ListN.{length}
-use Rattle.rows.specs.ListLaws.{bytes-at}
-use Rattle.frame_b.specs.FrameBLaws.{length-frame}
-use Rattle.frame_v.specs.FrameVLaws.{closed, front-clean}
-use Rattle.sent_v.specs.SentLaws.{parts-put, parts-length, parts-bytes}
+use Rattle.rows.specs.ListLaws.{bytes_at_law}
+use Rattle.frame_b.specs.FrameBLaws.{length_frame}
+use Rattle.frame_v.specs.FrameVLaws.{closed, front_clean}
+use Rattle.sent_v.specs.SentLaws.{parts_put, parts_length, parts_bytes}
 use borrow.Author.Rules.{rules}
 use native.Mathlib.Omega.{arith}
 use Rattle.sent_v.proofs.within.put_parts.Statement.{statement}
@@ -37,8 +37,8 @@ put-crc-requires c κs =
     let a = c.before.before.before.before.before.before.before.before.before.before.before.before.before.before.before.before.before.args.a.now in
     let b = c.before.before.before.before.before.before.before.before.before.before.before.before.before.before.before.before.before.args.b.now in
     let d = c.before.before.before.before.before.before.before.before.before.before.before.before.before.before.before.before.before.args.d.now in
-    let o = parts-put c.before.before.before.before.before.before.before.before.before.before.before.before.before.before.before.before.before.args.out.now a b d _ _ _ c.before.before.before.before.before.before.before.before.before.before.before.before.before.before.before.before.before.requires c.before.before.before.before.before.before.before.before.before.before.before.put-bits.ensures c.before.before.before.before.before.before.before.put-bits2.ensures c.before.before.before.put-bits3.ensures in
-    (omega (arith, c.before.before.before.before.before.before.before.before.before.before.before.before.before.before.before.before.before.requires), front-clean c.before.before.before.before.before.before.before.before.before.before.before.before.before.before.before.before.before.args.out.now (a ++ (b ++ d)) _ (length a + length b + length d) (parts-length a b d) o)
+    let o = parts_put c.before.before.before.before.before.before.before.before.before.before.before.before.before.before.before.before.before.args.out.now a b d _ _ _ c.before.before.before.before.before.before.before.before.before.before.before.before.before.before.before.before.before.requires c.before.before.before.before.before.before.before.before.before.before.before.put-bits.ensures c.before.before.before.before.before.before.before.put-bits2.ensures c.before.before.before.put-bits3.ensures in
+    (omega (arith, c.before.before.before.before.before.before.before.before.before.before.before.before.before.before.before.before.before.requires), front_clean c.before.before.before.before.before.before.before.before.before.before.before.before.before.before.before.before.before.args.out.now (a ++ (b ++ d)) _ (length a + length b + length d) (parts_length a b d) o)
 
 add-result : tie.Need-overflow-add-result
 add-result c = search rules
@@ -54,13 +54,13 @@ returns c =
     let a = c.before.before.before.before.before.before.before.before.before.before.before.before.before.before.before.before.before.before.before.before.args.a.now in
     let b = c.before.before.before.before.before.before.before.before.before.before.before.before.before.before.before.before.before.before.before.before.args.b.now in
     let d = c.before.before.before.before.before.before.before.before.before.before.before.before.before.before.before.before.before.before.before.before.args.d.now in
-    let o = parts-put c.before.before.before.before.before.before.before.before.before.before.before.before.before.before.before.before.before.before.before.before.args.out.now a b d _ _ _ c.before.before.before.before.before.before.before.before.before.before.before.before.before.before.before.before.before.before.before.before.requires c.before.before.before.before.before.before.before.before.before.before.before.before.before.before.put-bits.ensures c.before.before.before.before.before.before.before.before.before.before.put-bits2.ensures c.before.before.before.before.before.before.put-bits3.ensures in (
-      omega (arith, length-frame (a ++ (b ++ d)), parts-length a b d),
-      closed c.before.before.before.before.before.before.before.before.before.before.before.before.before.before.before.before.before.before.before.before.args.out.now (a ++ (b ++ d)) _ _ (length a + length b + length d) (parts-bytes a b d (bytes-at a c.before.before.before.before.before.before.before.before.before.before.before.before.before.before.before.before.before.before.before.shared-slice-known.given) (bytes-at b c.before.before.before.before.before.before.before.before.before.before.before.before.before.before.before.before.before.before.shared-slice-known2.given) (bytes-at d c.before.before.before.before.before.before.before.before.before.before.before.before.before.before.before.before.before.shared-slice-known3.given)) (parts-length a b d) c.before.before.before.before.before.before.before.before.before.before.before.before.before.before.before.before.before.before.before.before.requires o c.before.before.put-crc.ensures,
+    let o = parts_put c.before.before.before.before.before.before.before.before.before.before.before.before.before.before.before.before.before.before.before.before.args.out.now a b d _ _ _ c.before.before.before.before.before.before.before.before.before.before.before.before.before.before.before.before.before.before.before.before.requires c.before.before.before.before.before.before.before.before.before.before.before.before.before.before.put-bits.ensures c.before.before.before.before.before.before.before.before.before.before.put-bits2.ensures c.before.before.before.before.before.before.put-bits3.ensures in (
+      omega (arith, length_frame (a ++ (b ++ d)), parts_length a b d),
+      closed c.before.before.before.before.before.before.before.before.before.before.before.before.before.before.before.before.before.before.before.before.args.out.now (a ++ (b ++ d)) _ _ (length a + length b + length d) (parts_bytes a b d (bytes_at_law a c.before.before.before.before.before.before.before.before.before.before.before.before.before.before.before.before.before.before.before.shared-slice-known.given) (bytes_at_law b c.before.before.before.before.before.before.before.before.before.before.before.before.before.before.before.before.before.before.shared-slice-known2.given) (bytes_at_law d c.before.before.before.before.before.before.before.before.before.before.before.before.before.before.before.before.before.shared-slice-known3.given)) (parts_length a b d) c.before.before.before.before.before.before.before.before.before.before.before.before.before.before.before.before.before.before.before.before.requires o c.before.before.put-crc.ensures,
     )
 
-pub put-parts-spec : {M : Type 1} → statement M
-put-parts-spec =
+pub put_parts_spec : {M : Type 1} → statement M
+put_parts_spec =
     tie.close
     (tie.spec
     put-bits-requires

@@ -3,8 +3,8 @@ use mathlib.Core.Path.{◌≡◌, ap, ◌∙◌}
 use mathlib.Core.List.{◌++◌}
 use lib.ListN.{length, length-take, take}
 use Rattle.rows.specs.Rows.{overlay}
-use Rattle.frame_b.specs.FrameB.{frameB}
-use Rattle.sent_v.specs.Sent.{requestBytes}
+use Rattle.frame_b.specs.FrameB.{frame_b}
+use Rattle.sent_v.specs.Sent.{request_bytes}
 use borrow.Author.Rules.{rules}
 use native.Mathlib.Omega.{arith}
 use Rattle.sent_v.proofs.within.put_request.Statement.{statement}
@@ -29,11 +29,11 @@ same_length : tie.Need-same-length
 same_length c = search rules
 
 returns : tie.Need-returns
-unfolding requestBytes
+unfolding request_bytes
 returns c = let p = c.before.before.put-parts.ensures in rw (c.before.before.before.before.before.head-length.ensures.0, c.before.before.before.before.before.before.head_bytes.ensures) at p
 
-pub put-request-spec : {M : Type 1} → statement M
-put-request-spec =
+pub put_request_spec : {M : Type 1} → statement M
+put_request_spec =
     tie.close
     (tie.spec
     head-bytes-requires

@@ -4,8 +4,8 @@ use mathlib.Core.Path.{◌≡◌, ap, ◌∙◌}
 use mathlib.Core.List.{◌++◌, ◌∷◌, []}
 use lib.ListN.{length, length-take, take}
 use Rattle.rows.specs.Rows.{overlay}
-use Rattle.frame_b.specs.FrameB.{frameB}
-use Rattle.sent_v.specs.Sent.{roundBytes}
+use Rattle.frame_b.specs.FrameB.{frame_b}
+use Rattle.sent_v.specs.Sent.{round_bytes}
 use borrow.Author.Rules.{rules}
 use native.Mathlib.Omega.{arith}
 use Rattle.sent_v.proofs.within.put_round.Statement.{statement}
@@ -51,13 +51,13 @@ same_length : tie.Need-same-length
 same_length c = search rules
 
 returns : tie.Need-returns
-unfolding roundBytes
+unfolding round_bytes
 returns c =
     let p = c.before.before.put-parts.ensures in
     rw (c.before.before.before.before.before.before.before.before.before.before.before.before.round-flags.ensures, c.before.before.before.before.before.before.before.before.before.before.before.round-length.ensures.0, c.before.before.before.before.before.before.before.before.cut-mask.ensures) at p
 
-pub put-round-spec : {M : Type 1} → statement M
-put-round-spec =
+pub put_round_spec : {M : Type 1} → statement M
+put_round_spec =
     tie.close
     (tie.spec
     round-flags-requires

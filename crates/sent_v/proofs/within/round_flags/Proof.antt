@@ -16,5 +16,5 @@ returns-3 c = rw (c.before.if1.false, c.if3.true)
 returns-4 : tie.Need-returns-4
 returns-4 c = rw (c.before.if1.false, c.if3.false)
 
-pub round-flags-spec : {M : Type 1} → statement M
-round-flags-spec = tie.close (tie.spec returns returns-2 returns-3 returns-4)
+pub round_flags_spec : {M : Type 1} → statement M
+round_flags_spec = tie.close (tie.spec returns returns-2 returns-3 returns-4)

@@ -5,9 +5,9 @@ use native.Mathlib.Omega.{arith}
 use borrow.Author.Rules.{rules}
 use borrow.Author.Tests.{not-true, not-false}
 use lib.ListN.{length, take, drop}
-use Rattle.limits.specs.Limits.{mostCards}
-use Rattle.slots_rules.specs.TermsB.{allFit}
-use Rattle.slots.specs.TermLaws.{all-next, fit_next, fit-not, fit-done}
+use Rattle.limits.specs.Limits.{most_cards}
+use Rattle.slots_rules.specs.TermsB.{all_fit}
+use Rattle.slots.specs.TermLaws.{all_next, fit_next, fit_not, fit_done}
 use Rattle.slots_rules.specs.Claim.{Typed}
 use Rattle.rows.specs.Rows.{All}
 use mathlib.Core.Bool.{false≢true}
@@ -15,7 +15,7 @@ use Rattle.slots.proofs.terms.all_fit.Statement.{statement}
 use Rattle.slots.proofs.terms.all_fit.Tie as tie
 
 abbrev invariant-loop : tie.invariant-loop
-invariant-loop n count cards i₀ i = (i ≤ count) × (length cards ≡ mostCards) × (allFit n (drop i (take count cards)) ≡ allFit n (take count cards)) × All Typed (take i cards)
+invariant-loop n count cards i₀ i = (i ≤ count) × (length cards ≡ most_cards) × (all_fit n (drop i (take count cards)) ≡ all_fit n (take count cards)) × All Typed (take i cards)
 
 abbrev decreases-loop : tie.decreases-loop
 decreases-loop n count cards i₀ i = count - i
@@ -36,7 +36,7 @@ returns : tie.Need-returns invariant-loop decreases-loop
 returns c =
     let l = c.before.before.before.before.loop in
     let a = c.before.before.before.before.before.args in
-    (sym (sym l.invariant.2 ∙ fit-not a.t2 a.count (omega arith) l.i _ (omega arith) a.n (sym c.before.card-fits.ensures.0 ∙ not-true _ c.if1.true)), λ t. absurd (false≢true t))
+    (sym (sym l.invariant.2 ∙ fit_not a.t2 a.count (omega arith) l.i _ (omega arith) a.n (sym c.before.card-fits.ensures.0 ∙ not-true _ c.if1.true)), λ t. absurd (false≢true t))
 
 add-i : tie.Need-overflow-add-i invariant-loop decreases-loop
 add-i c = omega arith
@@ -52,7 +52,7 @@ loop-again c =
       omega arith,
       omega arith,
       sym (fit_next a.t2 a.count (omega arith) l.i _ (omega arith) a.n e) ∙ l.invariant.2,
-      all-next a.t2 l.i _ (omega arith) l.invariant.3 c.before.card-fits.ensures.1,
+      all_next a.t2 l.i _ (omega arith) l.invariant.3 c.before.card-fits.ensures.1,
     )
 
 returns-2 : tie.Need-returns-2 invariant-loop decreases-loop
@@ -60,10 +60,10 @@ returns-2 c =
     let l = c.before.loop in
     let a = c.before.before.args in
     let e : l.i ≡ a.count = omega arith in
-    (sym (sym l.invariant.2 ∙ fit-done a.t2 a.count (omega arith) a.n l.i (omega arith)), λ t. rw e at l.invariant.3)
+    (sym (sym l.invariant.2 ∙ fit_done a.t2 a.count (omega arith) a.n l.i (omega arith)), λ t. rw e at l.invariant.3)
 
-pub all-fit-spec : {M : Type 1} → statement M
-all-fit-spec =
+pub all_fit_spec : {M : Type 1} → statement M
+all_fit_spec =
     tie.close
     (tie.spec
     invariant-loop

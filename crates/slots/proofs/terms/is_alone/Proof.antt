@@ -5,15 +5,15 @@ use mathlib.Core.Bool.{not}
 use native.Mathlib.Omega.{arith}
 use borrow.Author.Rules.{rules}
 use lib.ListN.{length, take, drop}
-use Rattle.limits.specs.Limits.{mostCards}
+use Rattle.limits.specs.Limits.{most_cards}
 use Rattle.rows.specs.Rows.{any, same}
-use Rattle.slots.specs.TermLaws.{any_next, any_here, any-done}
+use Rattle.slots.specs.TermLaws.{any_next, any_here, any_done}
 use Rattle.slots.proofs.terms.is_alone.Statement.{statement}
 use Rattle.slots.proofs.terms.is_alone.Tie as tie
 
 abbrev invariant-loop : tie.invariant-loop
 invariant-loop pupi start count cards i₀ i =
-    (start ≤ i) × (i ≤ count) × (length cards ≡ mostCards)
+    (start ≤ i) × (i ≤ count) × (length cards ≡ most_cards)
     × (any (λ k. same pupi k.card.pupi) (drop i (take count cards)) ≡ any (λ k. same pupi k.card.pupi) (drop start (take count cards)))
 
 abbrev decreases-loop : tie.decreases-loop
@@ -57,10 +57,10 @@ returns-2 : tie.Need-returns-2 invariant-loop decreases-loop
 returns-2 c =
     let l = c.before.loop in
     let a = c.before.before.args in
-    ap not (sym (any-done a.t2 a.count (omega arith) (λ k. same a.pupi k.card.pupi) l.i (omega arith)) ∙ l.invariant.3)
+    ap not (sym (any_done a.t2 a.count (omega arith) (λ k. same a.pupi k.card.pupi) l.i (omega arith)) ∙ l.invariant.3)
 
-pub is-alone-spec : {M : Type 1} → statement M
-is-alone-spec =
+pub is_alone_spec : {M : Type 1} → statement M
+is_alone_spec =
     tie.close
     (tie.spec
     invariant-loop

@@ -5,14 +5,14 @@ use native.Mathlib.Omega.{arith}
 use borrow.Author.Rules.{rules}
 use borrow.Author.Tests.{not-true, not-false}
 use lib.ListN.{length, take, drop}
-use Rattle.limits.specs.Limits.{mostCards}
+use Rattle.limits.specs.Limits.{most_cards}
 use Rattle.slots_rules.specs.TermsB.{apart}
-use Rattle.slots.specs.TermLaws.{apart_next, apart-not, apart-done}
+use Rattle.slots.specs.TermLaws.{apart_next, apart_not, apart_done}
 use Rattle.slots.proofs.terms.is_apart.Statement.{statement}
 use Rattle.slots.proofs.terms.is_apart.Tie as tie
 
 abbrev invariant-loop : tie.invariant-loop
-invariant-loop count cards i₀ i = (i ≤ count) × (length cards ≡ mostCards) × (apart (drop i (take count cards)) ≡ apart (take count cards))
+invariant-loop count cards i₀ i = (i ≤ count) × (length cards ≡ most_cards) × (apart (drop i (take count cards)) ≡ apart (take count cards))
 
 abbrev decreases-loop : tie.decreases-loop
 decreases-loop count cards i₀ i = count - i
@@ -36,7 +36,7 @@ returns : tie.Need-returns invariant-loop decreases-loop
 returns c =
     let l = c.before.before.before.before.before.before.loop in
     let a = c.before.before.before.before.before.before.before.args in
-    sym (sym l.invariant.2 ∙ apart-not a.t1 a.count (omega arith) l.i _ (omega arith) (sym c.before.is-alone.ensures ∙ not-true _ c.if1.true))
+    sym (sym l.invariant.2 ∙ apart_not a.t1 a.count (omega arith) l.i _ (omega arith) (sym c.before.is-alone.ensures ∙ not-true _ c.if1.true))
 
 add-i : tie.Need-overflow-add-i invariant-loop decreases-loop
 add-i c = omega arith
@@ -54,10 +54,10 @@ returns-2 : tie.Need-returns-2 invariant-loop decreases-loop
 returns-2 c =
     let l = c.before.loop in
     let a = c.before.before.args in
-    sym (sym l.invariant.2 ∙ apart-done a.t1 a.count (omega arith) l.i (omega arith))
+    sym (sym l.invariant.2 ∙ apart_done a.t1 a.count (omega arith) l.i (omega arith))
 
-pub is-apart-spec : {M : Type 1} → statement M
-is-apart-spec =
+pub is_apart_spec : {M : Type 1} → statement M
+is_apart_spec =
     tie.close
     (tie.spec
     invariant-loop

@@ -2,7 +2,7 @@
 use mathlib.Core.Path.{◌≡◌}
 use native.Mathlib.Omega.{arith}
 use lib.ListN.{length}
-use Rattle.slots.specs.StepLaws.{entry-put}
+use Rattle.slots.specs.StepLaws.{entry_put}
 use borrow.Author.Rules.{rules}
 use Rattle.slots.proofs.within.put_entry.Statement.{statement}
 use Rattle.slots.proofs.within.put_entry.Tie as tie
@@ -33,10 +33,10 @@ returns c =
     let p = c.before.before.before.before.before.before.before in
     let a = p.before.before.before.before.before.args in
     let l : length a.t2 ≡ 12 = search rules in
-    rw (c.before.before.put2.ensures, p.put.ensures, p.before.before.before.held_number.ensures) (entry-put a.list.now a.at a.k a.t2 (omega arith))
+    rw (c.before.before.put2.ensures, p.put.ensures, p.before.before.before.held_number.ensures) (entry_put a.list.now a.at a.k a.t2 (omega arith))
 
-pub put-entry-spec : {M : Type 1} → statement M
-put-entry-spec =
+pub put_entry_spec : {M : Type 1} → statement M
+put_entry_spec =
     tie.close
     (tie.spec
     held-number-requires

@@ -2,7 +2,7 @@
 use mathlib.Core.Path.{ap, ◌∙◌}
 use Rattle.reader_b.specs.ReaderB.{next}
 use Rattle.slots.specs.Steps.{exchanged}
-use Rattle.slots.specs.StepLaws.{out-request, out-marker}
+use Rattle.slots.specs.StepLaws.{out_request, out_marker}
 use borrow.Author.Rules.{rules}
 use Rattle.slots.proofs.within.send.Statement.{statement}
 use Rattle.slots.proofs.within.send.Tie as tie
@@ -19,7 +19,7 @@ exchange-requires c κs = search rules
 returns : tie.Need-returns
 returns c =
     let a = c.before.before.before.before.before.args in
-    c.exchange.ensures ∙ ap (exchanged a.r a.cards a.count) (c.before.before.request.ensures ∙ out-request a.wake a.afi a.r c.before.before.before.if1.true)
+    c.exchange.ensures ∙ ap (exchanged a.r a.cards a.count) (c.before.before.request.ensures ∙ out_request a.wake a.afi a.r c.before.before.before.if1.true)
 
 marker-requires : tie.Need-marker-requires
 marker-requires c κs = search rules
@@ -34,10 +34,10 @@ returns-2 : tie.Need-returns-2
 unfolding next
 returns-2 c =
     let a = c.before.before.before.before.before.args in
-    c.exchange2.ensures ∙ ap (exchanged a.r a.cards a.count) (c.before.before.marker.ensures ∙ out-marker a.wake a.afi a.r c.before.before.before.if1.false)
+    c.exchange2.ensures ∙ ap (exchanged a.r a.cards a.count) (c.before.before.marker.ensures ∙ out_marker a.wake a.afi a.r c.before.before.before.if1.false)
 
-pub send-spec : {M : Type 1} → statement M
-send-spec =
+pub send_spec : {M : Type 1} → statement M
+send_spec =
     tie.close
     (tie.spec
     request-requires

@@ -1,7 +1,7 @@
 -- `slots::within::step` meets its contract. Assumes nothing.
 use native.Mathlib.Omega.{arith}
 use Rattle.slots.specs.Steps.{stepped}
-use Rattle.slots.specs.StepLaws.{told-most}
+use Rattle.slots.specs.StepLaws.{told_most}
 use borrow.Author.Rules.{rules}
 use Rattle.slots.proofs.within.step.Statement.{statement}
 use Rattle.slots.proofs.within.step.Tie as tie
@@ -21,7 +21,7 @@ add-t15 c = search rules
 add-t16 : tie.Need-overflow-add-t16
 add-t16 c =
     let a = c.before.before.before.before.before.before.before.before.before.before.before.before.before.before in
-    omega (arith, a.requires.1, a.requires.2, c.before.before.before.before.before.put-told.ensures.0, told-most c.before.before.before.before.before.before.before.before.before.send.result.turn)
+    omega (arith, a.requires.1, a.requires.2, c.before.before.before.before.before.put-told.ensures.0, told_most c.before.before.before.before.before.before.before.before.before.send.result.turn)
 
 same_length : tie.Need-same-length
 same_length c = search rules

@@ -1,6 +1,6 @@
 -- `slots_row::pass::called` meets its contract. Assumes nothing.
 use mathlib.Core.Path.{refl, sym, subst}
-use Rattle.slots_row.specs.Row.{inquiredRow, heldWith, Promises}
+use Rattle.slots_row.specs.Row.{inquired_row, held_with, Promises}
 use borrow.Author.Rules.{rules}
 use Rattle.slots_row.proofs.pass.called.Statement.{statement}
 use Rattle.slots_row.proofs.pass.called.Tie as tie
@@ -27,10 +27,10 @@ returns c =
     record {
       is = refl;
       long = w.ensures.1;
-      promised = subst (λ s. Promises a.p.request (heldWith a.p a.c) a.p.cards a.list.now (inquiredRow s w.result.cards) w.new.1.1.1.0) (sym c.before.row-of.ensures) w.ensures.0;
+      promised = subst (λ s. Promises a.p.request (held_with a.p a.c) a.p.cards a.list.now (inquired_row s w.result.cards) w.new.1.1.1.0) (sym c.before.row_of_law.ensures) w.ensures.0;
     }
 
-pub called-spec : {M : Type 1} → statement M
-called-spec =
+pub called_spec : {M : Type 1} → statement M
+called_spec =
     tie.close
     (tie.spec mul-held array-set-from-held make-requires row-of-requires same_length returns)

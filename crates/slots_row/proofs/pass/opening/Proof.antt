@@ -1,6 +1,6 @@
 -- `slots_row::pass::opening` meets its contract. Assumes nothing.
 use native.Mathlib.Omega.{arith}
-use Rattle.slots_row.specs.OpenLaws.{opens-fetching}
+use Rattle.slots_row.specs.OpenLaws.{opens_fetching}
 use borrow.Author.Rules.{rules}
 use Rattle.slots_row.proofs.pass.opening.Statement.{statement}
 use Rattle.slots_row.proofs.pass.opening.Tie as tie
@@ -27,10 +27,10 @@ fetches-requires : tie.Need-fetches-requires
 fetches-requires c κs = search rules
 
 returns-3 : tie.Need-returns-3
-returns-3 c = opens-fetching _ _ _ (omega arith) (omega arith) c.fetches.result c.fetches.ensures
+returns-3 c = opens_fetching _ _ _ (omega arith) (omega arith) c.fetches.result c.fetches.ensures
 
-pub opening-spec : {M : Type 1} → statement M
-opening-spec =
+pub opening_spec : {M : Type 1} → statement M
+opening_spec =
     tie.close
     (tie.spec
     at-once-requires

@@ -2,7 +2,7 @@
 use mathlib.Core.Path.{◌≡◌, refl}
 use mathlib.Core.Bool.{true, false}
 use native.Mathlib.Omega.{arith}
-use Rattle.slots_row.specs.TurnLaws.{turns-fetched, turns-called, turns-stored, turns_stopped}
+use Rattle.slots_row.specs.TurnLaws.{turns_fetched, turns_called, turns_stored, turns_stopped}
 use borrow.Author.Rules.{rules}
 use Rattle.slots_row.proofs.pass.turn.Statement.{statement}
 use Rattle.slots_row.proofs.pass.turn.Tie as tie
@@ -17,7 +17,7 @@ returns : tie.Need-returns
 returns c =
     let a = c.before.before.before.before.before.args in
     let f : a.p.fetching ≡ true = search rules in
-    turns-fetched a.p a.c a.list.now c.before.before.before.before.before.requires f (omega arith) c.fetched.result c.fetched.ensures
+    turns_fetched a.p a.c a.list.now c.before.before.before.before.before.requires f (omega arith) c.fetched.result c.fetched.ensures
 
 called-requires : tie.Need-called-requires
 called-requires c κs = search rules
@@ -29,7 +29,7 @@ returns-2 : tie.Need-returns-2
 returns-2 c =
     let a = c.before.before.before.before.before.before.before.before.args in
     let f : a.p.fetching ≡ true = search rules in
-    turns-called a.p a.c a.list.now c.before.before.before.before.before.before.before.before.requires f (omega arith) c.before.before.called.result _ c.before.before.called.ensures
+    turns_called a.p a.c a.list.now c.before.before.before.before.before.before.before.before.requires f (omega arith) c.before.before.called.result _ c.before.before.called.ensures
 
 mul-d : tie.Need-overflow-mul-d
 mul-d c = search rules
@@ -47,7 +47,7 @@ returns-3 : tie.Need-returns-3
 returns-3 c =
     let a = c.before.before.before.before.before.before.before.args in
     let f : a.p.fetching ≡ false = search rules in
-    turns-stored a.p a.c a.list.now c.before.before.before.before.before.before.before.requires f (omega arith) _ refl c.stored.result c.stored.ensures
+    turns_stored a.p a.c a.list.now c.before.before.before.before.before.before.before.requires f (omega arith) _ refl c.stored.result c.stored.ensures
 
 stopped-requires : tie.Need-stopped-requires
 stopped-requires c κs = search rules

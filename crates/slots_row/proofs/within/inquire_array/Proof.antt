@@ -44,7 +44,7 @@ use denote.Exit.{yes}
 use borrow.Table.Elements.{same_len}
 use lib.Seq.{length-take-le}
 use borrow.Rule.Array.Share.{Room-take}
-use Rattle.limits.specs.Limits.{mostCards}
+use Rattle.limits.specs.Limits.{most_cards}
 use Rattle.field_b.specs.declared.Drawn.{Drawn}
 use Rattle.reader_b.specs.declared.ReaderB.{ReaderB}
 use Rattle.slots_row.specs.declared.RowInquired.{RowInquired}
@@ -58,9 +58,9 @@ use Rattle.slots_row.specs.contracts.RowInquired as R
 use Rattle.slots_row.proofs.RowInquired.TheLaws as R'
 use Rattle.slots_row.specs.contracts.within.ArrayInquired as S
 use Rattle.slots_row.proofs.within.ArrayInquired.TheLaws as S'
-use Rattle.slots_row.specs.ArrayLaws.{array-promised}
-use Rattle.slots_row.specs.Row.{inquiredRow, requestOf, Promises}
-use Rattle.sweep_row.proofs.Parted.{arr-ty, frontAt, KeptOf, lends-front, front-back}
+use Rattle.slots_row.specs.ArrayLaws.{array_promised}
+use Rattle.slots_row.specs.Row.{inquired_row, request_of, Promises}
+use Rattle.sweep_row.proofs.Parted.{arr_ty, front_at, KeptOf, lends_front, front_back}
 use Rattle.slots_row.specs.contracts.inquire_row as row
 use Rattle.slots_row.proofs.inquire_row.Symbol as row_def
 use Rattle.slots_row.proofs.inquire_row.Symbol.{name as #row}
@@ -71,7 +71,7 @@ use Rattle.slots_row.proofs.within.inquire_array.Statement as stated
 use Rattle.slots_row.proofs.within.inquire_array.Code as code
 
 abbrev stayed : Stays (self.ended).signature.params (self.ended).kept
-stayed = (stay_dropped (plain (λ _. E.the_row)) yes, (stay_dropped (plain (λ _. bool)) yes, (stay_dropped (plain (λ _. u8)) yes, (stay_dropped (plain (λ _. u8)) yes, (stay_dropped (ArrayOf (plain (λ _. T.the_row)) (λ _. tt) mostCards) yes, (stay_dropped (plain (λ _. usize)) yes, (gave_slice (0 ∷ []) tt (plain (λ _. u8)), tt)))))))
+stayed = (stay_dropped (plain (λ _. E.the_row)) yes, (stay_dropped (plain (λ _. bool)) yes, (stay_dropped (plain (λ _. u8)) yes, (stay_dropped (plain (λ _. u8)) yes, (stay_dropped (ArrayOf (plain (λ _. T.the_row)) (λ _. tt) most_cards) yes, (stay_dropped (plain (λ _. usize)) yes, (gave_slice (0 ∷ []) tt (plain (λ _. u8)), tt)))))))
 
 abbrev Arg : Type 0
 Arg = ReaderB × (Bool × (ℕ × (ℕ × (List Drawn × (ℕ × (MutBor (List ℕ) × Unit {0}))))))
@@ -91,19 +91,19 @@ minquired s = vstruct (vcons (mcards s.cards) (vcons (mrow s.inquired) vnil))
 
 -- the cards in an array, and in an array that is a struct's field
 abbrev Cards : RattleType
-Cards = Array T.the_row mostCards
+Cards = Array T.the_row most_cards
 
-tells-cards : Tells Cards (Is Cards) (λ k. mcards k ∷ [])
-tells-cards = Array-Tells T.the_row (LL.vals T.the_type T'.the_laws) (LL.tells T.the_type T'.the_laws) mostCards
+tells_cards : Tells Cards (Is Cards) (λ k. mcards k ∷ [])
+tells_cards = Array-Tells T.the_row (LL.vals T.the_type T'.the_laws) (LL.tells T.the_type T'.the_laws) most_cards
 
-each-field : (k : List Drawn) (us : List Val) → shadow (each Drawn (T.the_row).own_val k us) → shadow (each (T.the_field).row.Denot (T.the_field).row.own_val (map (T.the_field).into k) us)
-each-field [] [] h = h
-each-field [] (u ∷ us) h = h
-each-field (c ∷ k) [] h = h
-each-field (c ∷ k) (u ∷ us) h = (h.0, each-field k us h.1)
+each_field : (k : List Drawn) (us : List Val) → shadow (each Drawn (T.the_row).own_val k us) → shadow (each (T.the_field).row.Denot (T.the_field).row.own_val (map (T.the_field).into k) us)
+each_field [] [] h = h
+each_field [] (u ∷ us) h = h
+each_field (c ∷ k) [] h = h
+each_field (c ∷ k) (u ∷ us) h = (h.0, each_field k us h.1)
 
-in_field : (k : List Drawn) (vs : List Val) → Is Cards k vs → Is (array_field T.the_field mostCards).row (map (T.the_field).into k) vs
-in_field k vs h = (h.0, ((h.1.0.0, length-map k (T.the_field).into ∙ h.1.0.1), each-field k h.0 h.1.1))
+in_field : (k : List Drawn) (vs : List Val) → Is Cards k vs → Is (array_field T.the_field most_cards).row (map (T.the_field).into k) vs
+in_field k vs h = (h.0, ((h.1.0.0, length-map k (T.the_field).into ∙ h.1.0.1), each_field k h.0 h.1.1))
 
 -- the contract that the proof cites
 abbrev Inquiring : {M : Type 1} {𝓤 : Ura M} (𝓛 : Logic 𝓤) (mem : Memory → SProp 𝓤) (run : Routine → Fun 𝓤) → Contract 𝓤
@@ -114,7 +114,7 @@ module _ {M : Type 1} {𝓤 : Ura M} (𝓛 : Logic 𝓤) (mem : Memory → SProp
   open 𝓛 use {H}
 
   abbrev j : Request
-  j = requestOf r wake slots afi
+  j = request_of r wake slots afi
 
   abbrev list₀ : List ℕ
   list₀ = x₁.now
@@ -140,7 +140,7 @@ module _ {M : Type 1} {𝓤 : Ura M} (𝓛 : Logic 𝓤) (mem : Memory → SProp
   abbrev Tokens : Item 𝓤
   Tokens = ‵ (flft κ₁ q₁) ⊛ ‵ ftrue
 
-  exits : (v : ArrayInquired) (ls : List ℕ) → length ls ≡ length list₀ → Promises j cards n list₀ (inquiredRow v.inquired v.cards) ls → Is S.the_row v (minquired v ∷ [])
+  exits : (v : ArrayInquired) (ls : List ℕ) → length ls ≡ length list₀ → Promises j cards n list₀ (inquired_row v.inquired v.cards) ls → Is S.the_row v (minquired v ∷ [])
       → ent 𝓤 (⋆ 𝓛 (Tokens ∷ ‵ (finally u8 x₁.name ls) ∷ [])) (Post (minquired v))
   exits v ls len d gv =
       qed 𝓛 (Tokens ∷ ‵ (finally u8 x₁.name ls) ∷ []) ∵
@@ -152,18 +152,18 @@ module _ {M : Type 1} {𝓤 : Ura M} (𝓛 : Logic 𝓤) (mem : Memory → SProp
     abbrev x₀ : GName → MutBor (List Drawn)
     x₀ δ = record { ref_ptr = (b, 0); ghost_name = δ; now = front }
 
-    abbrev frontOf : ℕ → GName → Item 𝓤
-    frontOf ν δ = ‵ (frontAt T.the_row tt mostCards b (named 0) (ν ∷ []) n δ front)
+    abbrev front_of : ℕ → GName → Item 𝓤
+    front_of ν δ = ‵ (front_at T.the_row tt most_cards b (named 0) (ν ∷ []) n δ front)
 
-    abbrev keptOf : ℕ → GName → Item 𝓤
-    keptOf ν δ = ‵ (KeptOf T.the_row tt mostCards b n ν δ rest)
+    abbrev kept_of : ℕ → GName → Item 𝓤
+    kept_of ν δ = ‵ (KeptOf T.the_row tt most_cards b n ν δ rest)
 
     -- what the callee's triple binds outside: the row at a lifetime ν of its own, the list at its
     abbrev to_row : ℕ → GName → (Inquiring 𝓛 mem run).Ghost
     to_row ν δ = (((ν ∷ [], (κ₁, tt)), (full_share, (q₁, tt)), tt, (r, (wake, (slots, (afi, (x₀ δ, (x₁, tt)))))), (mreader r ∷ [], (vbool wake ∷ [], (vint w8 slots ∷ [], (vint w8 afi ∷ [], (slice_val (b, 0) n ∷ [], (s₁ ∷ [], tt))))))), tt)
 
     abbrev Passed : ℕ → GName → List (Item 𝓤)
-    Passed ν δ = ‵ (flft (ν ∷ []) full_share) ∷ Tokens ∷ frontOf ν δ ∷ ‵ ((MutSlice (named 0) κ₁ u8).own_val x₁ (s₁ ∷ [])) ∷ []
+    Passed ν δ = ‵ (flft (ν ∷ []) full_share) ∷ Tokens ∷ front_of ν δ ∷ ‵ ((MutSlice (named 0) κ₁ u8).own_val x₁ (s₁ ∷ [])) ∷ []
 
     asks : (ν : ℕ) (δ : GName) → Is E.the_row r (mreader r ∷ []) → slots < 2 ^ 8 → afi < 2 ^ 8 → ent 𝓤 (⋆ 𝓛 (Passed ν δ)) ((Inquiring 𝓛 mem run).pre (to_row ν δ))
     asks ν δ gr gs ga =
@@ -173,14 +173,14 @@ module _ {M : Type 1} {𝓤 : Ura M} (𝓛 : Logic 𝓤) (mem : Memory → SProp
 
   -- what the callee ensures
   abbrev Says : RowInquired → List Drawn → List ℕ → Type 0
-  Says p ws ls = Promises j front (length front) list₀ (inquiredRow p ws) ls
+  Says p ws ls = Promises j front (length front) list₀ (inquired_row p ws) ls
 
-  walk : (𝓣 : Tables 𝓤 H) → Triple 𝓤 (𝓣.C #row) (Inquiring 𝓛 mem run) → n ≤ mostCards → n < 2 ^ 64 → Room u8 (length list₀) → Is E.the_row r (mreader r ∷ []) → slots < 2 ^ 8 → afi < 2 ^ 8 → Is Cards cards (mcards cards ∷ [])
+  walk : (𝓣 : Tables 𝓤 H) → Triple 𝓤 (𝓣.C #row) (Inquiring 𝓛 mem run) → n ≤ most_cards → n < 2 ^ 64 → Room u8 (length list₀) → Is E.the_row r (mreader r ∷ []) → slots < 2 ^ 8 → afi < 2 ^ 8 → Is Cards cards (mcards cards ∷ [])
       → ent 𝓤 (on_entry 𝓛 self.signature (κ₁, tt) (q₁, tt) x at) (WpFn 𝓤 H 𝓣.C 𝓣.Λ code.function (mreader r ∷ vbool wake ∷ vint w8 slots ∷ vint w8 afi ∷ mcards cards ∷ vint w64 n ∷ s₁ ∷ []) Post)
   walk 𝓣 known few gn gn₁ gr gs ga gc =
       let long : length front ≡ n = length-take-le n cards (subst (λ (m : ℕ). n ≤ m) (sym gc.1.0.1) few) in
       let parted : Is Cards (front ++ rest) (mcards cards ∷ []) = subst (λ (k : List Drawn). Is Cards k (mcards cards ∷ [])) (sym (take-append-drop n cards)) gc in
-      let typed = (Array-Lawful 𝓛 T.the_row (LL.lawful T.the_type T'.the_laws 𝓛) mostCards).typed in
+      let typed = (Array-Lawful 𝓛 T.the_row (LL.lawful T.the_type T'.the_laws 𝓛) most_cards).typed in
       qed 𝓛 (Tokens ∷ ‵ (owns (E.the_row ∷ bool ∷ u8 ∷ u8 ∷ Cards ∷ usize ∷ MutSlice (named 0) κ₁ u8 ∷ []) x at) ∷ []) ∵
       enter ! 𝓣.C 𝓣.Λ code.function (mreader r ∷ vbool wake ∷ vint w8 slots ∷ vint w8 afi ∷ mcards cards ∷ vint w64 n ∷ s₁ ∷ []) _ $
       alloc1 ! (λ l₀. alloc1 ! (λ l₁. alloc1 ! (λ l₂. alloc1 ! (λ l₃. alloc1 ! (λ l₄. alloc1 ! (λ l₅. alloc1 ! (λ l₆. alloc1 ! (λ l₇. alloc1 ! (λ l₈. alloc1 ! (λ l₉. alloc1 ! (λ l₁₀. alloc1 ! (λ l₁₁. alloc1 ! (λ l₁₂. alloc1 ! (λ l₁₃. alloc1 ! (λ l₁₄. alloc0 ! $ params1 ! $
@@ -194,8 +194,8 @@ module _ {M : Type 1} {𝓤 : Ura M} (𝓛 : Logic 𝓤) (mem : Memory → SProp
       assigns ! (agg ! (and_then ! (load ! (from ! (stop !)) (look ! 4 refl)) (and_then ! (load ! (from ! (fld ! refl (stop !))) (look_in ! 14 (sub ! 1 refl (whole !)))) (no_more !)))) (from ! (stop !)) (init ! 2 refl (tt, (tt, (record { fits = gn₁.0 }, tt)))) $
       move ! (31 ∷ []) $ fsplit ! $ drop ! $ fsplit ! $ drop ! $ fsplit ! $ drop ! $ fsplit ! $ drop ! $ fsplit ! $ drop ! $ fsplit ! $ drop ! $ fsplit ! $ move ! (1 ∷ []) $ drop ! $
       -- [the list; the locals; the token]: the first n cards of _8 are lent
-      move ! (13 ∷ []) $ use1 𝓛 (later (some (λ (ν : ℕ). some (λ (δ : GName). ‵ (flft (ν ∷ []) full_share) ⊛ (frontOf l₈ ν δ ⊛ keptOf l₈ ν δ)))))
-      (lends-front T.the_row tt mostCards l₈ 𝓛 (Array-Makes 𝓛 T.the_row (LL.makes T.the_type T'.the_plain 𝓛) mostCards) (named 0) front rest (mcards cards) n long (Room-take T.the_row mostCards n cards gc.1.0.1 (lit< tt, lit< tt)) parted) $
+      move ! (13 ∷ []) $ use1 𝓛 (later (some (λ (ν : ℕ). some (λ (δ : GName). ‵ (flft (ν ∷ []) full_share) ⊛ (front_of l₈ ν δ ⊛ kept_of l₈ ν δ)))))
+      (lends_front T.the_row tt most_cards l₈ 𝓛 (Array-Makes 𝓛 T.the_row (LL.makes T.the_type T'.the_plain 𝓛) most_cards) (named 0) front rest (mcards cards) n long (Room-take T.the_row most_cards n cards gc.1.0.1 (lit< tt, lit< tt)) parted) $
       await ! tt $ pick ! (λ ν. pick ! (λ δ. split ! $ move ! (1 ∷ []) $ split ! $
       -- [the row; what is kept; its token; the list; the locals but _8; the list's token]
       move ! (2 ∷ 33 ∷ 0 ∷ 3 ∷ []) $ group ! 4 $ use1 𝓛 (raw ((Inquiring 𝓛 mem run).pre (to_row l₈ ν δ))) (asks l₈ ν δ gr gs ga) $
@@ -213,8 +213,8 @@ module _ {M : Type 1} {𝓤 : Ura M} (𝓛 : Logic 𝓤) (mem : Memory → SProp
       move ! (3 ∷ []) $ split ! $ split ! $ move ! (2 ∷ []) $ peeks ! R.the_row (Is R.the_row) (shows 𝓛 R.the_row) p (u ∷ []) (λ got.
       land ! (from ! (stop !)) (init ! 17 refl ((LL.lawful R.the_type R'.the_laws 𝓛).typed p _ got).0) $
       rewrite ! 17 (λ (w : Val). ‵ (fat full_share R'.mir l₉ 0 w)) (ap only (LL.tells R.the_type R'.the_laws p (u ∷ []) got)) refl $ drop ! $
-      move ! (0 ∷ 5 ∷ 4 ∷ []) $ use3 𝓛 (later (given (Is Cards (after ++ rest) (mcards (after ++ rest) ∷ [])) (‵ (fat full_share (arr-ty T.the_row tt mostCards l₈) l₈ 0 (mcards (after ++ rest))))))
-      (front-back T.the_row tt mostCards l₈ 𝓛 mcards tells-cards ν δ after rest n (e₀ ∙ long) (same_len n cards after e₀ ∙ gc.1.0.1)) $ await ! tt $ learn ! (λ is.
+      move ! (0 ∷ 5 ∷ 4 ∷ []) $ use3 𝓛 (later (given (Is Cards (after ++ rest) (mcards (after ++ rest) ∷ [])) (‵ (fat full_share (arr_ty T.the_row tt most_cards l₈) l₈ 0 (mcards (after ++ rest))))))
+      (front_back T.the_row tt most_cards l₈ 𝓛 mcards tells_cards ν δ after rest n (e₀ ∙ long) (same_len n cards after e₀ ∙ gc.1.0.1)) $ await ! tt $ learn ! (λ is.
       let v : ArrayInquired = record { cards = after ++ rest; inquired = p } in
       let gv : Is S.the_row v (minquired v ∷ []) = ((mcards v.cards ∷ [], (mrow p ∷ [], tt)), (refl, (in_field v.cards _ is, (subst (λ (vs : List Val). Is R.the_row p vs) (LL.tells R.the_type R'.the_laws p (u ∷ []) got) got, tt)))) in
       -- [_8; the token; the list's last; ..; the other locals]
@@ -223,29 +223,29 @@ module _ {M : Type 1} {𝓤 : Ura M} (𝓛 : Logic 𝓤) (mem : Memory → SProp
       returns ! (look ! 31 refl) $ forget ! 0 refl $ forget ! 4 refl $ forget ! 6 refl $ forget ! 8 refl $ forget ! 10 refl $ forget ! 12 refl $ forget ! 14 refl $ forget ! 17 refl $ forget ! 19 refl $ forget ! 21 refl $ forget ! 23 refl $ forget ! 25 refl $ forget ! 27 refl $ forget ! 29 refl $ forget ! 31 refl $
       move ! (31 ∷ 32 ∷ 29 ∷ 30 ∷ 27 ∷ 28 ∷ 25 ∷ 26 ∷ 23 ∷ 24 ∷ 21 ∷ 22 ∷ 19 ∷ 20 ∷ 17 ∷ 18 ∷ 0 ∷ 16 ∷ 14 ∷ 15 ∷ 12 ∷ 13 ∷ 10 ∷ 11 ∷ 8 ∷ 9 ∷ 6 ∷ 7 ∷ 4 ∷ 5 ∷ []) $
       free1 ! $ free1 ! $ free1 ! $ free1 ! $ free1 ! $ free1 ! $ free1 ! $ free1 ! $ free1 ! $ free1 ! $ free1 ! $ free1 ! $ free1 ! $ free1 ! $ free1 ! $ free0 ! $
-      keep ! (0 ∷ 1 ∷ []) $ by ! (exits v ls e₁ (array-promised j cards n list₀ long p after ls e) gv))))))))))))))))))))))))))
+      keep ! (0 ∷ 1 ∷ []) $ by ! (exits v ls e₁ (array_promised j cards n list₀ long p after ls e) gv))))))))))))))))))))))))))
 
 module _ {M : Type 1} {𝓤 : Ura M} (𝓛 : Logic 𝓤) (mem : Memory → SProp 𝓤) (run : Routine → Fun 𝓤) (𝓣 : Tables 𝓤 𝓛.H) (known : Triple 𝓤 (𝓣.C #row) (Inquiring 𝓛 mem run)) where
   open 𝓛 use {H}
 
-  array-walks : Walks 𝓛 self.ended stayed (WpFn 𝓤 H 𝓣.C 𝓣.Λ code.function) (self.clauses 𝓛 mem run)
-  array-walks = walked 𝓛 self.ended stayed (self.clauses 𝓛 mem run) (WpFn 𝓤 H 𝓣.C 𝓣.Λ code.function)
+  array_walks : Walks 𝓛 self.ended stayed (WpFn 𝓤 H 𝓣.C 𝓣.Λ code.function) (self.clauses 𝓛 mem run)
+  array_walks = walked 𝓛 self.ended stayed (self.clauses 𝓛 mem run) (WpFn 𝓤 H 𝓣.C 𝓣.Λ code.function)
       (λ κs. (LL.vals E.the_type E'.the_laws, (bool_vals, (uint_vals w8, (uint_vals w8, ((λ k. mcards k ∷ []), (uint_vals w64, (mut_slice_vals, tt))))))))
-      (λ κs. (LL.tells E.the_type E'.the_laws, (bool_Tells, (uint_Tells w8, (uint_Tells w8, (tells-cards, (uint_Tells w64, (mut_slice_Tells (named 0) κs.0 u8, tt))))))))
-      (λ κs qs bounds a g are. needs 𝓤 (a.1.1.1.1.1.0 ≤ mostCards) _ (λ few.
+      (λ κs. (LL.tells E.the_type E'.the_laws, (bool_Tells, (uint_Tells w8, (uint_Tells w8, (tells_cards, (uint_Tells w64, (mut_slice_Tells (named 0) κs.0 u8, tt))))))))
+      (λ κs qs bounds a g are. needs 𝓤 (a.1.1.1.1.1.0 ≤ most_cards) _ (λ few.
       walk 𝓛 mem run κs.0 qs.0 a.0 a.1.0 a.1.1.0 a.1.1.1.0 a.1.1.1.1.0 a.1.1.1.1.1.0 a.1.1.1.1.1.1.0 𝓣 known few
       are.1.1.1.1.1.0.1 are.1.1.1.1.1.1.0.0.1 are.0 are.1.1.0.1 are.1.1.1.0.1 are.1.1.1.1.0))
 
-  array-meets : Meets 𝓛 self.signature (WpFn 𝓤 H 𝓣.C 𝓣.Λ code.function) (self.spec 𝓛 mem run)
-  array-meets =
+  array_meets : Meets 𝓛 self.signature (WpFn 𝓤 H 𝓣.C 𝓣.Λ code.function) (self.spec 𝓛 mem run)
+  array_meets =
       walk_Meets 𝓛 self.ended stayed
-      (Goes-dropped 𝓛 1 (plain (λ _. E.the_row)) yes (λ κs x f. refl), (Goes-dropped 𝓛 1 (plain (λ _. bool)) yes (λ κs x f. refl), (Goes-dropped 𝓛 1 (plain (λ _. u8)) yes (λ κs x f. refl), (Goes-dropped 𝓛 1 (plain (λ _. u8)) yes (λ κs x f. refl), (Goes-dropped 𝓛 1 (ArrayOf (plain (λ _. T.the_row)) (λ _. tt) mostCards) yes (λ κs x f. refl), (Goes-dropped 𝓛 1 (plain (λ _. usize)) yes (λ κs x f. refl), (Goes-gave_slice 𝓛 1 0 tt (plain (λ _. u8)), tt)))))))
-      (self.clauses 𝓛 mem run) (WpFn 𝓤 H 𝓣.C 𝓣.Λ code.function) (WpFn-mono 𝓤 H 𝓛.laws 𝓣 code.function) array-walks
+      (Goes-dropped 𝓛 1 (plain (λ _. E.the_row)) yes (λ κs x f. refl), (Goes-dropped 𝓛 1 (plain (λ _. bool)) yes (λ κs x f. refl), (Goes-dropped 𝓛 1 (plain (λ _. u8)) yes (λ κs x f. refl), (Goes-dropped 𝓛 1 (plain (λ _. u8)) yes (λ κs x f. refl), (Goes-dropped 𝓛 1 (ArrayOf (plain (λ _. T.the_row)) (λ _. tt) most_cards) yes (λ κs x f. refl), (Goes-dropped 𝓛 1 (plain (λ _. usize)) yes (λ κs x f. refl), (Goes-gave_slice 𝓛 1 0 tt (plain (λ _. u8)), tt)))))))
+      (self.clauses 𝓛 mem run) (WpFn 𝓤 H 𝓣.C 𝓣.Λ code.function) (WpFn-mono 𝓤 H 𝓛.laws 𝓣 code.function) array_walks
 
-pub inquire-array-spec : {M : Type 1} → stated.statement M
+pub inquire_array_spec : {M : Type 1} → stated.statement M
 unfolding code.routine tables_of
-inquire-array-spec 𝓤 𝓛 𝓜 𝓡 =
+inquire_array_spec 𝓤 𝓛 𝓜 𝓡 =
     entered 𝓤 𝓛.H (triple_of 𝓛 self.signature (self.spec 𝓛 𝓜.mem 𝓡.run))
     (tables 𝓤 𝓛.H 𝓜 𝓡 code.env).C (tables 𝓤 𝓛.H 𝓜 𝓡 code.env).Λ #self code.function (code.unfolded 𝓤 𝓛.H 𝓜 𝓡)
-    (array-meets 𝓛 𝓜.mem 𝓡.run (tables_of 𝓤 𝓛.H 𝓜 (tables 𝓤 𝓛.H 𝓜 𝓡 code.env))
+    (array_meets 𝓛 𝓜.mem 𝓡.run (tables_of 𝓤 𝓛.H 𝓜 (tables 𝓤 𝓛.H 𝓜 𝓡 code.env))
     (cited 𝓤 𝓛.H (Inquiring 𝓛 𝓜.mem 𝓡.run) 𝓜 𝓡 code.env #row row_def.routine code.calls-slots-row::inquire-row (row-thm.met 𝓤 𝓛 𝓜 𝓡)))

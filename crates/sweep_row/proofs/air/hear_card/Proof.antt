@@ -6,8 +6,8 @@ use Rattle.rows.specs.Rows.{overlay}
 use Rattle.field.specs.Merge.{join}
 use Rattle.card.specs.Card.{takes, answers}
 use Rattle.reader.specs.Reader.{frame}
-use Rattle.sweep_steps.specs.ExchangeLaws.{Front, front_of}
-use Rattle.sweep_row.specs.Row.{heardWith, heardCard, heardIn}
+use Rattle.sweep_steps.specs.ExchangeLaws.{Front, front_of_law}
+use Rattle.sweep_row.specs.Row.{heard_with, heard_card, heard_in}
 use borrow.Author.Rules.{rules}
 use Rattle.sweep_row.proofs.air.hear_card.Statement.{statement}
 use Rattle.sweep_row.proofs.air.hear_card.Tie as tie
@@ -23,16 +23,16 @@ frame-bits-requires c κs = search rules
 
 array-share-prefix-frame : tie.Need-array-share-prefix-frame
 array-share-prefix-frame c =
-    let b = c.before.frame-bits in
+    let b = c.before.frame_bits in
     let w = c.before.before.before.put-frame in
-    let u : Front (frame c.before.before.before.before.before.args.r) b.result w.new.1.0 = front_of _ _ _ _ b.ensures w.ensures in
+    let u : Front (frame c.before.before.before.before.before.args.r) b.result w.new.1.0 = front_of_law _ _ _ _ b.ensures w.ensures in
     u.fits
 
 slice-aggregate-take-one : tie.Need-slice-aggregate-take-one
 slice-aggregate-take-one c =
-    let b = c.before.before.frame-bits in
+    let b = c.before.before.frame_bits in
     let w = c.before.before.before.before.put-frame in
-    let u : Front (frame c.before.before.before.before.before.before.args.r) b.result w.new.1.0 = front_of _ _ _ _ b.ensures w.ensures in
+    let u : Front (frame c.before.before.before.before.before.before.args.r) b.result w.new.1.0 = front_of_law _ _ _ _ b.ensures w.ensures in
     rw length-take (omega (arith, u.fits))
 
 slice-aggregate-take-one-2 : tie.Need-slice-aggregate-take-one-2
@@ -44,19 +44,19 @@ take-one-requires c κs =
     (c.before.before.before.before.before.before.before.requires, subst (λ n. 45 ≤ n) (sym h) (omega arith))
 
 returns : tie.Need-returns
-unfolding heardCard heardWith
+unfolding heard_card heard_with
 returns c =
     let a = c.before.before.before.before.before.before.before.before.before.before.args in
     let w = c.before.before.before.before.before.before.before.before.put-frame in
-    let u : Front (frame a.r) c.before.before.before.before.before.before.frame-bits.result w.new.1.0 = front_of _ _ _ _ c.before.before.before.before.before.before.frame-bits.ensures w.ensures in
+    let u : Front (frame a.r) c.before.before.before.before.before.before.frame_bits.result w.new.1.0 = front_of_law _ _ _ _ c.before.before.before.before.before.before.frame_bits.ensures w.ensures in
     ap₂ (λ k b. record { card = k; air = b })
     (ap (λ o. o.card) c.before.before.take-one.ensures.0 ∙ ap (takes a.c) u.bits)
     (ap₂ (λ d m. record { heard = d; bits = m })
-    (c.before.before.take-one.ensures.1 ∙ ap (λ f. overlay a.a.heard 0 (join (answers a.c f) (heardIn a.a))) u.bits)
-    (ap (λ o. o.bits) c.before.before.take-one.ensures.0 ∙ ap (λ f. length (join (answers a.c f) (heardIn a.a))) u.bits))
+    (c.before.before.take-one.ensures.1 ∙ ap (λ f. overlay a.a.heard 0 (join (answers a.c f) (heard_in a.a))) u.bits)
+    (ap (λ o. o.bits) c.before.before.take-one.ensures.0 ∙ ap (λ f. length (join (answers a.c f) (heard_in a.a))) u.bits))
 
-pub hear-card-spec : {M : Type 1} → statement M
-hear-card-spec =
+pub hear_card_spec : {M : Type 1} → statement M
+hear_card_spec =
     tie.close
     (tie.spec
     slice-aggregate-put-frame

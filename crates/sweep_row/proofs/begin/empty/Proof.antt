@@ -20,5 +20,5 @@ returns c =
     let r = c.before.before.before.before.before.before.before.run in
     (ap (λ p. record { reader = p.turn.reader; answer = p.turn.answer; frames = p.frames; logged = p.logged; found = p.found }) r.ensures.0, r.ensures.1)
 
-pub empty-spec : {M : Type 1} → statement M
-empty-spec = tie.close (tie.spec run-requires same_length same-length-2 returns)
+pub empty_spec : {M : Type 1} → statement M
+empty_spec = tie.close (tie.spec run-requires same_length same-length-2 returns)

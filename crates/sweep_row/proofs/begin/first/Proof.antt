@@ -1,5 +1,5 @@
 use Rattle.reader.specs.Reader.{sends}
-use Rattle.sweep_row.specs.Row.{firstRow}
+use Rattle.sweep_row.specs.Row.{first_row}
 use borrow.Author.Rules.{rules}
 use Rattle.sweep_row.proofs.begin.first.Statement.{statement}
 use Rattle.sweep_row.proofs.begin.first.Tie as tie
@@ -14,7 +14,7 @@ no-path-requires : tie.Need-no-path-requires
 no-path-requires c κs = search rules
 
 returns : tie.Need-returns
-unfolding firstRow
+unfolding first_row
 returns c =
     rw (c.no-path.ensures, c.before.before.sends.ensures, c.before.before.before.blank.ensures)
 

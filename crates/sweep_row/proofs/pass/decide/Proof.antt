@@ -20,5 +20,5 @@ returns-2 : tie.Need-returns-2
 unfolding decided
 returns-2 c = rw (c.before.before.if1.false, c.stopped.ensures)
 
-pub decide-spec : {M : Type 1} → statement M
-decide-spec = tie.close (tie.spec first-requires again-requires returns stopped-requires returns-2)
+pub decide_spec : {M : Type 1} → statement M
+decide_spec = tie.close (tie.spec first-requires again-requires returns stopped-requires returns-2)

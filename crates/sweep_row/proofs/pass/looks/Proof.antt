@@ -20,5 +20,5 @@ sub-t10 c = search rules
 returns : tie.Need-returns
 returns c = rw (c.no-path.ensures, c.before.silence.ensures, c.before.before.none.ensures, c.before.before.before.refused.ensures)
 
-pub looks-spec : {M : Type 1} → statement M
-looks-spec = tie.close (tie.spec refused-requires none-requires silence-requires no-path-requires sub-t10 returns)
+pub looks_spec : {M : Type 1} → statement M
+looks_spec = tie.close (tie.spec refused-requires none-requires silence-requires no-path-requires sub-t10 returns)

@@ -15,5 +15,5 @@ returns : tie.Need-returns
 returns c =
     rw (c.no-path.ensures, c.before.silence.ensures, c.before.before.none.ensures)
 
-pub stopped-spec : {M : Type 1} → statement M
-stopped-spec = tie.close (tie.spec none-requires silence-requires no-path-requires returns)
+pub stopped_spec : {M : Type 1} → statement M
+stopped_spec = tie.close (tie.spec none-requires silence-requires no-path-requires returns)

@@ -1,4 +1,4 @@
-use Rattle.sweep_row.specs.SeenLaws.{alone-fits, alone-typed}
+use Rattle.sweep_row.specs.SeenLaws.{alone_fits, alone_typed}
 use mathlib.Core.Path.{◌∙◌}
 use borrow.Author.Rules.{rules}
 use Rattle.sweep_row.proofs.seen.card_fits.Statement.{statement}
@@ -10,7 +10,7 @@ is-within-requires c κs = search rules
 returns : tie.Need-returns
 returns c =
     let a = c.before.args in
-    (c.is_within.ensures.0 ∙ alone-fits a.c, λ e. alone-typed a.c (c.is_within.ensures.1 e))
+    (c.is_within.ensures.0 ∙ alone_fits a.c, λ e. alone_typed a.c (c.is_within.ensures.1 e))
 
-pub card-fits-spec : {M : Type 1} → statement M
-card-fits-spec = tie.close (tie.spec is-within-requires returns)
+pub card_fits_spec : {M : Type 1} → statement M
+card_fits_spec = tie.close (tie.spec is-within-requires returns)

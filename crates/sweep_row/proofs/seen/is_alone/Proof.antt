@@ -4,17 +4,17 @@ use mathlib.Core.Bool.{not}
 use native.Mathlib.Omega.{arith}
 use borrow.Author.Rules.{rules}
 use lib.ListN.{length, take, drop}
-use Rattle.limits.specs.Limits.{mostCards}
+use Rattle.limits.specs.Limits.{most_cards}
 use Rattle.rows.specs.Rows.{any, same}
-use Rattle.uid.specs.Uid.{uidBytes}
-use Rattle.sweep_row.specs.SeenLaws.{any_next, any_here, any-done}
+use Rattle.uid.specs.Uid.{uid_bytes}
+use Rattle.sweep_row.specs.SeenLaws.{any_next, any_here, any_done}
 use Rattle.sweep_row.proofs.seen.is_alone.Statement.{statement}
 use Rattle.sweep_row.proofs.seen.is_alone.Tie as tie
 
 abbrev invariant-loop : tie.invariant-loop
 invariant-loop u start n uids i₀ i =
-    (start ≤ i) × (i ≤ n) × (length uids ≡ mostCards)
-    × (any (λ v. same (uidBytes u) (uidBytes v)) (drop i (take n uids)) ≡ any (λ v. same (uidBytes u) (uidBytes v)) (drop start (take n uids)))
+    (start ≤ i) × (i ≤ n) × (length uids ≡ most_cards)
+    × (any (λ v. same (uid_bytes u) (uid_bytes v)) (drop i (take n uids)) ≡ any (λ v. same (uid_bytes u) (uid_bytes v)) (drop start (take n uids)))
 
 abbrev decreases-loop : tie.decreases-loop
 decreases-loop u start n uids i₀ i = n - i
@@ -35,7 +35,7 @@ returns : tie.Need-returns invariant-loop decreases-loop
 returns c =
     let l = c.before.before.before.before.loop in
     let a = c.before.before.before.before.before.args in
-    ap not (sym (any_here (λ v. same (uidBytes a.u) (uidBytes v)) a.t2 a.n (omega arith) l.i _ (omega arith) (sym c.before.same-uid.ensures ∙ c.if1.true)) ∙ l.invariant.3)
+    ap not (sym (any_here (λ v. same (uid_bytes a.u) (uid_bytes v)) a.t2 a.n (omega arith) l.i _ (omega arith) (sym c.before.same-uid.ensures ∙ c.if1.true)) ∙ l.invariant.3)
 
 add-i : tie.Need-overflow-add-i invariant-loop decreases-loop
 add-i c = omega arith
@@ -50,17 +50,17 @@ loop-again c =
       omega arith,
       omega arith,
       omega arith,
-      sym (any_next (λ v. same (uidBytes a.u) (uidBytes v)) a.t2 a.n (omega arith) l.i _ (omega arith) (sym c.before.same-uid.ensures ∙ c.if1.false)) ∙ l.invariant.3,
+      sym (any_next (λ v. same (uid_bytes a.u) (uid_bytes v)) a.t2 a.n (omega arith) l.i _ (omega arith) (sym c.before.same-uid.ensures ∙ c.if1.false)) ∙ l.invariant.3,
     )
 
 returns-2 : tie.Need-returns-2 invariant-loop decreases-loop
 returns-2 c =
     let l = c.before.loop in
     let a = c.before.before.args in
-    ap not (sym (any-done (λ v. same (uidBytes a.u) (uidBytes v)) a.t2 a.n (omega arith) l.i (omega arith)) ∙ l.invariant.3)
+    ap not (sym (any_done (λ v. same (uid_bytes a.u) (uid_bytes v)) a.t2 a.n (omega arith) l.i (omega arith)) ∙ l.invariant.3)
 
-pub is-alone-spec : {M : Type 1} → statement M
-is-alone-spec =
+pub is_alone_spec : {M : Type 1} → statement M
+is_alone_spec =
     tie.close
     (tie.spec
     invariant-loop

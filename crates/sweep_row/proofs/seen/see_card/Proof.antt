@@ -1,4 +1,4 @@
-use Rattle.sweep_row.specs.Row.{seenWith}
+use Rattle.sweep_row.specs.Row.{seen_with}
 use borrow.Author.Rules.{rules}
 use Rattle.sweep_row.proofs.seen.see_card.Statement.{statement}
 use Rattle.sweep_row.proofs.seen.see_card.Tie as tie
@@ -13,10 +13,10 @@ array-set-from-uids : tie.Need-array-set-from-uids
 array-set-from-uids c = search rules
 
 returns : tie.Need-returns
-unfolding seenWith
+unfolding seen_with
 returns c =
     let k = c.before.before.fits-too in
     (rw k.ensures.0, k.ensures.1)
 
-pub see-card-spec : {M : Type 1} → statement M
-see-card-spec = tie.close (tie.spec fits-too-requires mul-uids array-set-from-uids returns)
+pub see_card_spec : {M : Type 1} → statement M
+see_card_spec = tie.close (tie.spec fits-too-requires mul-uids array-set-from-uids returns)

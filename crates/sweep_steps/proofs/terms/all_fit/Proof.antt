@@ -6,16 +6,16 @@ use native.Mathlib.Omega.{arith}
 use borrow.Author.Rules.{rules}
 use lib.ListN.{length, take, drop}
 use lib.Seq.{take_all}
-use Rattle.limits.specs.Limits.{mostCards}
+use Rattle.limits.specs.Limits.{most_cards}
 use Rattle.rows.specs.Rows.{All}
-use Rattle.sweep_rules.specs.Terms.{allFit}
+use Rattle.sweep_rules.specs.Terms.{all_fit}
 use Rattle.sweep_rules.specs.Demand.{Typed}
-use Rattle.sweep_steps.specs.TermLaws.{all-next, fit_next, fit-not, fit-done}
+use Rattle.sweep_steps.specs.TermLaws.{all_next, fit_next, fit_not, fit_done}
 use Rattle.sweep_steps.proofs.terms.all_fit.Statement.{statement}
 use Rattle.sweep_steps.proofs.terms.all_fit.Tie as tie
 
 abbrev invariant-loop : tie.invariant-loop
-invariant-loop n cards i₀ i = (i ≤ n) × (length cards ≡ mostCards) × (allFit (drop i (take n cards)) ≡ allFit (take n cards)) × All Typed (take i cards)
+invariant-loop n cards i₀ i = (i ≤ n) × (length cards ≡ most_cards) × (all_fit (drop i (take n cards)) ≡ all_fit (take n cards)) × All Typed (take i cards)
 
 abbrev decreases-loop : tie.decreases-loop
 decreases-loop n cards i₀ i = n - i
@@ -37,7 +37,7 @@ returns c =
     let l = c.before.before.before.before.loop in
     let a = c.before.before.before.before.before.args in
     let e = sym c.before.card-fits.ensures.0 ∙ not-true _ c.if1.true in
-    (sym (sym l.invariant.2 ∙ fit-not a.t1 a.n (omega arith) l.i _ (omega arith) e), λ t. absurd (false≢true t))
+    (sym (sym l.invariant.2 ∙ fit_not a.t1 a.n (omega arith) l.i _ (omega arith) e), λ t. absurd (false≢true t))
 
 add-i : tie.Need-overflow-add-i invariant-loop decreases-loop
 add-i c = omega arith
@@ -53,7 +53,7 @@ loop-again c =
       omega arith,
       omega arith,
       sym (fit_next a.t1 a.n (omega arith) l.i _ (omega arith) e) ∙ l.invariant.2,
-      all-next Typed a.t1 l.i _ (omega arith) l.invariant.3 c.before.card-fits.ensures.1,
+      all_next Typed a.t1 l.i _ (omega arith) l.invariant.3 c.before.card-fits.ensures.1,
     )
 
 returns-2 : tie.Need-returns-2 invariant-loop decreases-loop
@@ -61,10 +61,10 @@ returns-2 c =
     let l = c.before.loop in
     let a = c.before.before.args in
     let e : l.i ≡ a.n = omega arith in
-    (sym (sym l.invariant.2 ∙ fit-done a.t1 a.n (omega arith) l.i (omega arith)), λ t. rw e at l.invariant.3)
+    (sym (sym l.invariant.2 ∙ fit_done a.t1 a.n (omega arith) l.i (omega arith)), λ t. rw e at l.invariant.3)
 
-pub all-fit-spec : {M : Type 1} → statement M
-all-fit-spec =
+pub all_fit_spec : {M : Type 1} → statement M
+all_fit_spec =
     tie.close
     (tie.spec
     invariant-loop

@@ -1,11 +1,11 @@
 use mathlib.Core.Path.{◌≡◌, ap}
 use mathlib.Core.List.{[], ◌∷◌}
 use lib.ListN.{length}
-use Rattle.uid.specs.Uid.{uidBytes}
-use Rattle.sweep_steps.specs.Steps.{foundIn, foundBy}
+use Rattle.uid.specs.Uid.{uid_bytes}
+use Rattle.sweep_steps.specs.Steps.{found_in, found_by}
 use mathlib.Core.Path.{◌≡◌, refl, sym, ap, ◌∙◌}
 use native.Mathlib.Omega.{arith}
-use Rattle.sweep_steps.specs.Steps.{foundBy}
+use Rattle.sweep_steps.specs.Steps.{found_by}
 use Rattle.sweep_steps.specs.FoundLaws.{grows_none, grows_one}
 use borrow.Author.Rules.{rules}
 use Rattle.sweep_steps.proofs.within.put_found.Statement.{statement}
@@ -18,10 +18,10 @@ enum-told-2 : tie.Need-enum-told-2
 enum-told-2 c = search rules
 
 put-entry-requires : tie.Need-put-entry-requires
-unfolding foundBy
+unfolding found_by
 put-entry-requires c κs =
     let t = c.before.before.before.before.before.before.args.t in
-    let e : foundBy t ≡ uidBytes t.reader.uid ∷ [] = ap (λ x. foundIn x (uidBytes t.reader.uid)) c.before.enum-told2.given.1 in
+    let e : found_by t ≡ uid_bytes t.reader.uid ∷ [] = ap (λ x. found_in x (uid_bytes t.reader.uid)) c.before.enum-told2.given.1 in
     omega (arith, ap length e)
 
 enum-told-3 : tie.Need-enum-told-3
@@ -34,50 +34,50 @@ enum-told-5 : tie.Need-enum-told-5
 enum-told-5 c = search rules
 
 returns : tie.Need-returns
-unfolding foundBy
+unfolding found_by
 returns c =
     let a = c.before.before.before.before.before.args in
     let t = a.t in
-    let e : foundBy t ≡ [] = ap (λ x. foundIn x (uidBytes t.reader.uid)) c.enum_told.given.1 in
-    grows_none (foundBy t) a.list.now a.at e
+    let e : found_by t ≡ [] = ap (λ x. found_in x (uid_bytes t.reader.uid)) c.enum_told.given.1 in
+    grows_none (found_by t) a.list.now a.at e
 
 same_length : tie.Need-same-length
 same_length c = search rules
 
 returns-2 : tie.Need-returns-2
-unfolding foundBy
+unfolding found_by
 returns-2 c =
     let a = c.before.before.before.before.before.before.before.before.before.args in
     let t = a.t in
-    let e : foundBy t ≡ uidBytes t.reader.uid ∷ [] = ap (λ x. foundIn x (uidBytes t.reader.uid)) c.before.before.before.before.enum-told2.given.1 in
-    grows_one (foundBy t) t.reader.uid a.list.now a.at _ e (search rules) c.before.before.put-entry.ensures
+    let e : found_by t ≡ uid_bytes t.reader.uid ∷ [] = ap (λ x. found_in x (uid_bytes t.reader.uid)) c.before.before.before.before.enum-told2.given.1 in
+    grows_one (found_by t) t.reader.uid a.list.now a.at _ e (search rules) c.before.before.put-entry.ensures
 
 returns-3 : tie.Need-returns-3
-unfolding foundBy
+unfolding found_by
 returns-3 c =
     let a = c.before.before.before.before.before.args in
     let t = a.t in
-    let e : foundBy t ≡ [] = ap (λ x. foundIn x (uidBytes t.reader.uid)) c.enum-told3.given.1 in
-    grows_none (foundBy t) a.list.now a.at e
+    let e : found_by t ≡ [] = ap (λ x. found_in x (uid_bytes t.reader.uid)) c.enum-told3.given.1 in
+    grows_none (found_by t) a.list.now a.at e
 
 returns-4 : tie.Need-returns-4
-unfolding foundBy
+unfolding found_by
 returns-4 c =
     let a = c.before.before.before.before.before.args in
     let t = a.t in
-    let e : foundBy t ≡ [] = ap (λ x. foundIn x (uidBytes t.reader.uid)) c.enum-told4.given.1 in
-    grows_none (foundBy t) a.list.now a.at e
+    let e : found_by t ≡ [] = ap (λ x. found_in x (uid_bytes t.reader.uid)) c.enum-told4.given.1 in
+    grows_none (found_by t) a.list.now a.at e
 
 returns-5 : tie.Need-returns-5
-unfolding foundBy
+unfolding found_by
 returns-5 c =
     let a = c.before.before.before.before.before.args in
     let t = a.t in
-    let e : foundBy t ≡ [] = ap (λ x. foundIn x (uidBytes t.reader.uid)) c.enum-told5.given.1 in
-    grows_none (foundBy t) a.list.now a.at e
+    let e : found_by t ≡ [] = ap (λ x. found_in x (uid_bytes t.reader.uid)) c.enum-told5.given.1 in
+    grows_none (found_by t) a.list.now a.at e
 
-pub put-found-spec : {M : Type 1} → statement M
-put-found-spec =
+pub put_found_spec : {M : Type 1} → statement M
+put_found_spec =
     tie.close
     (tie.spec
     enum_told

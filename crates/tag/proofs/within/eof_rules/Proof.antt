@@ -2,8 +2,8 @@
 use borrow.Author.Tests.{eq-eqb, ne_eqb, le-leb, lt-leb, lt-ltb, le-ltb, not-true, not-false}
 use mathlib.Core.Path.{◌≡◌, refl, sym, ap, ◌∙◌}
 use Prim.Native.Nat.{◌-◌}
-use Rattle.rows.specs.RowLaws.{overlay-nil}
-use Rattle.tag.specs.Tag.{waits, takesEof, answersEof}
+use Rattle.rows.specs.RowLaws.{overlay_nil}
+use Rattle.tag.specs.Tag.{waits, takes_eof, answers_eof}
 use borrow.Author.Rules.{rules}
 use Rattle.tag.proofs.within.eof_rules.Statement.{statement}
 use Rattle.tag.proofs.within.eof_rules.Tie as tie
@@ -27,7 +27,7 @@ same_length : tie.Need-same-length
 same_length c = search rules
 
 returns : tie.Need-returns
-unfolding takesEof answersEof
+unfolding takes_eof answers_eof
 returns c =
     let e : waits c.before.before.before.before.before.before.before.before.before.before.args.t.state ≡ 1 = sym c.before.before.before.before.before.before.before.before.waits.ensures ∙ c.before.before.before.before.before.before.before.if1.true in
     (rw (e, c.answer-of.ensures, c.before.with-state.ensures, c.before.before.waiting.ensures, c.before.before.before.before.before.put-told.ensures.0), rw e c.before.before.before.before.before.put-told.ensures.1)
@@ -39,10 +39,10 @@ with-state-requires-2 : tie.Need-with-state-requires-2
 with-state-requires-2 c κs = search rules
 
 returns-2 : tie.Need-returns-2
-unfolding takesEof answersEof
+unfolding takes_eof answers_eof
 returns-2 c =
     let e : waits c.before.before.before.before.before.before.args.t.state ≡ 0 = sym c.before.before.before.before.waits.ensures ∙ c.before.before.if2.true in
-    (rw (e, c.with-state2.ensures, c.before.waiting2.ensures), rw e (sym (overlay-nil _ 0)))
+    (rw (e, c.with-state2.ensures, c.before.waiting2.ensures), rw e (sym (overlay_nil _ 0)))
 
 sub-waiting : tie.Need-overflow-sub-waiting
 sub-waiting c = search rules
@@ -54,13 +54,13 @@ with-state-requires-3 : tie.Need-with-state-requires-3
 with-state-requires-3 c κs = search rules
 
 returns-3 : tie.Need-returns-3
-unfolding takesEof answersEof
+unfolding takes_eof answers_eof
 returns-3 c =
     let e = ne_eqb (waits c.before.before.before.before.before.before.args.t.state) 1 (λ z. c.before.before.before.if1.false (c.before.before.before.before.waits.ensures ∙ z)) in
-    (rw (e, c.with-state3.ensures, c.before.waiting3.ensures, c.before.before.before.before.waits.ensures), rw e (sym (overlay-nil _ 0)))
+    (rw (e, c.with-state3.ensures, c.before.waiting3.ensures, c.before.before.before.before.waits.ensures), rw e (sym (overlay_nil _ 0)))
 
-pub eof-rules-spec : {M : Type 1} → statement M
-eof-rules-spec =
+pub eof_rules_spec : {M : Type 1} → statement M
+eof_rules_spec =
     tie.close
     (tie.spec
     waits-requires

@@ -21,5 +21,5 @@ returns-4 : tie.Need-returns-4
 unfolding geometry
 returns-4 c = rw (le-leb 1 _ c.before.before.if1.false, le-leb _ 256 c.before.if2.false, le-leb 1 _ c.if3.false)
 
-pub is-geometry-spec : {M : Type 1} → statement M
-is-geometry-spec = tie.close (tie.spec returns returns-2 returns-3 returns-4)
+pub is_geometry_spec : {M : Type 1} → statement M
+is_geometry_spec = tie.close (tie.spec returns returns-2 returns-3 returns-4)

@@ -27,8 +27,8 @@ returns-3 c = search rules
 returns-4 : tie.Need-returns-4
 returns-4 c = rw c.before.y2.given.1
 
-pub powered-spec : {M : Type 1} → statement M
-powered-spec =
+pub powered_spec : {M : Type 1} → statement M
+powered_spec =
     tie.close
     (tie.spec
     enum_told

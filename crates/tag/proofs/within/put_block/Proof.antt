@@ -3,7 +3,7 @@ use Prim.Native.Nat.{◌+◌, ◌*◌}
 use mathlib.Core.Bool.{true, false}
 use mathlib.Core.Path.{refl, sym, ap, ◌∙◌}
 use Rattle.tag.specs.Memory.{shown}
-use Rattle.tag.specs.MemoryLaws.{length-block, block-part, length-shown, status-put}
+use Rattle.tag.specs.MemoryLaws.{length_block, block_part, length_shown, status_put}
 use lib.ListN.{length-take, length-drop}
 use borrow.Author.Rules.{rules}
 use native.Mathlib.Omega.{arith}
@@ -61,11 +61,11 @@ returns c =
     let a = c.before.before.before.before.before.before.before.before.before.before.before.before.before.before.before.before.args in
     let m = a.memory.now in
     let l = a.locks.now in
-    let k = length-shown a.size m a.b c.before.before.before.before.before.before.before.before.before.before.before.before.before.before.before.before.requires.0 true l in (
+    let k = length_shown a.size m a.b c.before.before.before.before.before.before.before.before.before.before.before.before.before.before.before.before.requires.0 true l in (
       rw c.before.before.before.before.before.before.before.before.before.before.before.before.if1.true (sym k),
       (
         omega arith,
-        rw (c.before.before.put-bits2.ensures, c.before.before.before.before.before.before.before.put-bits.ensures, c.before.before.before.before.before.before.before.before.before.before.status-of.ensures, c.before.before.before.before.before.before.before.before.before.before.before.before.if1.true, block-part a.size m a.b c.before.before.before.before.before.before.before.before.before.before.before.before.before.before.before.before.requires.0) (status-put a.out.now _ _ a.at (rw (length-block a.size m a.b c.before.before.before.before.before.before.before.before.before.before.before.before.before.before.before.before.requires.0) c.before.before.before.before.before.before.before.before.before.before.before.before.before.before.before.before.requires.2)),
+        rw (c.before.before.put-bits2.ensures, c.before.before.before.before.before.before.before.put-bits.ensures, c.before.before.before.before.before.before.before.before.before.before.status-of.ensures, c.before.before.before.before.before.before.before.before.before.before.before.before.if1.true, block_part a.size m a.b c.before.before.before.before.before.before.before.before.before.before.before.before.before.before.before.before.requires.0) (status_put a.out.now _ _ a.at (rw (length_block a.size m a.b c.before.before.before.before.before.before.before.before.before.before.before.before.before.before.before.before.requires.0) c.before.before.before.before.before.before.before.before.before.before.before.before.before.before.before.before.requires.2)),
       ),
     )
 
@@ -93,16 +93,16 @@ returns-2 c =
     let a = c.before.before.before.before.before.before.before.before.before.args in
     let m = a.memory.now in
     let l = a.locks.now in
-    let k = length-shown a.size m a.b c.before.before.before.before.before.before.before.before.before.requires.0 false l in (
+    let k = length_shown a.size m a.b c.before.before.before.before.before.before.before.before.before.requires.0 false l in (
       rw c.before.before.before.before.before.if1.false (sym k),
       (
         omega arith,
-        rw (c.before.before.put-bits3.ensures, c.before.before.before.before.before.if1.false, block-part a.size m a.b c.before.before.before.before.before.before.before.before.before.requires.0),
+        rw (c.before.before.put-bits3.ensures, c.before.before.before.before.before.if1.false, block_part a.size m a.b c.before.before.before.before.before.before.before.before.before.requires.0),
       ),
     )
 
-pub put-block-spec : {M : Type 1} → statement M
-put-block-spec =
+pub put_block_spec : {M : Type 1} → statement M
+put_block_spec =
     tie.close
     (tie.spec
     mul-from

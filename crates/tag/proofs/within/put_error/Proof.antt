@@ -1,7 +1,7 @@
 -- `tag::within::put_error` meets its contract: the frame is written, and its bits are counted. Assumes nothing.
 use mathlib.Core.Path.{sym}
 use mathlib.Core.List.{[], ◌∷◌}
-use Rattle.frame_b.specs.FrameBLaws.{length-frame}
+use Rattle.frame_b.specs.FrameBLaws.{length_frame}
 use borrow.Author.Rules.{rules}
 use Rattle.tag.proofs.within.put_error.Statement.{statement}
 use Rattle.tag.proofs.within.put_error.Tie as tie
@@ -16,8 +16,8 @@ same_length : tie.Need-same-length
 same_length c = search rules
 
 returns : tie.Need-returns
-returns c = (sym (length-frame (0x01 ∷ c.before.before.before.before.before.before.args.e ∷ [])), c.before.before.put-frame.ensures)
+returns c = (sym (length_frame (0x01 ∷ c.before.before.before.before.before.before.args.e ∷ [])), c.before.before.put-frame.ensures)
 
-pub put-error-spec : {M : Type 1} → statement M
-put-error-spec =
+pub put_error_spec : {M : Type 1} → statement M
+put_error_spec =
     tie.close (tie.spec slice-aggregate-put-frame put-frame-requires same_length returns)

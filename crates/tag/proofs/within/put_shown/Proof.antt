@@ -3,24 +3,24 @@ use Prim.Native.Nat.{◌≤◌, ◌+◌, ◌-◌, ◌*◌}
 use mathlib.Core.Path.{◌≡◌, refl, sym, ap, ◌∙◌}
 use lib.ListN.{length}
 use Rattle.rows.specs.Rows.{overlay}
-use Rattle.rows.specs.RowLaws.{overlay-nil}
-use Rattle.frame.specs.Frame.{airBits}
-use Rattle.tag.specs.Memory.{shownFrom}
-use Rattle.tag.specs.MemoryLaws.{block-fits, turn-fits, next-blocks, shown-turn, count_turn}
+use Rattle.rows.specs.RowLaws.{overlay_nil}
+use Rattle.frame.specs.Frame.{air_bits}
+use Rattle.tag.specs.Memory.{shown_from}
+use Rattle.tag.specs.MemoryLaws.{block_fits, turn_fits, next_blocks, shown_turn, count_turn}
 use borrow.Author.Rules.{rules}
 use native.Mathlib.Omega.{arith}
 use Rattle.tag.proofs.within.put_shown.Statement.{statement}
 use Rattle.tag.proofs.within.put_shown.Tie as tie
 
 abbrev invariant-loop : tie.invariant-loop
-invariant-loop memory locks size first count status out₀ at₀ i₀ out at i = (i ≤ count) × (at ≡ 1 + length (shownFrom status size memory locks first i)) × (at ≤ 1 + i * (size + 1)) × (length out ≡ length out₀) × (out ≡ overlay out₀ 8 (airBits (shownFrom status size memory locks first i)))
+invariant-loop memory locks size first count status out₀ at₀ i₀ out at i = (i ≤ count) × (at ≡ 1 + length (shown_from status size memory locks first i)) × (at ≤ 1 + i * (size + 1)) × (length out ≡ length out₀) × (out ≡ overlay out₀ 8 (air_bits (shown_from status size memory locks first i)))
 
 abbrev decreases-loop : tie.decreases-loop
 decreases-loop memory locks size first count status out₀ at₀ i₀ out at i = count - i
 
 loop-holds : tie.Need-loop-init invariant-loop decreases-loop
-unfolding shownFrom airBits
-loop-holds c = (omega arith, refl, omega arith, refl, sym (overlay-nil _ _))
+unfolding shown_from air_bits
+loop-holds c = (omega arith, refl, omega arith, refl, sym (overlay_nil _ _))
 
 add-put-block : tie.Need-overflow-add-put-block invariant-loop decreases-loop
 add-put-block c = search rules
@@ -31,10 +31,10 @@ put-block-requires c κs =
     let l = c.before.before.loop in
     let m = a.memory.now in
     let k = a.locks.now in
-    (omega (arith, block-fits a.size (a.first + l.i) (a.first + a.count) (omega arith), c.before.before.before.before.before.before.requires.0), omega (arith, c.before.before.before.before.before.before.requires.1), omega (arith, l.invariant.2, l.invariant.3, turn-fits (a.size + 1) l.i a.count (omega arith), c.before.before.before.before.before.before.requires.2))
+    (omega (arith, block_fits a.size (a.first + l.i) (a.first + a.count) (omega arith), c.before.before.before.before.before.before.requires.0), omega (arith, c.before.before.before.before.before.before.requires.1), omega (arith, l.invariant.2, l.invariant.3, turn_fits (a.size + 1) l.i a.count (omega arith), c.before.before.before.before.before.before.requires.2))
 
 add_at : tie.Need-overflow-add-at invariant-loop decreases-loop
-add_at c = let a = c.before.before.before.before.before.before.before.before.before.args in let l = c.before.before.before.before.before.loop in omega (arith, c.before.before.put-block.ensures.1.0, l.invariant.2, l.invariant.3, turn-fits (a.size + 1) l.i a.count (omega arith), c.before.before.before.before.before.before.before.before.before.requires.2)
+add_at c = let a = c.before.before.before.before.before.before.before.before.before.args in let l = c.before.before.before.before.before.loop in omega (arith, c.before.before.put-block.ensures.1.0, l.invariant.2, l.invariant.3, turn_fits (a.size + 1) l.i a.count (omega arith), c.before.before.before.before.before.before.before.before.before.requires.2)
 
 add-i : tie.Need-overflow-add-i invariant-loop decreases-loop
 add-i c = search rules
@@ -49,13 +49,13 @@ loop-again c =
     let m = a.memory.now in
     let k = a.locks.now in
     let p = c.before.before.put-block in
-    let s = turn-fits (a.size + 1) l.i a.count (omega arith) in
-    let e : (l.i + 1) * (a.size + 1) ≡ l.i * (a.size + 1) + (a.size + 1) = next-blocks (a.size + 1) l.i in (
+    let s = turn_fits (a.size + 1) l.i a.count (omega arith) in
+    let e : (l.i + 1) * (a.size + 1) ≡ l.i * (a.size + 1) + (a.size + 1) = next_blocks (a.size + 1) l.i in (
       omega arith,
       count_turn a.status a.size m k a.first l.i l.at p.result l.invariant.1 p.ensures.0,
       omega (arith, e, p.ensures.1.0, l.invariant.2),
       omega (arith, l.invariant.3),
-      rw (p.ensures.1.1, l.invariant.4) (shown-turn a.status a.size m k a.out.now a.first l.i l.at l.invariant.1 (omega (arith, p.ensures.0, p.ensures.1.0, l.invariant.2, s, c.before.before.before.before.before.before.before.before.before.requires.2))),
+      rw (p.ensures.1.1, l.invariant.4) (shown_turn a.status a.size m k a.out.now a.first l.i l.at l.invariant.1 (omega (arith, p.ensures.0, p.ensures.1.0, l.invariant.2, s, c.before.before.before.before.before.before.before.before.before.requires.2))),
     )
 
 same_length : tie.Need-same-length invariant-loop decreases-loop
@@ -68,8 +68,8 @@ returns c =
     let e : l.i ≡ a.count = omega arith in
     (rw e at l.invariant.1, (rw e at l.invariant.2, rw e at l.invariant.4))
 
-pub put-shown-spec : {M : Type 1} → statement M
-put-shown-spec =
+pub put_shown_spec : {M : Type 1} → statement M
+put_shown_spec =
     tie.close
     (tie.spec
     invariant-loop

@@ -2,8 +2,8 @@
 use mathlib.Core.Path.{◌≡◌, sym, ap, ◌∙◌}
 use lib.ListN.{length}
 use Rattle.rows.specs.Rows.{overlay}
-use Rattle.frame_b.specs.FrameB.{frameB}
-use Rattle.frame_b.specs.FrameBLaws.{length-frame}
+use Rattle.frame_b.specs.FrameB.{frame_b}
+use Rattle.frame_b.specs.FrameBLaws.{length_frame}
 use Rattle.tag.specs.Tag.{told}
 use borrow.Author.Rules.{rules}
 use native.Mathlib.Omega.{arith}
@@ -25,9 +25,9 @@ same_length c = search rules
 returns : tie.Need-returns
 returns c =
     let n : length c.before.before.before.before.before.before.before.args.t.uid ≡ 8 = search rules in
-    (omega (arith, length-frame (told c.before.before.before.before.before.before.before.args.t)), c.before.before.put-frame.ensures ∙ ap (λ l. overlay c.before.before.before.before.before.before.before.args.out.now 0 (frameB l)) c.before.before.before.before.before.told.ensures)
+    (omega (arith, length_frame (told c.before.before.before.before.before.before.before.args.t)), c.before.before.put-frame.ensures ∙ ap (λ l. overlay c.before.before.before.before.before.before.before.args.out.now 0 (frame_b l)) c.before.before.before.before.before.told.ensures)
 
-pub put-told-spec : {M : Type 1} → statement M
-put-told-spec =
+pub put_told_spec : {M : Type 1} → statement M
+put_told_spec =
     tie.close
     (tie.spec told-requires slice-aggregate-put-frame put-frame-requires same_length returns)

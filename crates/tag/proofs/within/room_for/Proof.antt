@@ -1,7 +1,7 @@
 -- `tag::within::room_for` meets its contract: the larger of the two. Assumes nothing.
 use Prim.Native.Nat.{◌+◌}
 use Rattle.tag.specs.Calls.{room_for}
-use Rattle.tag.specs.CallLaws.{small-room}
+use Rattle.tag.specs.CallLaws.{small_room}
 use borrow.Author.Rules.{rules}
 use native.Mathlib.Omega.{arith}
 use Rattle.tag.proofs.within.room_for.Statement.{statement}
@@ -17,13 +17,13 @@ add-n : tie.Need-overflow-add-n
 add-n c = search rules
 
 mul-n : tie.Need-overflow-mul-n
-mul-n c = record { fits = omega (arith, small-room c.before.before.args.t.blocks (c.before.before.args.t.size + 1) (search rules) (search rules)) }
+mul-n c = record { fits = omega (arith, small_room c.before.before.args.t.blocks (c.before.before.args.t.size + 1) (search rules) (search rules)) }
 
 add-n-2 : tie.Need-overflow-add-n-2
-add-n-2 c = record { fits = omega (arith, small-room c.before.before.args.t.blocks (c.before.before.args.t.size + 1) (search rules) (search rules)) }
+add-n-2 c = record { fits = omega (arith, small_room c.before.before.args.t.blocks (c.before.before.args.t.size + 1) (search rules) (search rules)) }
 
 mul-n-2 : tie.Need-overflow-mul-n-2
-mul-n-2 c = record { fits = omega (arith, small-room c.before.before.args.t.blocks (c.before.before.args.t.size + 1) (search rules) (search rules)) }
+mul-n-2 c = record { fits = omega (arith, small_room c.before.before.args.t.blocks (c.before.before.args.t.size + 1) (search rules) (search rules)) }
 
 returns : tie.Need-returns
 unfolding room_for
@@ -33,5 +33,5 @@ returns-2 : tie.Need-returns-2
 unfolding room_for
 returns-2 c = omega (arith, c.if1.false)
 
-pub room-for-spec : {M : Type 1} → statement M
-room-for-spec = tie.close (tie.spec cast-n cast-n-2 add-n mul-n add-n-2 mul-n-2 returns returns-2)
+pub room_for_spec : {M : Type 1} → statement M
+room_for_spec = tie.close (tie.spec cast-n cast-n-2 add-n mul-n add-n-2 mul-n-2 returns returns-2)

@@ -90,8 +90,8 @@ returns-10 c = search rules
 returns-11 : tie.Need-returns-11
 returns-11 c = search rules
 
-pub state-after-spec : {M : Type 1} → statement M
-state-after-spec =
+pub state_after_spec : {M : Type 1} → statement M
+state_after_spec =
     tie.close
     (tie.spec
     enum_told

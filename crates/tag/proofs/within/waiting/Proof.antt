@@ -27,7 +27,7 @@ returns-3 c = search rules
 returns-4 : tie.Need-returns-4
 returns-4 c = rw c.enum-told4.given.1
 
-pub waiting-spec : {M : Type 1} → statement M
-waiting-spec =
+pub waiting_spec : {M : Type 1} → statement M
+waiting_spec =
     tie.close
     (tie.spec enum_told enum-told-2 enum-told-3 enum-told-4 returns returns-2 returns-3 returns-4)

@@ -3,9 +3,9 @@ use Prim.Native.Nat.{◌*◌, ◌-◌, ◌+◌}
 use mathlib.Core.Path.{◌≡◌, ap, ◌∙◌}
 use native.Mathlib.Nat.{mul_comm}
 use lib.ListN.{length, length-take, length-drop, drop, take}
-use Rattle.rows.specs.RowLaws.{overlay-part}
-use Rattle.tag.specs.CallLaws.{sent-there, rest-clean, rest-is}
-use Rattle.frame_v.specs.FrameVLaws.{sound-is}
+use Rattle.rows.specs.RowLaws.{overlay_part}
+use Rattle.tag.specs.CallLaws.{sent_there, rest_clean, rest_is}
+use Rattle.frame_v.specs.FrameVLaws.{sound_is}
 use borrow.Author.Rules.{rules}
 use native.Mathlib.Omega.{arith}
 use Rattle.tag.proofs.within.write_blocks.Statement.{statement}
@@ -21,7 +21,7 @@ sub-bytes-of : tie.Need-overflow-sub-bytes-of
 sub-bytes-of c = search rules
 
 part-bytes-of-start : tie.Need-slice-bounds-bytes-of-start
-part-bytes-of-start c = omega (arith, c.before.before.requires.1, (sound-is c.before.before.args.row.now c.before.before.requires.0).long)
+part-bytes-of-start c = omega (arith, c.before.before.requires.1, (sound_is c.before.before.args.row.now c.before.before.requires.0).long)
 
 part-bytes-of-end : tie.Need-slice-bounds-bytes-of-end
 part-bytes-of-end c = search rules
@@ -42,7 +42,7 @@ bytes-of-requires : tie.Need-bytes-of-requires
 bytes-of-requires c κs =
     let a = c.before.before.before.before.args in
     let e = mul_comm a.size a.n in
-    (sent-there a.row.now a.p (a.size * a.n) c.before.before.before.before.requires.0 (omega (arith, e, c.before.before.before.before.requires.1)), rw (length-take, length-drop) (omega (arith, c.before.before.before.before.requires.2)), rest-clean a.row.now (8 * a.p) c.before.before.before.before.requires.0)
+    (sent_there a.row.now a.p (a.size * a.n) c.before.before.before.before.requires.0 (omega (arith, e, c.before.before.before.before.requires.1)), rw (length-take, length-drop) (omega (arith, c.before.before.before.before.requires.2)), rest_clean a.row.now (8 * a.p) c.before.before.before.before.requires.0)
 
 same_length : tie.Need-same-length
 same_length c = search rules
@@ -50,10 +50,10 @@ same_length c = search rules
 returns : tie.Need-returns
 returns c =
     let a = c.before.before.before.before.before.before.before.args in
-    rw (c.before.before.bytes_of.ensures, rest-is a.row.now (8 * a.p)) (overlay-part a.memory.now (a.size * a.a) _ (omega (arith, c.before.before.before.before.before.before.before.requires.2)))
+    rw (c.before.before.bytes_of.ensures, rest_is a.row.now (8 * a.p)) (overlay_part a.memory.now (a.size * a.a) _ (omega (arith, c.before.before.before.before.before.before.before.requires.2)))
 
-pub write-blocks-spec : {M : Type 1} → statement M
-write-blocks-spec =
+pub write_blocks_spec : {M : Type 1} → statement M
+write_blocks_spec =
     tie.close
     (tie.spec
     mul-from

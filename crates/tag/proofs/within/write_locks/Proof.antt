@@ -1,5 +1,5 @@
 -- `tag::within::write_locks` meets its contract: the definition has the same cases. Assumes nothing.
-use Rattle.rows.specs.RowLaws.{overlay-one}
+use Rattle.rows.specs.RowLaws.{overlay_one}
 use borrow.Author.Rules.{rules}
 use native.Mathlib.Omega.{arith}
 use Rattle.tag.proofs.within.write_locks.Statement.{statement}
@@ -69,7 +69,7 @@ same_length : tie.Need-same-length
 same_length c = search rules
 
 returns-9 : tie.Need-returns-9
-returns-9 c = let h = rw c.before.d.given.1 at c.before.before.before.requires.0 in rw c.before.d.given.1 (overlay-one _ _ 1 (omega (arith, h, c.before.before.before.requires.1)))
+returns-9 c = let h = rw c.before.d.given.1 at c.before.before.before.requires.0 in rw c.before.d.given.1 (overlay_one _ _ 1 (omega (arith, h, c.before.before.before.requires.1)))
 
 returns-10 : tie.Need-returns-10
 returns-10 c = rw c.enum-told9.given.1
@@ -77,8 +77,8 @@ returns-10 c = rw c.enum-told9.given.1
 returns-11 : tie.Need-returns-11
 returns-11 c = rw c.enum-told10.given.1
 
-pub write-locks-spec : {M : Type 1} → statement M
-write-locks-spec =
+pub write_locks_spec : {M : Type 1} → statement M
+write_locks_spec =
     tie.close
     (tie.spec
     enum_told

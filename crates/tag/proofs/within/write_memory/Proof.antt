@@ -1,7 +1,7 @@
 -- `tag::within::write_memory` meets its contract: the definition has the same cases. Assumes nothing.
 use Prim.Native.Nat.{◌*◌}
 use native.Mathlib.Nat.{mul_comm}
-use Rattle.tag.specs.CallLaws.{named-fit}
+use Rattle.tag.specs.CallLaws.{named_fit}
 use borrow.Author.Rules.{rules}
 use native.Mathlib.Omega.{arith}
 use Rattle.tag.proofs.within.write_memory.Statement.{statement}
@@ -39,7 +39,7 @@ write-blocks-requires c κs =
     let a = c.before.before.before.before.before.before.before.args in
     let v = c.before.before.before.d.given.0 in
     let h = rw c.before.before.before.d.given.1 at c.before.before.before.before.before.before.before.requires.0 in
-    (h.2, h.1, omega (arith, named-fit a.t.size v.0 v.1.0 a.t.blocks h.0, c.before.before.before.before.before.before.before.requires.1))
+    (h.2, h.1, omega (arith, named_fit a.t.size v.0 v.1.0 a.t.blocks h.0, c.before.before.before.before.before.before.before.requires.1))
 
 enum-told-8 : tie.Need-enum-told-8
 enum-told-8 c = search rules
@@ -86,8 +86,8 @@ returns-10 c = rw c.enum-told9.given.1
 returns-11 : tie.Need-returns-11
 returns-11 c = rw c.enum-told10.given.1
 
-pub write-memory-spec : {M : Type 1} → statement M
-write-memory-spec =
+pub write_memory_spec : {M : Type 1} → statement M
+write_memory_spec =
     tie.close
     (tie.spec
     enum_told

@@ -8,5 +8,5 @@ returns c = simp (eq-eqb _ _ c.if1.true)
 returns-2 : tie.Need-returns-2
 returns-2 c = simp (ne_eqb _ _ c.if1.false)
 
-pub heard-bit-spec : {M : Type 1} → statement M
-heard-bit-spec = tie.close (tie.spec returns returns-2)
+pub heard_bit_spec : {M : Type 1} → statement M
+heard_bit_spec = tie.close (tie.spec returns returns-2)

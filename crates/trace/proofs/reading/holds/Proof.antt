@@ -1,8 +1,8 @@
 use lib.ListN.{length-take}
 use Rattle.rows.specs.Rows.{same}
 use Rattle.log.specs.Reading.{row_at}
-use Rattle.sweep_steps.specs.ExchangeLaws.{front_of}
-use Rattle.trace.specs.ReadLaws.{length-row}
+use Rattle.sweep_steps.specs.ExchangeLaws.{front_of_law}
+use Rattle.trace.specs.ReadLaws.{length_row}
 use mathlib.Core.Path.{◌∙◌, sym, ap}
 use native.Mathlib.Omega.{arith}
 use borrow.Author.Rules.{rules}
@@ -29,11 +29,11 @@ returns : tie.Need-returns
 returns c =
     let a = c.before.before.before.before.before.before.before.args in
     let p = c.before.before.before.put-bits in
-    let u = front_of _ (row_at a.log.now a.start a.n) a.n _ (sym (length-row a.log.now a.start a.n c.before.before.before.before.before.before.before.requires.0)) p.ensures in
+    let u = front_of_law _ (row_at a.log.now a.start a.n) a.n _ (sym (length_row a.log.now a.start a.n c.before.before.before.before.before.before.before.requires.0)) p.ensures in
     c.is_same.ensures ∙ ap (λ s. same s a.row.now) u.bits
 
-pub holds-spec : {M : Type 1} → statement M
-holds-spec =
+pub holds_spec : {M : Type 1} → statement M
+holds_spec =
     tie.close
     (tie.spec
     slice-aggregate-put-bits

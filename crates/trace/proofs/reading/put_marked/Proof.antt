@@ -6,10 +6,10 @@ use borrow.Author.Rules.{rules}
 use lib.ListN.{length, take, get_or, length-set}
 use lib.Seq.{take_all}
 use Rattle.rows.specs.Rows.{overlay}
-use Rattle.rows.specs.RowLaws.{overlay-nil}
-use Rattle.log.specs.Reading.{bitsFrom, row_at}
+use Rattle.rows.specs.RowLaws.{overlay_nil}
+use Rattle.log.specs.Reading.{bits_from, row_at}
 use Rattle.trace_rules.specs.Trace.{marked}
-use Rattle.trace.specs.ReadLaws.{row-turn, marked-bit, length_marked, length-row}
+use Rattle.trace.specs.ReadLaws.{row_turn, marked_bit, length_marked, length_row}
 use Rattle.trace.proofs.reading.put_marked.Statement.{statement}
 use Rattle.trace.proofs.reading.put_marked.Tie as tie
 
@@ -20,7 +20,7 @@ abbrev decreases-loop : tie.decreases-loop
 decreases-loop log start marks n out₀ i₀ out i = n - i
 
 loop-holds : tie.Need-loop-init invariant-loop decreases-loop
-loop-holds c = (omega arith, omega arith, sym (overlay-nil _ _))
+loop-holds c = (omega arith, omega arith, sym (overlay_nil _ _))
 
 bit-at-requires : tie.Need-bit-at-requires invariant-loop decreases-loop
 bit-at-requires c κs = search rules
@@ -45,9 +45,9 @@ loop-again c =
     let l = c.before.before.before.before.loop in
     let a = c.before.before.before.before.before.before.before.args in
     let r = marked (row_at a.log.now a.start a.n) (row_at a.log.now a.marks a.n) in
-    let k : length r ≡ a.n = length_marked _ _ ∙ length-row a.log.now a.start a.n c.before.before.before.before.before.before.before.requires.0 in
-    let e : c.heard-bit.result ≡ get_or r l.i 0 = c.heard-bit.ensures ∙ rw (c.before.bit-at2.ensures, c.before.before.bit_at.ensures) (sym (marked-bit a.log.now a.start a.marks a.n l.i c.before.before.before.before.before.before.before.requires.0 c.before.before.before.before.before.before.before.requires.1 (omega arith))) in
-    (omega arith, simp length-set (omega arith), rw l.invariant.2 (row-turn a.out.now r l.i _ e (omega arith) (omega arith)))
+    let k : length r ≡ a.n = length_marked _ _ ∙ length_row a.log.now a.start a.n c.before.before.before.before.before.before.before.requires.0 in
+    let e : c.heard-bit.result ≡ get_or r l.i 0 = c.heard-bit.ensures ∙ rw (c.before.bit-at2.ensures, c.before.before.bit_at.ensures) (sym (marked_bit a.log.now a.start a.marks a.n l.i c.before.before.before.before.before.before.before.requires.0 c.before.before.before.before.before.before.before.requires.1 (omega arith))) in
+    (omega arith, simp length-set (omega arith), rw l.invariant.2 (row_turn a.out.now r l.i _ e (omega arith) (omega arith)))
 
 same_length : tie.Need-same-length invariant-loop decreases-loop
 same_length c = omega arith
@@ -56,11 +56,11 @@ returns : tie.Need-returns invariant-loop decreases-loop
 returns c =
     let l = c.before.loop in
     let a = c.before.before.before.before.args in
-    let k = length_marked (row_at a.log.now a.start a.n) (row_at a.log.now a.marks a.n) ∙ length-row a.log.now a.start a.n c.before.before.before.before.requires.0 in
+    let k = length_marked (row_at a.log.now a.start a.n) (row_at a.log.now a.marks a.n) ∙ length_row a.log.now a.start a.n c.before.before.before.before.requires.0 in
     l.invariant.2 ∙ ap (overlay a.out.now 0) (take_all l.i _ (omega arith))
 
-pub put-marked-spec : {M : Type 1} → statement M
-put-marked-spec =
+pub put_marked_spec : {M : Type 1} → statement M
+put_marked_spec =
     tie.close
     (tie.spec
     invariant-loop

@@ -1,4 +1,4 @@
-use Rattle.trace.specs.ReadLaws.{sent-held}
+use Rattle.trace.specs.ReadLaws.{sent_held}
 use mathlib.Core.Path.{◌∙◌, sym, ap}
 use native.Mathlib.Omega.{arith}
 use borrow.Author.Rules.{rules}
@@ -15,7 +15,7 @@ enum-known-x c = search rules
 holds-requires : tie.Need-holds-requires
 holds-requires c κs =
     let k = c.before.before.before in
-    sent-held _ _ _ _ _ _ k.before.before.shared-slice-known.given (sym k.read_at.ensures ∙ c.before.x.given.1)
+    sent_held _ _ _ _ _ _ k.before.before.shared-slice-known.given (sym k.read_at.ensures ∙ c.before.x.given.1)
 
 returns : tie.Need-returns
 returns c = rw (← c.before.before.before.before.before.read_at.ensures, c.before.before.before.x.given.1, ← c.before.holds.ensures, c.if1.true)
@@ -59,8 +59,8 @@ returns-7 c = rw (← c.before.before.read_at.ensures, c.enum-told5.given.1)
 returns-8 : tie.Need-returns-8
 returns-8 c = rw (← c.before.before.read_at.ensures, c.enum-told6.given.1)
 
-pub sent-at-spec : {M : Type 1} → statement M
-sent-at-spec =
+pub sent_at_spec : {M : Type 1} → statement M
+sent_at_spec =
     tie.close
     (tie.spec
     read-at-requires

@@ -18,13 +18,13 @@ enum_told c = search rules
 
 returns : tie.Need-returns
 unfolding compared
-returns c = rw (sym c.before.before.before.before.sent-at.ensures ∙ c.before.before.passed.given.1) c.heard-as.ensures
+returns c = rw (sym c.before.before.before.before.sent-at.ensures ∙ c.before.before.passed.given.1) c.heard_as_law.ensures
 
 returns-2 : tie.Need-returns-2
 unfolding compared
 returns-2 c = rw (sym c.before.before.sent-at.ensures ∙ c.enum_told.given.1)
 
-pub compare-spec : {M : Type 1} → statement M
-compare-spec =
+pub compare_spec : {M : Type 1} → statement M
+compare_spec =
     tie.close
     (tie.spec sent-at-requires enum-known-passed heard-as-requires enum_told returns returns-2)

@@ -30,8 +30,8 @@ returns-3 c = rw c.enum_told.given.1
 returns-4 : tie.Need-returns-4
 returns-4 c = rw c.enum-told2.given.1
 
-pub verdict-spec : {M : Type 1} → statement M
-verdict-spec =
+pub verdict_spec : {M : Type 1} → statement M
+verdict_spec =
     tie.close
     (tie.spec
     enum-known-c

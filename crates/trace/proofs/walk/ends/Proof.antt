@@ -20,5 +20,5 @@ returns-2 : tie.Need-returns-2
 unfolding ends
 returns-2 c = rw (le-ltb _ _ c.before.if1.false) (ap content c.onward.ensures)
 
-pub ends-spec : {M : Type 1} → statement M
-ends-spec = tie.close (tie.spec faults-requires returns onward-requires returns-2)
+pub ends_spec : {M : Type 1} → statement M
+ends_spec = tie.close (tie.spec faults-requires returns onward-requires returns-2)

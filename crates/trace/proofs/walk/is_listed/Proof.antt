@@ -3,16 +3,16 @@ use mathlib.Core.Path.{◌≡◌, refl, sym, ap, ◌∙◌}
 use native.Mathlib.Omega.{arith}
 use borrow.Author.Rules.{rules}
 use lib.ListN.{length, take, drop}
-use Rattle.limits.specs.Limits.{mostCards}
+use Rattle.limits.specs.Limits.{most_cards}
 use Rattle.rows.specs.Rows.{any, same}
-use Rattle.uid.specs.Uid.{uidBytes}
-use Rattle.sweep_steps.specs.TermLaws.{any_next, any_here, any-done}
-use Rattle.trace_rules.specs.Trace.{isListed}
+use Rattle.uid.specs.Uid.{uid_bytes}
+use Rattle.sweep_steps.specs.TermLaws.{any_next, any_here, any_done}
+use Rattle.trace_rules.specs.Trace.{is_listed}
 use Rattle.trace.proofs.walk.is_listed.Statement.{statement}
 use Rattle.trace.proofs.walk.is_listed.Tie as tie
 
 abbrev invariant-loop : tie.invariant-loop
-invariant-loop u n cards i₀ i = (i ≤ n) × (length cards ≡ mostCards) × (any (λ k. same (uidBytes u) (uidBytes k.uid)) (drop i (take n cards)) ≡ any (λ k. same (uidBytes u) (uidBytes k.uid)) (take n cards))
+invariant-loop u n cards i₀ i = (i ≤ n) × (length cards ≡ most_cards) × (any (λ k. same (uid_bytes u) (uid_bytes k.uid)) (drop i (take n cards)) ≡ any (λ k. same (uid_bytes u) (uid_bytes k.uid)) (take n cards))
 
 abbrev decreases-loop : tie.decreases-loop
 decreases-loop u n cards i₀ i = n - i
@@ -30,11 +30,11 @@ same-uid-requires : tie.Need-same-uid-requires invariant-loop decreases-loop
 same-uid-requires c κs = search rules
 
 returns : tie.Need-returns invariant-loop decreases-loop
-unfolding isListed
+unfolding is_listed
 returns c =
     let l = c.before.before.before.before.before.loop in
     let a = c.before.before.before.before.before.before.args in
-    sym (any_here a.t2 a.n (omega arith) l.i _ (omega arith) (λ k. same (uidBytes a.u) (uidBytes k.uid)) (sym c.before.same-uid.ensures ∙ c.if1.true)) ∙ l.invariant.2
+    sym (any_here a.t2 a.n (omega arith) l.i _ (omega arith) (λ k. same (uid_bytes a.u) (uid_bytes k.uid)) (sym c.before.same-uid.ensures ∙ c.if1.true)) ∙ l.invariant.2
 
 add-i : tie.Need-overflow-add-i invariant-loop decreases-loop
 add-i c = omega arith
@@ -46,17 +46,17 @@ loop-again : tie.Need-loop-preserved invariant-loop decreases-loop
 loop-again c =
     let l = c.before.before.before.before.before.loop in
     let a = c.before.before.before.before.before.before.args in
-    (omega arith, omega arith, sym (any_next a.t2 a.n (omega arith) l.i _ (omega arith) (λ k. same (uidBytes a.u) (uidBytes k.uid)) (sym c.before.same-uid.ensures ∙ c.if1.false)) ∙ l.invariant.2)
+    (omega arith, omega arith, sym (any_next a.t2 a.n (omega arith) l.i _ (omega arith) (λ k. same (uid_bytes a.u) (uid_bytes k.uid)) (sym c.before.same-uid.ensures ∙ c.if1.false)) ∙ l.invariant.2)
 
 returns-2 : tie.Need-returns-2 invariant-loop decreases-loop
-unfolding isListed
+unfolding is_listed
 returns-2 c =
     let l = c.before.loop in
     let a = c.before.before.args in
-    sym (any-done a.t2 a.n (omega arith) (λ k. same (uidBytes a.u) (uidBytes k.uid)) l.i (omega arith)) ∙ l.invariant.2
+    sym (any_done a.t2 a.n (omega arith) (λ k. same (uid_bytes a.u) (uid_bytes k.uid)) l.i (omega arith)) ∙ l.invariant.2
 
-pub is-listed-spec : {M : Type 1} → statement M
-is-listed-spec =
+pub is_listed_spec : {M : Type 1} → statement M
+is_listed_spec =
     tie.close
     (tie.spec
     invariant-loop

@@ -32,8 +32,8 @@ returns-3 : tie.Need-returns-3
 unfolding lists
 returns-3 c = rw (lt-leb _ _ c.before.before.before.before.before.before.if1.false, ← c.before.before.before.is-listed.ensures, c.before.before.if2.false) (c.goes.ensures ∙ ap goes c.before.with-card.ensures)
 
-pub lists-spec : {M : Type 1} → statement M
-lists-spec =
+pub lists_spec : {M : Type 1} → statement M
+lists_spec =
     tie.close
     (tie.spec
     faults-requires

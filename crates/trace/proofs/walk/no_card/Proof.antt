@@ -7,5 +7,5 @@ returns : tie.Need-returns
 unfolding fill
 returns c = refl
 
-pub no-card-spec : {M : Type 1} → statement M
-no-card-spec = tie.close (tie.spec returns)
+pub no_card_spec : {M : Type 1} → statement M
+no_card_spec = tie.close (tie.spec returns)

@@ -1,7 +1,7 @@
 use mathlib.Core.Path.{◌≡◌, refl, sym, ap, ◌∙◌}
 use native.Mathlib.Omega.{arith}
 use lib.ListN.{length-take}
-use Rattle.sweep_steps.specs.ExchangeLaws.{front_of}
+use Rattle.sweep_steps.specs.ExchangeLaws.{front_of_law}
 use Rattle.trace_rules.specs.Trace.{step}
 use borrow.Author.Rules.{rules}
 use Rattle.trace.proofs.walk.step.Statement.{statement}
@@ -17,10 +17,10 @@ frame-bits-requires : tie.Need-frame-bits-requires
 frame-bits-requires c κs = search rules
 
 array-share-prefix-frame : tie.Need-array-share-prefix-frame
-array-share-prefix-frame c = (front_of _ _ _ _ c.frame-bits.ensures c.before.before.put-frame.ensures).fits
+array-share-prefix-frame c = (front_of_law _ _ _ _ c.frame_bits.ensures c.before.before.put-frame.ensures).fits
 
 slice-aggregate-sent-at : tie.Need-slice-aggregate-sent-at
-slice-aggregate-sent-at c = rw length-take (omega (arith, (front_of _ _ _ _ c.before.frame-bits.ensures c.before.before.before.put-frame.ensures).fits))
+slice-aggregate-sent-at c = rw length-take (omega (arith, (front_of_law _ _ _ _ c.before.frame_bits.ensures c.before.before.before.put-frame.ensures).fits))
 
 sent-at-requires : tie.Need-sent-at-requires
 sent-at-requires c κs = search rules
@@ -40,13 +40,13 @@ faults-requires c κs = search rules
 returns : tie.Need-returns
 unfolding step
 returns c =
-    let u = front_of _ _ _ _ c.before.before.before.before.before.before.frame-bits.ensures c.before.before.before.before.before.before.before.before.put-frame.ensures in
+    let u = front_of_law _ _ _ _ c.before.before.before.before.before.before.frame_bits.ensures c.before.before.before.before.before.before.before.before.put-frame.ensures in
     rw (rw u.bits at (sym c.before.before.before.before.sent-at.ensures ∙ c.before.before.passed.given.1)) c.heard-step.ensures
 
 returns-2 : tie.Need-returns-2
 unfolding step
 returns-2 c =
-    let u = front_of _ _ _ _ c.before.before.before.before.before.before.frame-bits.ensures c.before.before.before.before.before.before.before.before.put-frame.ensures in
+    let u = front_of_law _ _ _ _ c.before.before.before.before.before.before.frame_bits.ensures c.before.before.before.before.before.before.before.before.put-frame.ensures in
     rw (rw u.bits at (sym c.before.before.before.before.sent-at.ensures ∙ c.before.before.passed2.given.1)) c.faults.ensures
 
 pub step_spec : {M : Type 1} → statement M

@@ -57,8 +57,8 @@ returns-5 : tie.Need-returns-5
 unfolding turned
 returns-5 c = rw c.before.before.a.given.1 c.faults2.ensures
 
-pub turned-spec : {M : Type 1} → statement M
-turned-spec =
+pub turned_spec : {M : Type 1} → statement M
+turned_spec =
     tie.close
     (tie.spec
     enum_told

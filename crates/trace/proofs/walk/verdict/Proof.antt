@@ -38,8 +38,8 @@ returns-2 c = rw c.before.enum-told2.given.1 c.checked2.ensures
 returns-3 : tie.Need-returns-3
 returns-3 c = rw c.before.before.says.given.1 c.checked3.ensures
 
-pub verdict-spec : {M : Type 1} → statement M
-verdict-spec =
+pub verdict_spec : {M : Type 1} → statement M
+verdict_spec =
     tie.close
     (tie.spec
     enum_told

@@ -5,7 +5,7 @@ use Prim.Native.Nat.{suc, ◌*◌, ◌+◌, ◌-◌, ◌≤◌}
 use borrow.Author.Tests.{ltb-true}
 use lib.ListN.{length}
 use Rattle.trace_rules.specs.Trace.{start, step}
-use Rattle.trace.specs.WalkLaws.{left, left-first, left-turn, left-done, goes-says}
+use Rattle.trace.specs.WalkLaws.{left, left_first, left_turn, left_done, goes_says}
 use Rattle.trace.proofs.walk.walk.Statement.{statement}
 use Rattle.trace.proofs.walk.walk.Tie as tie
 
@@ -32,21 +32,21 @@ step-requires-2 c κs = search rules
 
 add_turn : tie.Need-overflow-add-turn invariant-loop decreases-loop
 add_turn c =
-    let g = goes-says c.before.before.before.before.loop.s c.before.before.before.before.loop.turn (length c.before.before.before.before.before.before.before.before.args.log.now) (sym c.before.before.before.goes_on.ensures ∙ c.before.before.if1.true) in
+    let g = goes_says c.before.before.before.before.loop.s c.before.before.before.before.loop.turn (length c.before.before.before.before.before.before.before.before.args.log.now) (sym c.before.before.before.goes_on.ensures ∙ c.before.before.if1.true) in
     omega (arith, ltb-true c.before.before.before.before.loop.turn (length c.before.before.before.before.before.before.before.before.args.log.now) g.0)
 
 loop-less : tie.Need-loop-smaller invariant-loop decreases-loop
 loop-less c =
-    let g = goes-says c.before.before.before.before.loop.s c.before.before.before.before.loop.turn (length c.before.before.before.before.before.before.before.before.args.log.now) (sym c.before.before.before.goes_on.ensures ∙ c.before.before.if1.true) in
+    let g = goes_says c.before.before.before.before.loop.s c.before.before.before.before.loop.turn (length c.before.before.before.before.before.before.before.before.args.log.now) (sym c.before.before.before.goes_on.ensures ∙ c.before.before.if1.true) in
     omega (arith, ltb-true c.before.before.before.before.loop.turn (length c.before.before.before.before.before.before.before.before.args.log.now) g.0)
 
 loop-again : tie.Need-loop-preserved invariant-loop decreases-loop
 loop-again c =
     let a = c.before.before.before.before.before.before.before.before.args in
     let l = c.before.before.before.before.loop in
-    let g = goes-says c.before.before.before.before.loop.s c.before.before.before.before.loop.turn (length c.before.before.before.before.before.before.before.before.args.log.now) (sym c.before.before.before.goes_on.ensures ∙ c.before.before.if1.true) in
+    let g = goes_says c.before.before.before.before.loop.s c.before.before.before.before.loop.turn (length c.before.before.before.before.before.before.before.before.args.log.now) (sym c.before.before.before.goes_on.ensures ∙ c.before.before.if1.true) in
     let h = ltb-true l.turn (length a.log.now) g.0 in
-    (omega arith, rw c.step2.ensures (sym (left-turn a.stamp a.log.now l.turn l.s h g.1) ∙ l.invariant.1))
+    (omega arith, rw c.step2.ensures (sym (left_turn a.stamp a.log.now l.turn l.s h g.1) ∙ l.invariant.1))
 
 mul-verdict : tie.Need-overflow-mul-verdict invariant-loop decreases-loop
 mul-verdict c = omega arith
@@ -60,13 +60,13 @@ returns c =
     let l = c.before.before.before.loop in
     let n = length a.log.now in
     c.verdict.ensures
-    ∙ sym (left-done a.stamp a.log.now l.turn l.s (sym c.before.before.goes_on.ensures ∙ c.before.if1.false))
+    ∙ sym (left_done a.stamp a.log.now l.turn l.s (sym c.before.before.goes_on.ensures ∙ c.before.if1.false))
     ∙ l.invariant.1
     ∙ ap (left n a.stamp a.log.now 0) (c.before.before.before.before.step.ensures ∙ ap (step a.stamp a.log.now) c.before.before.before.before.before.start.ensures)
-    ∙ left-first n a.stamp a.log.now 0 start
+    ∙ left_first n a.stamp a.log.now 0 start
 
-pub walk-spec : {M : Type 1} → statement M
-walk-spec =
+pub walk_spec : {M : Type 1} → statement M
+walk_spec =
     tie.close
     (tie.spec
     invariant-loop

@@ -19,5 +19,5 @@ add-t7 c = search rules
 returns : tie.Need-returns
 returns c = rw c.listed.ensures
 
-pub with-card-spec : {M : Type 1} → statement M
-with-card-spec = tie.close (tie.spec listed-requires mul-cards array-set-from-cards add-t7 returns)
+pub with_card_spec : {M : Type 1} → statement M
+with_card_spec = tie.close (tie.spec listed-requires mul-cards array-set-from-cards add-t7 returns)

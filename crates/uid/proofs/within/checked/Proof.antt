@@ -10,14 +10,14 @@ is-valid-requires c κs = search rules
 
 returns : tie.Need-returns
 unfolding checked
-returns c = rw (sym c.before.is-valid.ensures ∙ c.if1.true)
+returns c = rw (sym c.before.is_valid.ensures ∙ c.if1.true)
 
 refused-uid-requires : tie.Need-refused-uid-requires
 refused-uid-requires c κs = search rules
 
 returns-2 : tie.Need-returns-2
 unfolding checked
-returns-2 c = rw (sym c.before.before.is-valid.ensures ∙ c.before.if1.false, c.refused-uid.ensures)
+returns-2 c = rw (sym c.before.before.is_valid.ensures ∙ c.before.if1.false, c.refused-uid.ensures)
 
-pub checked-spec : {M : Type 1} → statement M
-checked-spec = tie.close (tie.spec is-valid-requires returns refused-uid-requires returns-2)
+pub checked_spec : {M : Type 1} → statement M
+checked_spec = tie.close (tie.spec is-valid-requires returns refused-uid-requires returns-2)

@@ -11,5 +11,5 @@ returns : tie.Need-returns
 unfolding level
 returns c = rw c.check-byte.ensures
 
-pub level-row-spec : {M : Type 1} → statement M
-level-row-spec = tie.close (tie.spec check-byte-requires returns)
+pub level_row_spec : {M : Type 1} → statement M
+level_row_spec = tie.close (tie.spec check-byte-requires returns)

@@ -6,22 +6,22 @@ use native.Mathlib.Omega.{arith}
 use lib.ListN.{length, take}
 use lib.Seq.{take_all}
 use Rattle.rows.specs.Rows.{overlay}
-use Rattle.rows.specs.RowLaws.{overlay-nil}
-use Rattle.parity.specs.BitLaws.{length-bits}
-use Rattle.frame.specs.Frame.{airBits}
-use Rattle.uid.specs.AirLaws.{bits-turn}
+use Rattle.rows.specs.RowLaws.{overlay_nil}
+use Rattle.parity.specs.BitLaws.{length_bits}
+use Rattle.frame.specs.Frame.{air_bits}
+use Rattle.uid.specs.AirLaws.{bits_turn}
 use Rattle.uid.proofs.within.put_level.Statement.{statement}
 use Rattle.uid.proofs.within.put_level.Tie as tie
 
 abbrev invariant-loop : tie.invariant-loop
-invariant-loop out₀ at five i₀ out i = (i ≤ 5) × (length five ≡ 5) × (length out ≡ length out₀) × (out ≡ overlay out₀ at (airBits (take i five)))
+invariant-loop out₀ at five i₀ out i = (i ≤ 5) × (length five ≡ 5) × (length out ≡ length out₀) × (out ≡ overlay out₀ at (air_bits (take i five)))
 
 abbrev decreases-loop : tie.decreases-loop
 decreases-loop out₀ at five i₀ out i = 5 - i
 
 loop-holds : tie.Need-loop-init invariant-loop decreases-loop
-unfolding airBits
-loop-holds c = (omega arith, search rules, refl, sym (overlay-nil _ _))
+unfolding air_bits
+loop-holds c = (omega arith, search rules, refl, sym (overlay_nil _ _))
 
 array-read-bits-of : tie.Need-array-read-bits-of invariant-loop decreases-loop
 array-read-bits-of c = omega arith
@@ -39,7 +39,7 @@ slice-aggregate-put : tie.Need-slice-aggregate-put invariant-loop decreases-loop
 slice-aggregate-put c = search rules
 
 put-requires : tie.Need-put-requires invariant-loop decreases-loop
-put-requires c κs = omega (arith, ap length c.before.before.bits_of.ensures ∙ length-bits 8 _)
+put-requires c κs = omega (arith, ap length c.before.before.bits_of.ensures ∙ length_bits 8 _)
 
 add-i : tie.Need-overflow-add-i invariant-loop decreases-loop
 add-i c = omega arith
@@ -56,7 +56,7 @@ loop-again c =
       omega arith,
       omega arith,
       omega (arith, p.auto.0),
-      rw (p.ensures, b.bits_of.ensures, l.invariant.3) (bits-turn a.out.now a.at a.t3 l.i (omega arith) (omega arith)),
+      rw (p.ensures, b.bits_of.ensures, l.invariant.3) (bits_turn a.out.now a.at a.t3 l.i (omega arith) (omega arith)),
     )
 
 same_length : tie.Need-same-length invariant-loop decreases-loop
@@ -66,10 +66,10 @@ returns : tie.Need-returns invariant-loop decreases-loop
 returns c =
     let l = c.before.loop in
     let a = c.before.before.before.args in
-    (l.invariant.3 ∙ ap (λ s. overlay a.out.now a.at (airBits s)) (take_all l.i a.t3 (omega arith)), l.invariant.1)
+    (l.invariant.3 ∙ ap (λ s. overlay a.out.now a.at (air_bits s)) (take_all l.i a.t3 (omega arith)), l.invariant.1)
 
-pub put-level-spec : {M : Type 1} → statement M
-put-level-spec =
+pub put_level_spec : {M : Type 1} → statement M
+put_level_spec =
     tie.close
     (tie.spec
     invariant-loop

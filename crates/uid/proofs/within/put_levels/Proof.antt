@@ -6,24 +6,24 @@ use mathlib.Core.List.{map}
 use native.Mathlib.Omega.{arith}
 use lib.ListN.{length, take}
 use Rattle.rows.specs.Rows.{overlay}
-use Rattle.rows.specs.RowLaws.{overlay-nil}
-use Rattle.frame.specs.Frame.{airBits}
+use Rattle.rows.specs.RowLaws.{overlay_nil}
+use Rattle.frame.specs.Frame.{air_bits}
 use Rattle.uid.specs.Uid.{air}
-use Rattle.uid.specs.AirLaws.{levels-turn}
+use Rattle.uid.specs.AirLaws.{levels_turn}
 use Rattle.uid.proofs.within.put_levels.Statement.{statement}
 use Rattle.uid.proofs.within.put_levels.Tie as tie
 
 abbrev invariant-loop : tie.invariant-loop
 invariant-loop out₀ n rows i₀ out i =
-    (i ≤ n) × (length rows ≡ 3) × (length out ≡ length out₀) × (length (air (map airBits (take i rows))) ≡ 40 * i)
-    × (out ≡ overlay out₀ 0 (air (map airBits (take i rows))))
+    (i ≤ n) × (length rows ≡ 3) × (length out ≡ length out₀) × (length (air (map air_bits (take i rows))) ≡ 40 * i)
+    × (out ≡ overlay out₀ 0 (air (map air_bits (take i rows))))
 
 abbrev decreases-loop : tie.decreases-loop
 decreases-loop out₀ n rows i₀ out i = n - i
 
 loop-holds : tie.Need-loop-init invariant-loop decreases-loop
 unfolding air
-loop-holds c = (omega arith, search rules, refl, refl, sym (overlay-nil _ _))
+loop-holds c = (omega arith, search rules, refl, refl, sym (overlay_nil _ _))
 
 mul-five : tie.Need-overflow-mul-five invariant-loop decreases-loop
 mul-five c = omega arith
@@ -48,7 +48,7 @@ loop-again c =
     let p = c.before.before.put-level in
     let l = c.before.before.before.before.before.before.loop in
     let a = c.before.before.before.before.before.before.before.before.args in
-    let t = levels-turn a.out.now a.t2 l.i (omega arith) l.invariant.3 p.ensures.1 (omega arith) in
+    let t = levels_turn a.out.now a.t2 l.i (omega arith) l.invariant.3 p.ensures.1 (omega arith) in
     (omega arith, omega arith, omega (arith, p.auto.0), t.1, rw (p.ensures.0, l.invariant.4) t.0)
 
 same_length : tie.Need-same-length invariant-loop decreases-loop
@@ -61,8 +61,8 @@ returns c =
     let e : l.i ≡ a.n = omega arith in
     (rw e at l.invariant.4, rw e at l.invariant.3)
 
-pub put-levels-spec : {M : Type 1} → statement M
-put-levels-spec =
+pub put_levels_spec : {M : Type 1} → statement M
+put_levels_spec =
     tie.close
     (tie.spec
     invariant-loop

@@ -8,5 +8,5 @@ returns : tie.Need-returns
 unfolding fill
 returns c = refl
 
-pub refused-uid-spec : {M : Type 1} → statement M
-refused-uid-spec = tie.close (tie.spec returns)
+pub refused_uid_spec : {M : Type 1} → statement M
+refused_uid_spec = tie.close (tie.spec returns)

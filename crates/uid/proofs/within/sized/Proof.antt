@@ -1,6 +1,6 @@
 -- `uid::within::sized` meets its contract: bytes written over ten zeros. Assumes nothing.
 use borrow.Author.Rules.{rules}
-use Rattle.uid.specs.FillLaws.{sized-made}
+use Rattle.uid.specs.FillLaws.{sized_made}
 use Rattle.uid.proofs.within.sized.Statement.{statement}
 use Rattle.uid.proofs.within.sized.Tie as tie
 
@@ -11,7 +11,7 @@ put-requires : tie.Need-put-requires
 put-requires c κs = search rules
 
 returns : tie.Need-returns
-returns c = sized-made c.before.before.before.before.args.size _ _ c.before.put.ensures
+returns c = sized_made c.before.before.before.before.args.size _ _ c.before.put.ensures
 
-pub sized-spec : {M : Type 1} → statement M
-sized-spec = tie.close (tie.spec slice-aggregate-put put-requires returns)
+pub sized_spec : {M : Type 1} → statement M
+sized_spec = tie.close (tie.spec slice-aggregate-put put-requires returns)

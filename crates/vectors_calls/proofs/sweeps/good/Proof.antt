@@ -1,14 +1,14 @@
 -- `vectors_calls::sweeps::good` meets its contract. The loop's invariant: there are as many cards as the limit. Assumes nothing.
 use Rattle.std.proofs.Common.{◌≡◌, ◌-◌, ◌≤◌, length, arith, length-set, rules}
-use Rattle.limits.specs.Limits.{mostCards}
+use Rattle.limits.specs.Limits.{most_cards}
 use Rattle.vectors_calls.proofs.sweeps.good.Statement.{statement}
 use Rattle.vectors_calls.proofs.sweeps.good.Tie as tie
 
 abbrev invariant-loop : tie.invariant-loop
-invariant-loop cards₀ n₀ i₀ cards n i = (length cards ≡ mostCards) × (i ≤ mostCards)
+invariant-loop cards₀ n₀ i₀ cards n i = (length cards ≡ most_cards) × (i ≤ most_cards)
 
 abbrev decreases-loop : tie.decreases-loop
-decreases-loop cards₀ n₀ i₀ cards n i = mostCards - i
+decreases-loop cards₀ n₀ i₀ cards n i = most_cards - i
 
 numbered-requires : tie.Need-numbered-requires invariant-loop decreases-loop
 numbered-requires c κs = tt
@@ -40,8 +40,8 @@ loop-again c = (simp length-set (omega arith), omega arith)
 returns : tie.Need-returns invariant-loop decreases-loop
 returns c = tt
 
-pub good-spec : {M : Type 1} → statement M
-good-spec =
+pub good_spec : {M : Type 1} → statement M
+good_spec =
     tie.close
     (tie.spec
     invariant-loop

@@ -33,8 +33,8 @@ loop-again c = (simp length-set (omega arith), omega arith)
 returns : tie.Need-returns invariant-loop decreases-loop
 returns c = tt
 
-pub filled-spec : {M : Type 1} → statement M
-filled-spec =
+pub filled_spec : {M : Type 1} → statement M
+filled_spec =
     tie.close
     (tie.spec
     invariant-loop

@@ -29,7 +29,7 @@ loop-again c = omega arith
 returns : tie.Need-returns invariant-loop decreases-loop
 returns c = tt
 
-pub exclusive-or-spec : {M : Type 1} → statement M
-exclusive-or-spec =
+pub exclusive_or_spec : {M : Type 1} → statement M
+exclusive_or_spec =
     tie.close
     (tie.spec invariant-loop decreases-loop loop-holds shared-slice-read-x add-i loop-less loop-again returns)

@@ -1,6 +1,6 @@
 -- `wake::within::goes_on` meets its contract: the definition has the same tests. Assumes nothing.
 use borrow.Author.Tests.{lt-ltb, le-ltb}
-use Rattle.wake.specs.Steps.{goesOn}
+use Rattle.wake.specs.Steps.{goes_on}
 use borrow.Author.Rules.{rules}
 use Rattle.wake.proofs.within.goes_on.Statement.{statement}
 use Rattle.wake.proofs.within.goes_on.Tie as tie
@@ -9,12 +9,12 @@ goes-requires : tie.Need-goes-requires
 goes-requires c κs = search rules
 
 returns : tie.Need-returns
-unfolding goesOn
+unfolding goes_on
 returns c = rw (lt-ltb _ _ c.before.if1.true) c.goes.ensures
 
 returns-2 : tie.Need-returns-2
-unfolding goesOn
+unfolding goes_on
 returns-2 c = rw (le-ltb _ _ c.if1.false)
 
-pub goes-on-spec : {M : Type 1} → statement M
-goes-on-spec = tie.close (tie.spec goes-requires returns returns-2)
+pub goes_on_spec : {M : Type 1} → statement M
+goes_on_spec = tie.close (tie.spec goes-requires returns returns-2)

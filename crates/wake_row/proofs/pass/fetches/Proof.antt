@@ -6,7 +6,7 @@ no-cards-requires : tie.Need-no-cards-requires
 no-cards-requires c κs = search rules
 
 returns : tie.Need-returns
-returns c = rw c.no-cards.ensures
+returns c = rw c.no_cards_law.ensures
 
-pub fetches-spec : {M : Type 1} → statement M
-fetches-spec = tie.close (tie.spec no-cards-requires returns)
+pub fetches_spec : {M : Type 1} → statement M
+fetches_spec = tie.close (tie.spec no-cards-requires returns)

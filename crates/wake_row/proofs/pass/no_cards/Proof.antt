@@ -7,5 +7,5 @@ returns : tie.Need-returns
 unfolding fill
 returns c = refl
 
-pub no-cards-spec : {M : Type 1} → statement M
-no-cards-spec = tie.close (tie.spec returns)
+pub no_cards_spec : {M : Type 1} → statement M
+no_cards_spec = tie.close (tie.spec returns)

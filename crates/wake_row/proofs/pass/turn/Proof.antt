@@ -1,7 +1,7 @@
 use mathlib.Core.Path.{◌≡◌, refl}
 use mathlib.Core.Bool.{true, false}
 use native.Mathlib.Omega.{arith}
-use Rattle.wake_row.specs.RowLaws.{turns-fetch, turns-call, turns-store, turns-stop}
+use Rattle.wake_row.specs.RowLaws.{turns_fetch, turns_call, turns_store, turns_stop}
 use borrow.Author.Rules.{rules}
 use Rattle.wake_row.proofs.pass.turn.Statement.{statement}
 use Rattle.wake_row.proofs.pass.turn.Tie as tie
@@ -16,7 +16,7 @@ returns : tie.Need-returns
 returns c =
     let a = c.before.before.before.before.args in
     let f : a.p.fetching ≡ true = search rules in
-    turns-fetch a.p a.c f (omega arith) c.fetched.result c.fetched.ensures
+    turns_fetch a.p a.c f (omega arith) c.fetched.result c.fetched.ensures
 
 called-requires : tie.Need-called-requires
 called-requires c κs = search rules
@@ -25,7 +25,7 @@ returns-2 : tie.Need-returns-2
 returns-2 c =
     let a = c.before.before.before.before.args in
     let f : a.p.fetching ≡ true = search rules in
-    turns-call a.p a.c f (omega arith) c.called.result c.called.ensures.0 c.called.ensures.1.0 c.called.ensures.1.1
+    turns_call a.p a.c f (omega arith) c.called.result c.called.ensures.0 c.called.ensures.1.0 c.called.ensures.1.1
 
 mul-k : tie.Need-overflow-mul-k
 mul-k c = search rules
@@ -43,7 +43,7 @@ returns-3 : tie.Need-returns-3
 returns-3 c =
     let a = c.before.before.before.before.before.before.args in
     let f : a.p.fetching ≡ false = search rules in
-    turns-store a.p a.c f (omega arith) _ refl c.stored.result c.stored.ensures
+    turns_store a.p a.c f (omega arith) _ refl c.stored.result c.stored.ensures
 
 stopped-requires : tie.Need-stopped-requires
 stopped-requires c κs = search rules
@@ -52,7 +52,7 @@ returns-4 : tie.Need-returns-4
 returns-4 c =
     let a = c.before.before.before.before.before.before.before.before.before.args in
     let f : a.p.fetching ≡ false = search rules in
-    turns-stop a.p a.c f (omega arith) _ refl c.stopped.result c.stopped.ensures
+    turns_stop a.p a.c f (omega arith) _ refl c.stopped.result c.stopped.ensures
 
 pub turn_spec : {M : Type 1} → statement M
 turn_spec =
