@@ -1,4 +1,5 @@
 // One card played from text: BENCH.md's language, one answer for each line.
+#![tactic(auto)]
 mod answers;
 mod lines;
 

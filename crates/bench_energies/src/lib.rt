@@ -1,4 +1,5 @@
 // T-01: the front end's numbers as text, and the lines that set a profile.
+#![tactic(auto)]
 mod numbers;
 mod profiles;
 

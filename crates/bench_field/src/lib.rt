@@ -1,5 +1,6 @@
 // A field of cards from text, its sweep or one card of it woken, and what came of it as lines: BENCH.md's `UID [STATE [SAK [INDEX]]]` and `wake UID`,
 // and the answers.
+#![tactic(auto)]
 mod cards;
 mod directives;
 mod report;

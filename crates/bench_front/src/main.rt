@@ -1,4 +1,5 @@
 // T-01: what the radio front end hands over, turned into received rows from text: one answer for each line.
+#![tactic(auto)]
 mod lines;
 
 use bench_talk::{Answer, Talk};

@@ -1,4 +1,5 @@
 // A field of cards from text, swept at the end of the input, over a lent row: BENCH.md's language.
+#![tactic(auto)]
 use bench_field::{Collected, Way};
 use bench_talk::Talk;
 

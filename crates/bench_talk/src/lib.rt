@@ -1,4 +1,5 @@
 // A program's talk: lines from standard input and answers to standard output, all by value, so that no function of a program lends memory on.
+#![tactic(auto)]
 mod answers;
 
 pub use answers::{Answer, digits, hex, none, number, raw, refused, row, word};

@@ -1,5 +1,6 @@
 // A log for people: a line for each record. `> ` and the reader's frame, `< ` and what was heard; its name; and its bytes and left-over
 // bits, collided bits as `x`, parity bits left out.
+#![tactic(auto)]
 mod groups;
 mod names;
 

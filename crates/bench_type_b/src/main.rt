@@ -1,5 +1,6 @@
 // Type B played from text, T-05: a field of cards, a reader and a list. BENCH.md's language, one answer for each line, and several lines for `cards`
 // and `field`.
+#![tactic(auto)]
 mod answers;
 mod frames;
 mod lines;

@@ -1,4 +1,5 @@
 // The text of a checked log (T-12).
+#![tactic(auto)]
 use bench_talk::Answer;
 use card::Card;
 use refusal::Refusal;

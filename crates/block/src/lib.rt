@@ -1,4 +1,5 @@
 // Document 01, "RATS, ATS and blocks": what a block is, its bytes, and how a message is cut into blocks. Neither CID nor NAD.
+#![tactic(auto)]
 
 // A block on the air. Only the crates of this repository call these functions.
 pub mod within;

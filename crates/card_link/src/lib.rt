@@ -1,4 +1,5 @@
 // Document 01, "The card" and "RATS, ATS and blocks": the whole card, every state. `whole` has its calls.
+#![tactic(auto)]
 pub mod whole;
 
 use block::Told;

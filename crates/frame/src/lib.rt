@@ -5,6 +5,7 @@
 // Refusals, by document 01's table: 1 room, 2 length, 8 a collided bit, 3 parity, 4 CRC_A; a received frame is tested in the order
 // 2, 8, 3, 4, and room, which does not depend on what was heard, before all of them. Writing is refused with 1 alone: the table gives 2 for
 // what is received.
+#![tactic(auto)]
 ghost use Rattle.std.specs.Prelude.{◌≡◌, length};
 ghost use Rattle.crc.specs.Crc.{with_crc};
 ghost use Rattle.frame.specs.Frame.{short, air_byte, standard, whole_bytes, read_frame, read_crc};

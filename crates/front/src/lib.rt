@@ -1,5 +1,6 @@
 // T-01: "Raw energies from the new front end". For each bit the radio chip hands over the energy of its first and of its second half; this
 // crate makes a received row of them, which the frame code reads like any other.
+#![tactic(auto)]
 ghost use Rattle.std.specs.Prelude.{◌≡◌, length};
 ghost use Rattle.front.specs.Front.{row_of};
 ghost use Rattle.front.specs.Calls.{heard_says, number_of, receive_says, places_after};

@@ -1,4 +1,5 @@
 // A Type B reader kept in lent bytes, with what the last call answered. `card` has the Type B card.
+#![tactic(auto)]
 pub mod card;
 pub mod within;
 

@@ -1,4 +1,5 @@
 // A row of cards kept in lent bytes, and what a sweep over them leaves.
+#![tactic(auto)]
 pub mod within;
 
 ghost use Rattle.std.specs.Prelude.{◌≡◌, ◌<◌};

@@ -1,4 +1,5 @@
 // A whole reader kept in lent bytes: its selection (`select`), its link (`link`), and what it answered last.
+#![tactic(auto)]
 pub mod link;
 pub mod select;
 pub mod within;

@@ -1,4 +1,5 @@
 // Document 01, "The reader and the sweep" and "RATS, ATS and blocks": the whole reader, every phase. `whole` has its calls.
+#![tactic(auto)]
 pub mod whole;
 
 use block::Told;

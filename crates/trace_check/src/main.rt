@@ -1,4 +1,5 @@
 // T-12, the trace checker: reads a log from standard input and says whose fault it was, or lists its cards.
+#![tactic(auto)]
 use libc::STDIN_FILENO;
 use trace::Checked;
 

@@ -1,4 +1,5 @@
 // The public calls' refusals from text, one for each line: a call, and numbers of which one is off. model/README.md has the lines.
+#![tactic(auto)]
 mod ends;
 mod frames;
 mod links;

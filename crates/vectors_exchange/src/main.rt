@@ -1,5 +1,6 @@
 // Demand 2 and T-11 from text: a card and a reader that speak to each other over a channel without errors, or one that loses and damages frames.
 // One answer for each line.
+#![tactic(auto)]
 mod answers;
 mod exchanges;
 mod lines;

@@ -1,4 +1,5 @@
 // Frames, CRC_A, B and levels from text: one answer for each line.
+#![tactic(auto)]
 mod answers;
 
 use bench_talk::{Answer, Talk};

@@ -1,4 +1,5 @@
 // T-01: from energies to a selected card. What the front end makes of the energies, the reader hears; one answer for each line.
+#![tactic(auto)]
 mod answers;
 mod lines;
 

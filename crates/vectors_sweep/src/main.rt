@@ -1,5 +1,6 @@
 // Fields of cards from text, each swept by a line `sweep`, after which the cards are forgotten. A line `row` sweeps them over a lent row, and they
 // are kept.
+#![tactic(auto)]
 use bench_field::{Collected, Way};
 use bench_talk::Talk;
 

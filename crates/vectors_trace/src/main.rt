@@ -1,4 +1,5 @@
 // Logs from text: one verdict for each line.
+#![tactic(auto)]
 use bench_talk::{Answer, Talk};
 use trace::Checked;
 
