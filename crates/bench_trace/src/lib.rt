@@ -5,7 +5,7 @@ mod groups;
 mod names;
 
 use bench_talk::Answer;
-use log::Record;
+use air_log::Record;
 use names::Name;
 
 // The line of a record, the place of the next record, and the frame that was sent last. Where there is no record is_end is true.
@@ -48,7 +48,7 @@ pub fn start() -> Trace {
 
 // The line of the next record.
 pub fn next(log: &[u8], last: Trace) -> Trace {
-    let r = log::record_at(log, last.next);
+    let r = air_log::record_at(log, last.next);
     let f = found(r, log.len());
     let after = last.after;
     let kind = f.kind;
@@ -136,7 +136,7 @@ fn unpack(log: &[u8], start: usize, marks: usize, bits: usize) -> [u8; 8192] {
         if bits <= i {
             return row;
         }
-        row[i] = shown(log::bit_at(log, start, i), log::bit_at(log, marks, i));
+        row[i] = shown(air_log::bit_at(log, start, i), air_log::bit_at(log, marks, i));
     }
     row
 }

@@ -5,7 +5,7 @@ use Rattle.limits.specs.Limits.{most_cards, log_room, list_room}
 use Rattle.refusal.specs.declared.Refusal.TheVariants.{Room}
 use Rattle.rows.specs.Rows.{overlay}
 use Rattle.reader.specs.Reader.{is_new}
-use Rattle.log.specs.Log.{log_bytes, list_bytes}
+use Rattle.air_log.specs.Log.{log_bytes, list_bytes}
 use Rattle.sweep_rules.specs.Run.{Out}
 use Rattle.sweep_rules.specs.Terms.{within}
 use Rattle.sweep.specs.Sweep.{Call}

@@ -22,10 +22,10 @@ use Rattle.reader.specs.ReaderLaws.{selecting, place_lvl, lvl, knows, closing, f
 use Rattle.field.specs.Field.{all_take, heard_from}
 use Rattle.field.specs.HeardLaws.{reads_atqa, length_atqas, length_answer, reads_clean, reads_clash}
 use Rattle.field.specs.Merge.{merge}
-use Rattle.log.specs.Log.{sent_heard}
+use Rattle.air_log.specs.Log.{sent_heard}
 use Rattle.memory.specs.LevelReadLaws.{next_bits}
 use Rattle.memory.specs.Memory.{recall, branch, keeping, hear}
-use Rattle.log.specs.Log.{sent_heard}
+use Rattle.air_log.specs.Log.{sent_heard}
 use Rattle.memory.specs.MemoryLaws.{entering, recalls_atqa, recalls_end, recalls_whole, recalls_collided, recalls_more, recalls_last, recalls_silence}
 use Rattle.sweep_rules.specs.Demand.{halted}
 use Rattle.sweep_rules.specs.Run.{before, ended, follow, run_of, finding}

@@ -5,9 +5,9 @@ use Rattle.limits.specs.Limits.{log_room, list_room}
 use Rattle.rows.specs.Rows.{All}
 use Rattle.uid.specs.Uid.{falling}
 use Rattle.reader.specs.Reader.{turn, blank}
-use Rattle.log.specs.Calls.{tick_size}
-use Rattle.log.specs.Log.{exchange_bytes, log_bytes, list_bytes}
-use Rattle.log.specs.Reading.{sent_in}
+use Rattle.air_log.specs.Calls.{tick_size}
+use Rattle.air_log.specs.Log.{exchange_bytes, log_bytes, list_bytes}
+use Rattle.air_log.specs.Reading.{sent_in}
 use Rattle.sweep_rules.specs.Demand.{idle}
 use Rattle.sweep_rules.specs.Run.{Out, sweep}
 use Rattle.memory_rules.specs.Count.{recall_sum, level_frames, all_shared, collisions}

@@ -2,7 +2,7 @@
 use Rattle.std.specs.Prelude.{◌≡◌, ℕ, List, ◌++◌, take, drop}
 use Rattle.std.proofs.Common.{ap, ◌∙◌}
 use Rattle.rows.specs.Rows.{overlay}
-use Rattle.log.specs.Log.{list_bytes}
+use Rattle.air_log.specs.Log.{list_bytes}
 use Rattle.memory_rules.specs.Promise.{Remembers}
 use Rattle.memory_rules.specs.Run.{recalled}
 use Rattle.sweep.specs.CallLaws.{call_says_law, runs}

@@ -7,8 +7,8 @@ use lib.ListN.{take}
 use native.Mathlib.Omega.{arith}
 use Rattle.limits.specs.Limits.{log_room}
 use Rattle.rows.specs.Rows.{All}
-use Rattle.log.specs.Log.{log_size}
-use Rattle.log.specs.RecordLaws.{log_size_law}
+use Rattle.air_log.specs.Log.{log_size}
+use Rattle.air_log.specs.RecordLaws.{log_size_law}
 use Rattle.sweep_rules.specs.Demand.{Typed, Demand3}
 use Rattle.sweep_rules.specs.Run.{sweep}
 use Rattle.sweep_rules.proofs.Demand3.{demand3}

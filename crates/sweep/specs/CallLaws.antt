@@ -10,8 +10,8 @@ use Rattle.rows.specs.Rows.{All, overlay}
 use Rattle.refusal.specs.Refusal.{declining}
 use Rattle.reader.specs.Calls.{turn_says}
 use Rattle.reader.specs.Reader.{is_new}
-use Rattle.log.specs.Log.{log_bytes, list_bytes}
-use Rattle.log.specs.RecordLaws.{log_size_law}
+use Rattle.air_log.specs.Log.{log_bytes, list_bytes}
+use Rattle.air_log.specs.RecordLaws.{log_size_law}
 use Rattle.limits.specs.Limits.{most_cards, log_room, list_room}
 use Rattle.sweep_rules.specs.Demand.{Typed, Demand3}
 use Rattle.sweep_rules.specs.Run.{Out, sweep}

@@ -2,7 +2,7 @@
 use Rattle.std.specs.Prelude.{◌≡◌, ℕ, ◌≤◌, true, List, length}
 use Rattle.rows.specs.Rows.{All}
 use Rattle.limits.specs.Limits.{log_room, list_room}
-use Rattle.log.specs.Log.{log_size, list_bytes}
+use Rattle.air_log.specs.Log.{log_size, list_bytes}
 use Rattle.sweep_rules.specs.Demand.{Typed}
 use Rattle.sweep_rules.specs.Run.{Out}
 use Rattle.sweep_rules.specs.Terms.{within}

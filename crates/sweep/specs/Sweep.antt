@@ -3,7 +3,7 @@
 use Rattle.std.specs.Prelude.{ℕ, not, cond, ◌||◌, List, ◌++◌, length, take, drop, ltb}
 use Rattle.rows.specs.Rows.{overlay}
 use Rattle.reader.specs.Reader.{is_new}
-use Rattle.log.specs.Log.{log_bytes, list_bytes}
+use Rattle.air_log.specs.Log.{log_bytes, list_bytes}
 use Rattle.limits.specs.Limits.{most_cards, log_room, list_room}
 use Rattle.sweep_rules.specs.Run.{Out, sweep}
 use Rattle.sweep_rules.specs.Terms.{within}

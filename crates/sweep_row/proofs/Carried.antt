@@ -7,8 +7,8 @@ use lib.ListN.{length, take}
 use native.Mathlib.Omega.{arith}
 use Rattle.limits.specs.Limits.{log_room}
 use Rattle.rows.specs.Rows.{All, overlay}
-use Rattle.log.specs.Log.{log_bytes, log_size, list_bytes}
-use Rattle.log.specs.RecordLaws.{log_size_law}
+use Rattle.air_log.specs.Log.{log_bytes, log_size, list_bytes}
+use Rattle.air_log.specs.RecordLaws.{log_size_law}
 use Rattle.sweep_rules.specs.Demand.{Typed}
 use Rattle.sweep_rules.specs.Run.{sweep}
 use Rattle.sweep_rules.specs.Terms.{within}

@@ -7,7 +7,7 @@ use mathlib.Core.List.{List, [], ◌∷◌}
 use lib.ListN.{length}
 use Rattle.rows.specs.Rows.{overlay}
 use Rattle.reader.specs.Reader.{is_new}
-use Rattle.log.specs.Log.{log_bytes, log_size, list_bytes}
+use Rattle.air_log.specs.Log.{log_bytes, log_size, list_bytes}
 use Rattle.limits.specs.Limits.{most_cards, most_frames, log_room, list_room}
 use Rattle.sweep_rules.specs.RunLaws.{run_cards}
 use Rattle.sweep_rules.specs.Terms.{all_fit, apart, within}

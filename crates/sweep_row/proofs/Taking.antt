@@ -23,7 +23,7 @@ use Rattle.reader.specs.declared.Answer.TheVariants.{Sends, Finds, Selects, Fini
 use Rattle.field.specs.Calls.{cards_after}
 use Rattle.field.specs.Field.{all_take, heard_from}
 use Rattle.field.specs.TakeLaws as take-laws
-use Rattle.log.specs.Log.{Exchange, exchange_bytes, exchange_size, log_size, list_bytes, entry_bytes, sent_heard}
+use Rattle.air_log.specs.Log.{Exchange, exchange_bytes, exchange_size, log_size, list_bytes, entry_bytes, sent_heard}
 use Rattle.limits.specs.Limits.{most_cards}
 use Rattle.sweep_steps.specs.Loop.{sweeper, swept_if}
 use Rattle.sweep_steps.specs.RunLaws as run-laws

@@ -9,7 +9,7 @@ use Rattle.reader.specs.Reader.{blank, sends, frame, uid}
 use Rattle.memory.specs.Memory.{Recall, hear_if}
 use Rattle.memory.specs.Stored.{path_of, stored, memory_of}
 use Rattle.field.specs.Merge.{join}
-use Rattle.log.specs.Log.{Exchange, sent_heard, exchange_bytes, exchange_size, log_size, list_bytes}
+use Rattle.air_log.specs.Log.{Exchange, sent_heard, exchange_bytes, exchange_size, log_size, list_bytes}
 use Rattle.sweep_rules.specs.Demand.{Typed}
 use Rattle.limits.specs.Limits.{most_cards, most_frames}
 use Rattle.sweep_rules.specs.Run.{Out}

@@ -7,7 +7,7 @@ use Rattle.std.proofs.lemmas.Bool.{false≢true}
 use Rattle.std.proofs.Math.Dec.{eqb}
 use borrow.Author.Tests.{eq-eqb, ne_eqb}
 use Rattle.rows.specs.Rows.{overlay}
-use Rattle.log.specs.Log.{exchange_bytes, list_bytes}
+use Rattle.air_log.specs.Log.{exchange_bytes, list_bytes}
 use Rattle.sweep_rules.specs.Demand.{Typed}
 use Rattle.sweep_steps.specs.Steps.{found_by}
 use Rattle.card.specs.declared.Card.{Card}

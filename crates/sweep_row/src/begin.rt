@@ -1,7 +1,7 @@
 // What a sweep over a row is before its first frame, and the whole of it where the row is empty.
 ghost use Rattle.std.specs.Prelude.{◌≡◌, [], ◌≤◌, length};
 ghost use Rattle.rows.specs.Rows.{overlay};
-ghost use Rattle.log.specs.Log.{log_bytes, log_size, list_bytes};
+ghost use Rattle.air_log.specs.Log.{log_bytes, log_size, list_bytes};
 ghost use Rattle.sweep_steps.specs.Loop.{swept_if};
 ghost use Rattle.sweep_row.specs.Row.{refused_row, no_path, first_row, end_row};
 

@@ -1,7 +1,7 @@
 // The end of an exchange: every card has taken the reader's frame.
 ghost use Rattle.std.specs.Prelude.{◌≡◌, ◌+◌, ◌*◌, ◌≤◌, ◌<◌, length};
 ghost use Rattle.rows.specs.Rows.{overlay};
-ghost use Rattle.log.specs.Log.{exchange_bytes, exchange_size, list_bytes};
+ghost use Rattle.air_log.specs.Log.{exchange_bytes, exchange_size, list_bytes};
 ghost use Rattle.sweep_steps.specs.Steps.{found_by, tick_bound};
 ghost use Rattle.sweep_row.specs.Row.{goes_on, exchanged_with, finished, Roomy, exchange_with, heard_by, row_tick};
 

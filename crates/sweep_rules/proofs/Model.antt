@@ -23,7 +23,7 @@ use Rattle.reader.specs.ReaderLaws.{selecting, place_lvl, lvl, knows, closing, f
 use Rattle.field.specs.Field.{all_take, heard_from}
 use Rattle.field.specs.HeardLaws.{reads_atqa, length_atqas, length_answer, reads_clean, reads_clash}
 use Rattle.field.specs.Merge.{merge}
-use Rattle.log.specs.Log.{sent_heard}
+use Rattle.air_log.specs.Log.{sent_heard}
 use Rattle.sweep_rules.specs.Demand.{halted}
 use Rattle.sweep_rules.specs.Run.{Out, before, ended, follow, run_of, run, finding}
 use Rattle.sweep_rules.proofs.Abstract.{strips, heard, sort, frames, Apart}

@@ -7,9 +7,9 @@ use Rattle.uid.specs.Order.{above}
 use Rattle.uid.specs.Uid.{uid_bytes, row_of, falling, frame_sum}
 use Rattle.card.specs.Card.{with_state}
 use Rattle.reader.specs.Reader.{turn, blank}
-use Rattle.log.specs.Calls.{tick_size}
-use Rattle.log.specs.Log.{exchange_bytes, log_bytes, list_bytes}
-use Rattle.log.specs.Reading.{sent_in}
+use Rattle.air_log.specs.Calls.{tick_size}
+use Rattle.air_log.specs.Log.{exchange_bytes, log_bytes, list_bytes}
+use Rattle.air_log.specs.Reading.{sent_in}
 use Rattle.sweep_rules.specs.Run.{Out}
 use Rattle.sweep_rules.specs.Terms.{is_idle}
 use Rattle.card.specs.declared.Card.{Card}

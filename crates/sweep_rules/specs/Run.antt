@@ -4,7 +4,7 @@ use Rattle.std.specs.Prelude.{ℕ, zero, suc, true, List, [], ◌∷◌, ◌++�
 use Rattle.uid.specs.Uid.{uid_bytes}
 use Rattle.reader.specs.Reader.{blank, sends, frame, hear}
 use Rattle.field.specs.Field.{all_take, heard_from}
-use Rattle.log.specs.Log.{Exchange, sent_heard}
+use Rattle.air_log.specs.Log.{Exchange, sent_heard}
 use Rattle.limits.specs.Limits.{most_frames}
 use Rattle.card.specs.declared.Card.{Card}
 use Rattle.reader.specs.declared.Reader.{Reader}

@@ -4,7 +4,7 @@ use Rattle.std.proofs.Common.{ap, ◌∙◌}
 use Rattle.std.proofs.lemmas.List.{length-map}
 use Rattle.reader.specs.Reader.{frame, hear}
 use Rattle.field.specs.Field.{all_take, heard_from}
-use Rattle.log.specs.Log.{sent_heard}
+use Rattle.air_log.specs.Log.{sent_heard}
 use Rattle.card.specs.declared.Card.{Card}
 use Rattle.reader.specs.declared.Answer.{Answer}
 use Rattle.reader.specs.declared.Answer.TheVariants.{Sends, Finds, Selects, Finishes, Declines}

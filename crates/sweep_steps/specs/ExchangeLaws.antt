@@ -8,8 +8,8 @@ use Rattle.field.specs.Calls.{together}
 use Rattle.field.specs.Field.{heard_from}
 use Rattle.field.specs.TakeLaws.{front_fits}
 use Rattle.field.specs.declared.within.Together.{Together}
-use Rattle.log.specs.Log.{sent_heard, tick_bytes, exchange_bytes, exchange_size, sent_record, heard_record}
-use Rattle.log.specs.RecordLaws.{exchange_size_law}
+use Rattle.air_log.specs.Log.{sent_heard, tick_bytes, exchange_bytes, exchange_size, sent_record, heard_record}
+use Rattle.air_log.specs.RecordLaws.{exchange_size_law}
 use Rattle.card.specs.declared.Card.{Card}
 use Rattle.reader.specs.declared.Reader.{Reader}
 use Rattle.sweep_steps.specs.Steps.{aired}

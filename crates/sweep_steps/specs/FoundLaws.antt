@@ -6,7 +6,7 @@ use Rattle.rows.specs.RowLaws.{overlay_nil}
 use Rattle.rows.specs.EachLaws.{length_fill}
 use Rattle.uid.specs.Uid.{byte_count, uid_bytes}
 use Rattle.uid.specs.declared.Uid.{Uid}
-use Rattle.log.specs.Log.{list_bytes, entry_bytes}
+use Rattle.air_log.specs.Log.{list_bytes, entry_bytes}
 
 -- the found list grows by the UIDs us: their number, the list afterwards, and the bytes that they take
 abbrev pub Grows : List (List ℕ) → ℕ → List ℕ → ℕ → List ℕ → Type 0

@@ -15,8 +15,8 @@ use Rattle.uid.specs.Uid.{uid_bytes}
 use Rattle.reader.specs.Reader.{frame}
 use Rattle.field.specs.Calls.{cards_after}
 use Rattle.field.specs.Field.{all_take}
-use Rattle.log.specs.Log.{exchange_bytes, log_bytes, exchange_size, log_size, list_bytes, entry_bytes}
-use Rattle.log.specs.RecordLaws.{exchange_size_law, log_size_law, log_size_next}
+use Rattle.air_log.specs.Log.{exchange_bytes, log_bytes, exchange_size, log_size, list_bytes, entry_bytes}
+use Rattle.air_log.specs.RecordLaws.{exchange_size_law, log_size_law, log_size_next}
 use Rattle.limits.specs.Limits.{most_cards}
 use Rattle.sweep_rules.specs.Run.{Out, before, finding, ended, follow}
 use Rattle.card.specs.declared.Card.{Card}

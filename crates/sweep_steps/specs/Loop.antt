@@ -3,7 +3,7 @@ use Rattle.std.specs.Prelude.{ℕ, ◌+◌, Bool, List, [], true, length, take}
 use Rattle.reader.specs.Reader.{blank, sends, frame}
 use Rattle.field.specs.Calls.{cards_after}
 use Rattle.field.specs.Field.{heard_from}
-use Rattle.log.specs.Log.{exchange_size}
+use Rattle.air_log.specs.Log.{exchange_size}
 use Rattle.limits.specs.Limits.{most_frames}
 use Rattle.memory.specs.Memory.{Recall, recall, hear_if}
 use Rattle.memory.specs.Stored.{path_of, memory_of}

@@ -3,7 +3,7 @@ use Rattle.std.specs.Prelude.{◌≡◌, ℕ, ◌+◌, ◌-◌, ◌≤◌, ◌<�
 use Rattle.std.proofs.Math.Path.{refl, ap}
 use Rattle.std.proofs.Common.{subst, ◌∙◌, arith}
 use Rattle.reader.specs.Reader.{sends}
-use Rattle.log.specs.Log.{log_size, list_bytes}
+use Rattle.air_log.specs.Log.{log_size, list_bytes}
 use Rattle.limits.specs.Limits.{most_cards, most_frames}
 use Rattle.memory.specs.Memory.{Recall, recall, hear_if}
 use Rattle.memory.specs.Stored.{path_of, stored, memory_of}

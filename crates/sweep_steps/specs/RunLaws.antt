@@ -12,7 +12,7 @@ use Rattle.rows.specs.Rows.{overlay}
 use Rattle.rows.specs.ListLaws.{both}
 use Rattle.reader.specs.Reader.{frame}
 use Rattle.field.specs.Field.{all_take, heard_from}
-use Rattle.log.specs.Log.{sent_heard, log_bytes, log_size, list_bytes}
+use Rattle.air_log.specs.Log.{sent_heard, log_bytes, log_size, list_bytes}
 use Rattle.limits.specs.Limits.{most_cards, most_frames}
 use Rattle.sweep_rules.specs.Run.{Out, before, ended, Runner, run_of}
 use Rattle.card.specs.declared.Card.{Card}

@@ -5,7 +5,7 @@ use Rattle.uid.specs.Uid.{uid_bytes}
 use Rattle.reader.specs.Reader.{frame}
 use Rattle.field.specs.Calls.{cards_after}
 use Rattle.field.specs.Field.{heard_from}
-use Rattle.log.specs.Log.{Exchange, sent_heard, exchange_bytes, exchange_size, log_size, list_bytes}
+use Rattle.air_log.specs.Log.{Exchange, sent_heard, exchange_bytes, exchange_size, log_size, list_bytes}
 use Rattle.limits.specs.Limits.{most_cards, most_frames}
 use Rattle.sweep_rules.specs.Run.{Out}
 use Rattle.card.specs.declared.Card.{Card}

@@ -1,8 +1,8 @@
 // The sweep's loop: an exchange is a reader frame and what is heard after it. Called by our own crates only, which lend the room.
 ghost use Rattle.std.specs.Prelude.{◌≡◌, true, ◌+◌, ◌*◌, ◌≤◌, ◌<◌, length, take};
 ghost use Rattle.rows.specs.Rows.{All, overlay, clean};
-ghost use Rattle.log.specs.Log.{sent_heard, exchange_bytes, exchange_size, log_bytes, log_size, list_bytes};
-ghost use Rattle.log.specs.Calls.{most_bits};
+ghost use Rattle.air_log.specs.Log.{sent_heard, exchange_bytes, exchange_size, log_bytes, log_size, list_bytes};
+ghost use Rattle.air_log.specs.Calls.{most_bits};
 ghost use Rattle.limits.specs.Limits.{most_cards};
 ghost use Rattle.sweep_rules.specs.Terms.{within};
 ghost use Rattle.sweep_rules.specs.Demand.{Typed};
@@ -57,8 +57,8 @@ pub fn put_exchange(log: &mut [u8], at: usize, tick: usize, frame: &[u8], heard:
     ensures value { result ≡ exchange_size (sent_heard frame.now heard.now) }
     ensures log_after { log.new ≡ overlay log.old at (exchange_bytes tick (sent_heard frame.now heard.now)) }
 {
-    let first = log::within::put_sent(log, at, tick, frame);
-    let second = log::within::put_heard(log, at + first, tick + 1, heard);
+    let first = air_log::within::put_sent(log, at, tick, frame);
+    let second = air_log::within::put_heard(log, at + first, tick + 1, heard);
     first + second
 }
 
@@ -131,7 +131,7 @@ pub fn put_found(t: Turn, list: &mut [u8], at: usize) -> usize
     match a {
         Answer::Sends(_) => 0,
         Answer::Finds(_) => {
-            log::within::put_entry(list, at, u);
+            air_log::within::put_entry(list, at, u);
             1
         }
         Answer::Selects => 0,

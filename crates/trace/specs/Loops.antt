@@ -4,7 +4,7 @@ use Rattle.limits.specs.Limits.{most_frames}
 use Rattle.reader.specs.Reader.{frame, hear}
 use Rattle.field.specs.Field.{heard_from}
 use Rattle.field.specs.Calls.{cards_after}
-use Rattle.log.specs.Log.{sent_heard}
+use Rattle.air_log.specs.Log.{sent_heard}
 use Rattle.sweep_steps.specs.Steps.{goes}
 use Rattle.trace_rules.specs.Trace.{checked, follow}
 use Rattle.trace_rules.specs.Check.{compared, compared_then}

@@ -4,10 +4,10 @@ use Rattle.std.proofs.Common.{sym, ap, ap₂, ◌∙◌, not-suc-le-zero, zero-a
 use Rattle.std.specs.Int.{w8}
 use Rattle.rows.specs.Rows.{overlay}
 use Rattle.rows.specs.RowLaws.{overlay_copy}
-use Rattle.log.specs.Calls.{most_bits, row_size}
-use Rattle.log.specs.Reading.{bits_from, row_at, bit_count, record_at}
-use Rattle.log.specs.UnpackLaws.{bits_enough}
-use Rattle.log.specs.declared.Record.TheVariants.{Sent, Clean, Collided}
+use Rattle.air_log.specs.Calls.{most_bits, row_size}
+use Rattle.air_log.specs.Reading.{bits_from, row_at, bit_count, record_at}
+use Rattle.air_log.specs.UnpackLaws.{bits_enough}
+use Rattle.air_log.specs.declared.Record.TheVariants.{Sent, Clean, Collided}
 use Rattle.trace_rules.specs.Trace.{stamp_size, marked}
 use Rattle.trace_rules.specs.WholeLaws.{OneRow, TwoRows, Headed, whole}
 

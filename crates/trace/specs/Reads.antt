@@ -1,6 +1,6 @@
 -- What a function of the trace checker gives of a record (T-12). What a record is due for is told in crate trace_rules.
 use Rattle.std.specs.Prelude.{List, ℕ, length}
-use Rattle.log.specs.declared.Record.{Record}
+use Rattle.air_log.specs.declared.Record.{Record}
 use Rattle.trace_rules.specs.Trace.{heard_row, heard_passed}
 use Rattle.trace_rules.specs.declared.Passed.{Passed}
 use Rattle.trace.specs.declared.reading.Heard.{Heard}

@@ -12,7 +12,7 @@ use Rattle.limits.specs.Limits.{most_frames}
 use Rattle.reader.specs.Reader.{blank, sends, frame, hear}
 use Rattle.field.specs.Field.{all_take, heard_from}
 use Rattle.field.specs.Calls.{cards_after}
-use Rattle.log.specs.Log.{Exchange, sent_heard}
+use Rattle.air_log.specs.Log.{Exchange, sent_heard}
 use Rattle.sweep_rules.specs.Run.{Out, before, ended, plain, run, sweep}
 use Rattle.sweep_steps.specs.Steps.{goes, found_by, exchange_of}
 use Rattle.sweep_steps.specs.LeftLaws.{onward_goes, with_found, take_after}

@@ -4,9 +4,9 @@ use Rattle.std.proofs.Common.{sym, ap, ◌∙◌, arith, leb-false, ltb-false}
 use Rattle.std.proofs.lemmas.Bool.{false≢true}
 use Rattle.limits.specs.Limits.{most_cards}
 use Rattle.reader.specs.Reader.{frame, hear}
-use Rattle.log.specs.Reading.{record_at}
+use Rattle.air_log.specs.Reading.{record_at}
 use Rattle.trace_rules.specs.Trace.{heard_row, sent_passed, heard_passed, goes, content, faults, onward, with_card, is_listed, cards_in, lists, ends, answered, turned, heard_then, sent_then, step, start, follow, walk}
-use Rattle.log.specs.declared.Record.{Record}
+use Rattle.air_log.specs.declared.Record.{Record}
 use Rattle.reader.specs.declared.Answer.{Answer}
 use Rattle.reader.specs.declared.Answer.TheVariants.{Sends, Finds, Selects, Finishes, Declines}
 use Rattle.reader.specs.declared.Reader.{Reader}

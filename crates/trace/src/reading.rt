@@ -1,12 +1,12 @@
 // The records of a log, against what is due there. Some functions have a condition, and their callers' proofs show that they meet it.
 ghost use Rattle.std.specs.Prelude.{◌≡◌, cond, ◌≤◌, length, eqb};
 ghost use Rattle.rows.specs.Rows.{overlay, same};
-ghost use Rattle.log.specs.Calls.{most_bits};
-ghost use Rattle.log.specs.Reading.{bits_from, row_at, record_at};
+ghost use Rattle.air_log.specs.Calls.{most_bits};
+ghost use Rattle.air_log.specs.Reading.{bits_from, row_at, record_at};
 ghost use Rattle.trace_rules.specs.Trace.{marked, heard_row, sent_passed};
 ghost use Rattle.trace.specs.Reads.{heard_bits, heard_of};
 
-use log::Record;
+use air_log::Record;
 use refusal::Refusal;
 use trace_rules::Passed;
 
@@ -26,7 +26,7 @@ fn put_bits(log: &[u8], start: usize, n: usize, out: &mut [u8])
     ensures { out.new ≡ overlay out.old 0 (row_at log.now start n) }
 {
     for i in 0..n {
-        out[i] = log::bit_at(log, start, i);
+        out[i] = air_log::bit_at(log, start, i);
     }
 }
 
@@ -46,7 +46,7 @@ fn put_marked(log: &[u8], start: usize, marks: usize, n: usize, out: &mut [u8])
     ensures { out.new ≡ overlay out.old 0 (marked (row_at log.now start n) (row_at log.now marks n)) }
 {
     for i in 0..n {
-        out[i] = heard_bit(log::bit_at(log, start, i), log::bit_at(log, marks, i));
+        out[i] = heard_bit(air_log::bit_at(log, start, i), air_log::bit_at(log, marks, i));
     }
 }
 

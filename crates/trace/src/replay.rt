@@ -2,8 +2,8 @@
 // they meet it.
 ghost use Rattle.std.specs.Prelude.{◌≡◌, ◌≤◌, ◌<◌, ◌^◌, take};
 ghost use Rattle.limits.specs.Limits.{most_cards};
-ghost use Rattle.log.specs.Log.{sent_heard};
-ghost use Rattle.log.specs.Reading.{record_at};
+ghost use Rattle.air_log.specs.Log.{sent_heard};
+ghost use Rattle.air_log.specs.Reading.{record_at};
 ghost use Rattle.sweep_rules.specs.Run.{sweep};
 ghost use Rattle.trace_rules.specs.Check.{heard_as, heard_compared, compared, differs};
 ghost use Rattle.trace.specs.Loops.{played, next_place, is_same, plays_on, finish};

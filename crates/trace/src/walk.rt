@@ -1,7 +1,7 @@
 // A log record by record, against the reader's rules. Some functions have a condition, and their callers' proofs show that they meet it.
 ghost use Rattle.std.specs.Prelude.{◌≡◌, suc, ◌≤◌, ◌<◌, ◌^◌, length, take};
 ghost use Rattle.limits.specs.Limits.{most_cards, log_room};
-ghost use Rattle.log.specs.Reading.{record_at};
+ghost use Rattle.air_log.specs.Reading.{record_at};
 ghost use Rattle.trace_rules.specs.Trace.{no_card, start, goes, faults, onward, listed, with_card, is_listed, lists, ends, turned, heard_then, heard_passed, step, checked, walk};
 ghost use Rattle.trace.specs.Loops.{goes_on, last_of};
 

@@ -3,9 +3,9 @@
 // the trace checker calls.
 #![tactic(auto)]
 ghost use Rattle.std.specs.Prelude.{◌≡◌};
-ghost use Rattle.log.specs.Reading.{record_at};
+ghost use Rattle.air_log.specs.Reading.{record_at};
 
-use log::Record;
+use air_log::Record;
 
 // A log, and a place in it.
 #[derive(Drop)]
@@ -25,7 +25,7 @@ pub fn start_at<'a>(log: &'a [u8], at: usize) -> Trace<'a>
 fn record_at(log: &[u8], at: usize, stamp: usize) -> Record
     ensures { result ≡ record_at stamp log.now at }
 {
-    log::record_in(log, stamp, at)
+    air_log::record_in(log, stamp, at)
 }
 
 // The record at the place that a trace reader has come to.

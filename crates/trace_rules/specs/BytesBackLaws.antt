@@ -11,11 +11,11 @@ use Rattle.std.proofs.Math.ListN.{length, take, drop, get_or, length-drop, take-
 use Rattle.std.proofs.Math.Seq.{length-take-le}
 use Rattle.rows.specs.Rows.{Bits, Bytes, clean}
 use Rattle.rows.specs.CleanLaws.{bits_clean, bit_two}
-use Rattle.log.specs.Log.{packed, pack, header, plain, marks, sent_record, heard_record}
-use Rattle.log.specs.Calls.{row_size}
-use Rattle.log.specs.Reading.{row_at, fill_at, bits_from, zeros, apart, kind_of, zero_bit, bit_count}
-use Rattle.log.specs.RecordLaws.{plain_clean, heard_clean, heard_collided}
-use Rattle.log.specs.UnpackLaws.{bits_enough}
+use Rattle.air_log.specs.Log.{packed, pack, header, plain, marks, sent_record, heard_record}
+use Rattle.air_log.specs.Calls.{row_size}
+use Rattle.air_log.specs.Reading.{row_at, fill_at, bits_from, zeros, apart, kind_of, zero_bit, bit_count}
+use Rattle.air_log.specs.RecordLaws.{plain_clean, heard_clean, heard_collided}
+use Rattle.air_log.specs.UnpackLaws.{bits_enough}
 use Rattle.trace_rules.specs.Trace.{marked}
 use Rattle.trace_rules.specs.PackBackLaws.{row_bits_law, row_packed}
 use Rattle.trace_rules.specs.WholeLaws.{OneRow, TwoRows, NoRow}

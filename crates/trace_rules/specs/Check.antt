@@ -6,10 +6,10 @@ use Rattle.rows.specs.Rows.{same, is_nil}
 use Rattle.limits.specs.Limits.{log_room}
 use Rattle.refusal.specs.Refusal.{Said, giving, number_of, place_of}
 use Rattle.uid.specs.Uid.{uid_bytes}
-use Rattle.log.specs.Log.{Exchange}
-use Rattle.log.specs.Reading.{record_at}
+use Rattle.air_log.specs.Log.{Exchange}
+use Rattle.air_log.specs.Reading.{record_at}
 use Rattle.sweep_rules.specs.Run.{sweep}
-use Rattle.log.specs.declared.Record.{Record}
+use Rattle.air_log.specs.declared.Record.{Record}
 use Rattle.card.specs.declared.Card.{Card}
 use Rattle.refusal.specs.declared.Refusal.{Refusal}
 use Rattle.refusal.specs.declared.Refusal.TheVariants.{Room, Argument, Forbidden}

@@ -9,10 +9,10 @@ use Rattle.std.proofs.Math.Dec.{leb}
 use Rattle.std.proofs.Math.ListN.{drop, drop_of_length-le}
 use Rattle.rows.specs.Rows.{Bytes, same}
 use Rattle.rows.specs.ListLaws.{same_sound}
-use Rattle.log.specs.Log.{Exchange, sent_record, heard_record}
-use Rattle.log.specs.Reading.{row_at, record_at}
-use Rattle.log.specs.declared.Record.{Record}
-use Rattle.log.specs.declared.Record.TheVariants.{Sent, Clean as Plain, Collided, Silence, End, Cut, Malformed}
+use Rattle.air_log.specs.Log.{Exchange, sent_record, heard_record}
+use Rattle.air_log.specs.Reading.{row_at, record_at}
+use Rattle.air_log.specs.declared.Record.{Record}
+use Rattle.air_log.specs.declared.Record.TheVariants.{Sent, Clean as Plain, Collided, Silence, End, Cut, Malformed}
 use Rattle.refusal.specs.declared.Refusal.TheVariants.{Forbidden}
 use Rattle.trace_rules.specs.Trace.{heard_row, sent_passed, heard_passed}
 use Rattle.trace_rules.specs.Check.{heard_as, heard_compared, sent_compared, compared, compared_then, differs}

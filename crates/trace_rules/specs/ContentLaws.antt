@@ -12,7 +12,7 @@ use Rattle.limits.specs.Limits.{most_cards}
 use Rattle.uid.specs.Uid.{uid_bytes}
 use Rattle.reader.specs.Reader.{blank, turn, frame, hear}
 use Rattle.field.specs.Field.{all_take, heard_from}
-use Rattle.log.specs.Log.{Exchange, sent_heard}
+use Rattle.air_log.specs.Log.{Exchange, sent_heard}
 use Rattle.sweep_rules.specs.Demand.{Distinct}
 use Rattle.sweep_rules.specs.Run.{Out, before, finding, ended, follow, run_of, run}
 use Rattle.card.specs.declared.Card.{Card}

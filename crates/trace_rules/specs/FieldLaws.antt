@@ -9,10 +9,10 @@ use Rattle.uid.specs.Uid.{uid_bytes, valid}
 use Rattle.reader.specs.Calls.{Completed}
 use Rattle.reader.specs.Reader.{frame, hear}
 use Rattle.reader.specs.SakLevelLaws.{completed_valid}
-use Rattle.log.specs.Reading.{record_at}
+use Rattle.air_log.specs.Reading.{record_at}
 use Rattle.sweep_rules.specs.Terms.{is_idle, card_fits, all_fit, apart, within}
 use Rattle.card.specs.declared.Card.{Card}
-use Rattle.log.specs.declared.Record.{Record}
+use Rattle.air_log.specs.declared.Record.{Record}
 use Rattle.reader.specs.declared.Answer.{Answer}
 use Rattle.reader.specs.declared.Answer.TheVariants.{Sends, Finds, Selects, Finishes, Declines}
 use Rattle.reader.specs.declared.Reader.{Reader}

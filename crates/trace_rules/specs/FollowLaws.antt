@@ -4,11 +4,11 @@ use Rattle.std.proofs.Common.{sym, ap, ◌∙◌, arith, drop-drop, drop_at}
 use Rattle.rows.specs.ListLaws.{same_refl}
 use Rattle.rows.specs.Rows.{Bits, clean}
 use Rattle.reader.specs.Reader.{frame, hear}
-use Rattle.log.specs.Calls.{most_bits, row_size}
-use Rattle.log.specs.Log.{Exchange, sent_record, heard_record}
-use Rattle.log.specs.Reading.{record_at}
-use Rattle.log.specs.ReadBackLaws.{sent_back, silence_back, clean_back, collided_back}
-use Rattle.log.specs.RecordLaws.{length_sent, length_heard_silent, length_heard_clean, length_heard_collided}
+use Rattle.air_log.specs.Calls.{most_bits, row_size}
+use Rattle.air_log.specs.Log.{Exchange, sent_record, heard_record}
+use Rattle.air_log.specs.Reading.{record_at}
+use Rattle.air_log.specs.ReadBackLaws.{sent_back, silence_back, clean_back, collided_back}
+use Rattle.air_log.specs.RecordLaws.{length_sent, length_heard_silent, length_heard_clean, length_heard_collided}
 use Rattle.trace_rules.specs.Trace.{heard_row, sent_passed, heard_passed, turned, step}
 use Rattle.trace_rules.specs.Check.{compared}
 use Rattle.trace_rules.specs.HeardLaws.{Three, marked_back}

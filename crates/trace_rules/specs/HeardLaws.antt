@@ -11,7 +11,7 @@ use Rattle.selection.specs.Selection.{cut, reqa, wupa, hlta, select, others, sak
 use Rattle.card.specs.Card.{Step, bits_sent, fsdi, sak, home, ready_in, chosen, matching, rules, ready, ready_at, active, answers}
 use Rattle.field.specs.Field.{heard_from}
 use Rattle.field.specs.Merge.{meet, join, merge}
-use Rattle.log.specs.Log.{plain, marks}
+use Rattle.air_log.specs.Log.{plain, marks}
 use Rattle.card.specs.declared.Card.{Card}
 use Rattle.card.specs.declared.CardState.{CardState}
 use Rattle.card.specs.declared.CardState.TheVariants.{Off, Idle, Ready, Active, Halt, ReadyStar, ActiveStar, Protocol}

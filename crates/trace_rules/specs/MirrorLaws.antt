@@ -20,7 +20,7 @@ use Rattle.card.specs.StateLaws.{halt_reqa}
 use Rattle.reader.specs.Reader.{frame_in, frame, hear}
 use Rattle.field.specs.Field.{all_take, heard_from}
 use Rattle.field.specs.Merge.{meet, join, merge}
-use Rattle.log.specs.Log.{sent_heard}
+use Rattle.air_log.specs.Log.{sent_heard}
 use Rattle.sweep_rules.specs.Run.{Out, before, finding, ended, follow, run_of, run}
 use Rattle.card.specs.declared.Card.{Card}
 use Rattle.card.specs.declared.CardState.{CardState}

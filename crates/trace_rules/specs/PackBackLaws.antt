@@ -10,12 +10,12 @@ use Rattle.std.proofs.lemmas.List.{take-append-le, drop-append-le}
 use Rattle.std.proofs.Math.Seq.{length-take-le}
 use Rattle.rows.specs.Rows.{Bits, Bytes, fill}
 use Rattle.rows.specs.ListLaws.{all_take_law, all_drop, all_append}
-use Rattle.log.specs.Log.{from_top, packed}
-use Rattle.log.specs.Calls.{row_size}
-use Rattle.log.specs.Reading.{top_bits, unpacked, bits_from, row_at, fill_at, zeros}
-use Rattle.log.specs.PackLaws.{top_next, top_lt, length_packed}
-use Rattle.log.specs.UnpackLaws.{length_top, length_unpacked}
-use Rattle.log.specs.BitBackLaws.{unpack_back, unpacked_append}
+use Rattle.air_log.specs.Log.{from_top, packed}
+use Rattle.air_log.specs.Calls.{row_size}
+use Rattle.air_log.specs.Reading.{top_bits, unpacked, bits_from, row_at, fill_at, zeros}
+use Rattle.air_log.specs.PackLaws.{top_next, top_lt, length_packed}
+use Rattle.air_log.specs.UnpackLaws.{length_top, length_unpacked}
+use Rattle.air_log.specs.BitBackLaws.{unpack_back, unpacked_append}
 
 -- ---- one byte
 

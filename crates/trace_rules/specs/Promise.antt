@@ -4,7 +4,7 @@
 use Rattle.std.specs.Prelude.{◌≡◌, ℕ, ◌≤◌, true, List, [], ◌∷◌, ◌++◌, map, length}
 use Rattle.rows.specs.Rows.{All}
 use Rattle.uid.specs.Uid.{uid_bytes}
-use Rattle.log.specs.Log.{Exchange, sent_record, heard_record}
+use Rattle.air_log.specs.Log.{Exchange, sent_record, heard_record}
 use Rattle.sweep_rules.specs.Demand.{Typed}
 use Rattle.sweep_rules.specs.Run.{sweep}
 use Rattle.sweep_rules.specs.Terms.{is_idle, within}

@@ -5,9 +5,9 @@ use Rattle.rows.specs.Rows.{All, clean}
 use Rattle.reader.specs.FrameLaws.{frame_bits}
 use Rattle.reader.specs.Reader.{frame, hear}
 use Rattle.field.specs.Field.{all_take, heard_from}
-use Rattle.log.specs.Calls.{row_size}
-use Rattle.log.specs.Log.{Exchange, sent_heard, tick_bytes, sent_record, heard_record, exchange_bytes}
-use Rattle.log.specs.RecordLaws.{length_sent, length_heard_clean, length_heard_collided}
+use Rattle.air_log.specs.Calls.{row_size}
+use Rattle.air_log.specs.Log.{Exchange, sent_heard, tick_bytes, sent_record, heard_record, exchange_bytes}
+use Rattle.air_log.specs.RecordLaws.{length_sent, length_heard_clean, length_heard_collided}
 use Rattle.sweep_rules.specs.Run.{before, finding, ended, follow, run_of, run}
 use Rattle.card.specs.declared.Card.{Card}
 use Rattle.reader.specs.declared.Answer.{Answer}

@@ -16,9 +16,9 @@ use Rattle.uid.specs.Uid.{byte_count, uid_bytes, level, levels_of, levels, air, 
 use Rattle.uid.specs.UidLaws.{name, name_row}
 use Rattle.reader.specs.Reader.{blank, sends, frame, hear}
 use Rattle.field.specs.Field.{all_take, heard_from}
-use Rattle.log.specs.Calls.{tick_size}
-use Rattle.log.specs.Log.{Exchange, tick_bytes, sent_record, heard_record, exchange_bytes, log_bytes}
-use Rattle.log.specs.RecordLaws.{length_sent, length_heard_clean, length_heard_collided, length_tick}
+use Rattle.air_log.specs.Calls.{tick_size}
+use Rattle.air_log.specs.Log.{Exchange, tick_bytes, sent_record, heard_record, exchange_bytes, log_bytes}
+use Rattle.air_log.specs.RecordLaws.{length_sent, length_heard_clean, length_heard_collided, length_tick}
 use Rattle.sweep_rules.specs.Demand.{Typed, idle, Demand3}
 use Rattle.sweep_rules.specs.Run.{before, finding, ended, follow, run_of, run, sweep}
 use Rattle.sweep_rules.specs.Terms.{is_idle, is_halt, card_fits, all_fit, apart, within}

@@ -7,10 +7,10 @@ use Rattle.rows.specs.Rows.{any, same}
 use Rattle.limits.specs.Limits.{most_cards}
 use Rattle.uid.specs.Uid.{uid_bytes}
 use Rattle.reader.specs.Reader.{uid, blank, frame, hear}
-use Rattle.log.specs.Calls.{tick_size}
-use Rattle.log.specs.Reading.{row_at, record_at}
-use Rattle.log.specs.declared.Record.{Record}
-use Rattle.log.specs.declared.Record.TheVariants.{Sent, Clean, Collided, Silence, End, Cut, Malformed}
+use Rattle.air_log.specs.Calls.{tick_size}
+use Rattle.air_log.specs.Reading.{row_at, record_at}
+use Rattle.air_log.specs.declared.Record.{Record}
+use Rattle.air_log.specs.declared.Record.TheVariants.{Sent, Clean, Collided, Silence, End, Cut, Malformed}
 use Rattle.card.specs.declared.Card.{Card}
 use Rattle.card.specs.declared.CardState.TheVariants.{Idle, Off}
 use Rattle.reader.specs.declared.Phase.TheVariants.{ReqaSent}

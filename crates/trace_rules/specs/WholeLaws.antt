@@ -7,10 +7,10 @@ use Rattle.std.proofs.Math.Bool.{true, false, cond}
 use Rattle.std.proofs.lemmas.Bool.{false≢true}
 use Rattle.std.proofs.Math.Dec.{eqb, eqb→eq}
 use borrow.Author.Tests.{ltb-false, eqb-false}
-use Rattle.log.specs.Calls.{row_size}
-use Rattle.log.specs.Reading.{row_at, fill_at, zeros, apart, good_row, good_marks, rows_size, collided_of, record_of, kind_of, zero_bit, bit_count, after_header, record_at}
-use Rattle.log.specs.declared.Record.{Record}
-use Rattle.log.specs.declared.Record.TheVariants.{Sent, Clean, Collided, Silence, End, Cut, Malformed}
+use Rattle.air_log.specs.Calls.{row_size}
+use Rattle.air_log.specs.Reading.{row_at, fill_at, zeros, apart, good_row, good_marks, rows_size, collided_of, record_of, kind_of, zero_bit, bit_count, after_header, record_at}
+use Rattle.air_log.specs.declared.Record.{Record}
+use Rattle.air_log.specs.declared.Record.TheVariants.{Sent, Clean, Collided, Silence, End, Cut, Malformed}
 
 -- ---- a record of a kind k with n bits, behind whose header the rows start at a place
 

@@ -4,8 +4,8 @@ use Rattle.std.specs.Prelude.{◌≡◌, refl, ℕ, ◌+◌, Bool, true, false, 
 use Rattle.std.proofs.Common.{append_assoc, arith}
 use Rattle.rows.specs.Rows.{All, any, same}
 use Rattle.uid.specs.Uid.{valid, uid_bytes}
-use Rattle.log.specs.Log.{Exchange, tick_bytes, sent_record, heard_record, exchange_bytes, log_bytes}
-use Rattle.log.specs.RecordLaws.{length_tick}
+use Rattle.air_log.specs.Log.{Exchange, tick_bytes, sent_record, heard_record, exchange_bytes, log_bytes}
+use Rattle.air_log.specs.RecordLaws.{length_tick}
 use Rattle.sweep_rules.specs.Demand.{Typed}
 use Rattle.sweep_rules.specs.Run.{sweep}
 use Rattle.sweep_rules.specs.Terms.{card_fits, all_fit, apart, within}

@@ -25,7 +25,7 @@ use Rattle.reader.specs.ReaderLaws.{lvl, place_lvl}
 use Rattle.field.specs.Field.{all_take, heard_from}
 use Rattle.field.specs.HeardLaws.{reads_atqa}
 use Rattle.field.specs.Merge.{merge}
-use Rattle.log.specs.Log.{sent_heard}
+use Rattle.air_log.specs.Log.{sent_heard}
 use Rattle.sweep_rules.specs.Demand.{Typed}
 use Rattle.sweep_rules.specs.Run.{Out, before, ended, follow, run_of, run}
 use Rattle.limits.specs.Limits.{most_cards}

@@ -42,13 +42,13 @@ use denote.Triple.Table.{entered, cited}
 use denote.Triple.Walked.{says, Stays, stay_none, walk_of, Goes-none, Walks, ends_at, walked, walk_Meets}
 use denote.Exit.{yes}
 use denote.Triple.Clauses.{ensured, lasts}
-use Rattle.log.specs.Reading.{record_at}
+use Rattle.air_log.specs.Reading.{record_at}
 use Rattle.trace_reader.specs.declared.Trace.{Trace}
-use Rattle.log.specs.declared.Record.{Record}
+use Rattle.air_log.specs.declared.Record.{Record}
 use Rattle.trace_reader.specs.contracts.Trace as T
 use Rattle.trace_reader.proofs.Trace.TheLaws as T'
-use Rattle.log.specs.contracts.Record as S
-use Rattle.log.proofs.Record.TheLaws as S'
+use Rattle.air_log.specs.contracts.Record as S
+use Rattle.air_log.proofs.Record.TheLaws as S'
 use Rattle.trace_reader.specs.contracts.record_at as step
 use Rattle.trace_reader.proofs.record_at.Symbol as step-def
 use Rattle.trace_reader.proofs.record_at.Symbol.{name as #trace-reader·record-at}

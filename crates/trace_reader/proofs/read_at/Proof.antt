@@ -38,13 +38,13 @@ use denote.Triple.Table.{entered, cited}
 use denote.Triple.Walked.{says, Stays, stay_none, stay_none_slice, walk_of, Goes-none, Goes-none_slice, Walks, ends_at, walked, walk_Meets}
 use denote.Exit.{yes}
 use denote.Triple.Clauses.{ensured, lasts}
-use Rattle.log.specs.Reading.{record_at}
+use Rattle.air_log.specs.Reading.{record_at}
 use Rattle.trace_reader.specs.declared.Trace.{Trace}
-use Rattle.log.specs.declared.Record.{Record}
+use Rattle.air_log.specs.declared.Record.{Record}
 use Rattle.trace_reader.specs.contracts.Trace as T
 use Rattle.trace_reader.proofs.Trace.TheLaws as T'
-use Rattle.log.specs.contracts.Record as S
-use Rattle.log.proofs.Record.TheLaws as S'
+use Rattle.air_log.specs.contracts.Record as S
+use Rattle.air_log.proofs.Record.TheLaws as S'
 use Rattle.trace_reader.specs.contracts.start_at as new
 use Rattle.trace_reader.proofs.start_at.Symbol as new-def
 use Rattle.trace_reader.proofs.start_at.Symbol.{name as #trace-reader·start-at}

@@ -5,7 +5,7 @@ use Rattle.rows.specs.Rows.{overlay}
 use Rattle.reader.specs.Reader.{frame}
 use Rattle.field.specs.Calls.{cards_after}
 use Rattle.field.specs.Field.{heard_from}
-use Rattle.log.specs.Log.{exchange_size}
+use Rattle.air_log.specs.Log.{exchange_size}
 use Rattle.sweep_steps.specs.ExchangeLaws.{Front, front_of_law, heard_front}
 use Rattle.rows.specs.CleanLaws.{bits_clean}
 use Rattle.reader.specs.FrameLaws.{frame_bits}

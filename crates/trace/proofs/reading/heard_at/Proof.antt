@@ -1,7 +1,7 @@
 use mathlib.Core.Path.{◌≡◌, sym, ap, ◌∙◌}
 use native.Mathlib.Omega.{arith}
 use Rattle.rows.specs.RowLaws.{overlay_nil}
-use Rattle.log.specs.Reading.{row_at}
+use Rattle.air_log.specs.Reading.{row_at}
 use Rattle.trace_rules.specs.declared.Passed.TheVariants.{Behind}
 use Rattle.trace.specs.Reads.{heard_bits}
 use Rattle.trace.specs.ReadLaws.{clean_held, collided_held, length_row, length_marked}

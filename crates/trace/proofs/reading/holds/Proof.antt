@@ -1,6 +1,6 @@
 use lib.ListN.{length-take}
 use Rattle.rows.specs.Rows.{same}
-use Rattle.log.specs.Reading.{row_at}
+use Rattle.air_log.specs.Reading.{row_at}
 use Rattle.sweep_steps.specs.ExchangeLaws.{front_of_law}
 use Rattle.trace.specs.ReadLaws.{length_row}
 use mathlib.Core.Path.{◌∙◌, sym, ap}

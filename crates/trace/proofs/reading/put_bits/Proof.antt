@@ -7,7 +7,7 @@ use lib.ListN.{length, take, length-set}
 use Rattle.rows.specs.Rows.{overlay}
 use Rattle.rows.specs.RowLaws.{overlay_nil}
 use Rattle.trace.specs.ReadLaws.{row_turn}
-use Rattle.log.specs.Reading.{bits_from}
+use Rattle.air_log.specs.Reading.{bits_from}
 use Rattle.trace.proofs.reading.put_bits.Statement.{statement}
 use Rattle.trace.proofs.reading.put_bits.Tie as tie
 

@@ -1,0 +1,18 @@
+-- `air_log::reading::byte_at` meets its contract. Assumes nothing.
+use borrow.Author.Rules.{rules}
+use mathlib.Core.Path.{sym}
+use lib.ListN.{get_or-eq_default}
+use Rattle.air_log.proofs.reading.byte_at.Statement.{statement}
+use Rattle.air_log.proofs.reading.byte_at.Tie as tie
+
+shared-slice-read-result : tie.Need-shared-slice-read-result
+shared-slice-read-result c = search rules
+
+returns : tie.Need-returns
+returns c = search rules
+
+returns-2 : tie.Need-returns-2
+returns-2 c = let a = c.before.args in sym (get_or-eq_default a.log.now 0 c.if1.false)
+
+pub byte_at_spec : {M : Type 1} → statement M
+byte_at_spec = tie.close (tie.spec shared-slice-read-result returns returns-2)
