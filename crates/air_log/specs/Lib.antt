@@ -1,12 +1,7 @@
 pub mod Log
 pub mod Calls
 pub mod Reading
-pub mod LogTable
 pub mod PackLaws
-pub mod RecordLaws
 pub mod EntryLaws
 pub mod UnpackLaws
 pub mod BitBackLaws
-pub mod ReadBackLaws
-pub mod OneRecordLaws
-pub mod CountLaws

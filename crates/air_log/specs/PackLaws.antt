@@ -5,7 +5,7 @@ use Rattle.std.proofs.Math.Nat.{pow-succ'}
 use Rattle.std.proofs.lemmas.List.{length-map}
 use Rattle.std.proofs.Math.ListN.{get_or-map}
 use Rattle.rows.specs.Rows.{overlay, Bits}
-use Rattle.rows.specs.RowLaws.{overlay_set}
+use Rattle.rows.proofs.RowLaws.{overlay_set}
 use Rattle.rows.specs.ListLaws.{all_take_law, all_drop}
 use Rattle.air_log.specs.Log.{from_top, packed, plain, marks}
 use Rattle.air_log.specs.Calls.{shown, shown_bit}

@@ -3,7 +3,7 @@ use Rattle.std.specs.Prelude.{◌≡◌, refl, ◌≢◌, ℕ, ◌+◌, ◌-◌,
 use Rattle.std.proofs.Common.{sym, ap, ◌∙◌, arith, length-drop, take_all, eqb-true, leb-true}
 use Rattle.rows.specs.ListLaws.{both, is_nil_law}
 use Rattle.rows.specs.Rows.{is_nil, overlay}
-use Rattle.rows.specs.RowLaws.{overlay_all}
+use Rattle.rows.proofs.RowLaws.{overlay_all}
 use Rattle.frame.specs.Frame.{bytes_of}
 use Rattle.frame.specs.ByteLaws.{length_bytes}
 use Rattle.answer_v.specs.Heard.{fitting, is_length}

@@ -3,7 +3,7 @@ use Rattle.std.specs.Prelude.{◌≡◌, refl, Bool, true, false, cond, List, []
 use Rattle.std.proofs.Common.{sym, ap, ◌∙◌, append_assoc, append-nil, add-zero, zero-add, arith, length-append, length-drop, take-append-drop, length-take-le, lt-ltb, le-ltb, ne_eqb}
 use Rattle.rows.specs.Rows.{overlay, All}
 use Rattle.rows.specs.ListLaws.{all_take_law, all_drop}
-use Rattle.rows.specs.RowLaws.{length_overlay, overlay_nil, overlay_next}
+use Rattle.rows.proofs.RowLaws.{length_overlay, overlay_nil, overlay_next}
 use Rattle.bench.specs.declared.Line.{Line}
 use Rattle.bench.specs.Lines.{no_line, fed, fed_bytes, fed_all, fed_all_bytes}
 

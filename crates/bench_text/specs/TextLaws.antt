@@ -4,7 +4,7 @@ use Rattle.std.proofs.Common.{sym, ap, ◌∙◌, append_assoc, append-nil, add-
 use Rattle.std.proofs.Math.Seq.{take-nil, take-append-add}
 use Rattle.std.proofs.lemmas.List.{take-append-le}
 use Rattle.rows.specs.Rows.{overlay}
-use Rattle.rows.specs.RowLaws.{length_overlay, overlay_nil, overlay_next}
+use Rattle.rows.proofs.RowLaws.{length_overlay, overlay_nil, overlay_next}
 use Rattle.bench_text.specs.Text.{fit, Wrote, hex_byte, hex_digits, hex_text, bit_char, bits_text, row_text, last_digit, digits, decimal_text}
 
 -- ---- writing

@@ -2,7 +2,7 @@
 use Rattle.std.specs.Prelude.{◌≡◌, refl, Bool, true, false, cond, List, [], ◌∷◌, ℕ, zero, suc, ◌+◌, ◌*◌, ◌/◌, ◌%◌, ◌^◌, ◌≤◌, ◌<◌, length, take, drop, get_or, set, leb}
 use Rattle.std.proofs.Common.{ap, add-one, zero-add, pow-suc, arith, drop_of_length-le, drop-cons, lt-ltb, le-ltb, leb-true, leb-false}
 use Rattle.rows.specs.Rows.{overlay}
-use Rattle.rows.specs.RowLaws.{overlay_copy}
+use Rattle.rows.proofs.RowLaws.{overlay_copy}
 use Rattle.bench_values.specs.declared.Alphabet.{Alphabet}
 use Rattle.bench_values.specs.Values.{value_of, spelt, bit_value, decimal_value, hex_pair, hex_bytes, row_bits, joined}
 

@@ -3,12 +3,12 @@ use Rattle.std.specs.Prelude.{◌≡◌, refl, ℕ, ◌+◌, ◌*◌, ◌≤◌,
 use Rattle.std.proofs.Common.{sym, ap, ◌∙◌, arith, length-append, length-take, length-take-le}
 use Rattle.limits.specs.Limits.{row_room}
 use Rattle.rows.specs.Rows.{overlay}
-use Rattle.rows.specs.RowLaws.{overlay_nil, overlay_next, overlay_front, overlay_fits}
+use Rattle.rows.proofs.RowLaws.{overlay_nil, overlay_next, overlay_front, overlay_fits}
 use Rattle.crc.specs.Crc.{crc_bytes, with_crc}
 use Rattle.frame.specs.Frame.{standard, read_crc}
-use Rattle.frame.specs.FrameLaws.{length_standard, standard_append}
+use Rattle.frame.proofs.FrameLaws.{length_standard, standard_append}
 use Rattle.frame.specs.Calls.{good_bytes, read_answer, bytes_after}
-use Rattle.frame.specs.CallLaws.{read_verdict, refused_verdict}
+use Rattle.frame.proofs.CallLaws.{read_verdict, refused_verdict}
 use Rattle.frame.specs.declared.Received.{Received}
 use Rattle.frame.specs.declared.Received.TheVariants.{Bytes, NotReceived}
 use Rattle.selection.specs.Selection.{size}

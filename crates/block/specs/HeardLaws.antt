@@ -8,7 +8,7 @@ use Rattle.crc.specs.CrcLaws.{length_with}
 use Rattle.parity.specs.Bits.{bits_of}
 use Rattle.frame.specs.Frame.{air_byte, standard, whole_bytes, read_frame, read_crc, Good, Fault}
 use Rattle.frame.specs.Calls.{good_bytes}
-use Rattle.frame.specs.FrameLaws.{length_standard, read_crc_standard}
+use Rattle.frame.proofs.FrameLaws.{length_standard, read_crc_standard}
 use Rattle.selection.specs.Selection.{size}
 use Rattle.refusal.specs.declared.Refusal.TheVariants.{Length}
 use Rattle.block.specs.Block.{verdict}

@@ -4,8 +4,6 @@ pub mod Row
 pub mod Out
 pub mod Says
 pub mod CutLaws
-pub mod BlockTable
 pub mod BlockLaws
-pub mod CutBlockLaws
 pub mod HeardLaws
 pub mod AirLaws

@@ -1,3 +1,0 @@
-pub mod HeadLaws
-pub mod SilentLaws
-pub mod QuietLaws

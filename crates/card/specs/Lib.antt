@@ -1,11 +1,5 @@
 pub mod Card
 pub mod Calls
-pub mod CardLaws
-pub mod ElseLaws
-pub mod WrongLaws
-pub mod StateLaws
 pub mod TakenLaws
-pub mod RulesLaws
 pub mod RatsLaws
-pub mod ReadyLaws
 pub mod SaysLaws

@@ -7,7 +7,7 @@ use Rattle.parity.specs.BitLaws.{unbits_lt}
 use Rattle.parity.specs.Bits.{unbits, bits_of}
 use Rattle.frame.specs.Frame.{air_byte, standard}
 use Rattle.crc.specs.Crc.{with_crc}
-use Rattle.frame.specs.FrameLaws.{bits_standard}
+use Rattle.frame.proofs.FrameLaws.{bits_standard}
 use Rattle.uid.specs.BytesAtLaws.{four_at}
 use Rattle.selection.specs.Selection.{rats}
 use Rattle.selection.specs.SelectionLaws.{length_rats}

@@ -2,7 +2,7 @@
 use Rattle.std.specs.Prelude.{◌≡◌, refl, ◌≢◌, ℕ, Bool, List, [], ◌∷◌, length}
 use Rattle.std.proofs.Common.{sym, ap, ap₂, ◌∙◌}
 use Rattle.rows.specs.ListLaws.{is_nil_law}
-use Rattle.rows.specs.RowLaws.{overlay_nil}
+use Rattle.rows.proofs.RowLaws.{overlay_nil}
 use Rattle.rows.specs.Rows.{overlay, same}
 use Rattle.card.specs.Calls.{taken, answer_of, bits_in}
 use Rattle.card.specs.Card.{Step, with_state}

@@ -4,7 +4,7 @@ use Rattle.std.proofs.Common.{ap, ◌∙◌, le-leb, arith}
 use Rattle.rows.specs.ListLaws.{same_ne}
 use Rattle.frame_b.specs.FrameB.{frame_b}
 use Rattle.selection_b.specs.TypeB.{is_slots, request, marker, hltb}
-use Rattle.selection_b.specs.TypeBLaws.{length_marker, length_hltb, requests, request_length, attrib_length, marker_is, marker_other}
+use Rattle.selection_b.proofs.TypeBLaws.{length_marker, length_hltb, requests, request_length, attrib_length, marker_is, marker_other}
 use Rattle.selection_b.specs.TakenB.{admits}
 use Rattle.card_b.specs.CardB.{atqb_of, drawn, heeds, requested, asked, other, rules}
 use Rattle.card_b.specs.declared.CardB.{CardB}

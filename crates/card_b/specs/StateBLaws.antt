@@ -13,7 +13,7 @@ use Rattle.frame.specs.ByteLaws.{length_bytes}
 use Rattle.frame_b.specs.FrameB.{frame_b}
 use Rattle.frame_b.specs.FrameBLaws.{clean_frame, length_frame}
 use Rattle.selection_b.specs.TypeB.{is_slots, request, marker, attrib, hltb, done}
-use Rattle.selection_b.specs.TypeBLaws.{length_marker, length_attrib, length_hltb, requests, request_length, not_request, attrib_length, attrib_is, attrib_tells, hltb_tells}
+use Rattle.selection_b.proofs.TypeBLaws.{length_marker, length_attrib, length_hltb, requests, request_length, not_request, attrib_length, attrib_is, attrib_tells, hltb_tells}
 use Rattle.selection_b.specs.TakenB.{afi_in, param_in, is_request, admits, is_marker, is_attrib}
 use Rattle.card_b.specs.CardB.{Step, asked, other, rules}
 use Rattle.card_b.specs.declared.CardB.{CardB}

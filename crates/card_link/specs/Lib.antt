@@ -3,4 +3,3 @@ pub mod CardSays
 pub mod CardRowLaws
 pub mod StayLaws
 pub mod WholeLaws
-pub mod SaysLaws

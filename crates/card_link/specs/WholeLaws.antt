@@ -5,7 +5,7 @@ use Rattle.std.proofs.Common.{ap, ap₂, ◌∙◌}
 use borrow.Author.Tests.{lt-ltb, le-ltb}
 use Rattle.limits.specs.Limits.{row_room}
 use Rattle.rows.specs.Rows.{overlay}
-use Rattle.rows.specs.RowLaws.{overlay_nil}
+use Rattle.rows.proofs.RowLaws.{overlay_nil}
 use Rattle.frame.specs.Calls.{good_bytes}
 use Rattle.refusal.specs.declared.Refusal.TheVariants.{Room, NotDue}
 use Rattle.card.specs.Card.{rules, takes, answers}

@@ -7,7 +7,7 @@ use Rattle.rows.specs.CleanLaws.{bits_clean}
 use Rattle.rows.specs.ListLaws.{same_ne, all_append, all_take_law}
 use Rattle.parity.specs.Bits.{unbits}
 use Rattle.frame.specs.Frame.{standard}
-use Rattle.frame.specs.FrameLaws.{bits_standard}
+use Rattle.frame.proofs.FrameLaws.{bits_standard}
 use Rattle.uid.specs.declared.Level.{Level}
 use Rattle.uid.specs.declared.Level.TheVariants.{One, Two, Three}
 use Rattle.selection.specs.Selection.{sel, nvb, cut, anticollision, select}

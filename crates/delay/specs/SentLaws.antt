@@ -13,14 +13,14 @@ use Rattle.parity.specs.Bits.{bits_of, unbits, odd}
 use Rattle.parity.specs.BitLaws.{length_bits, unbits_bits}
 use Rattle.crc.specs.Crc.{with_crc, crc_bytes}
 use Rattle.frame.specs.Frame.{short, air_byte, standard, air_bits, bytes_of}
-use Rattle.frame.specs.FrameLaws.{length_standard, standard_append}
+use Rattle.frame.proofs.FrameLaws.{length_standard, standard_append}
 use Rattle.frame.specs.ByteLaws.{bits_air_bits, length_air_bits}
 use Rattle.uid.specs.declared.Level.{Level}
 use Rattle.uid.specs.declared.Level.TheVariants.{One, Two, Three}
 use Rattle.selection.specs.Selection.{reqa, wupa, sel, nvb, cut, anticollision, select}
 use Rattle.selection.specs.SelectionLaws.{length_reqa, length_wupa, length_anti, length_select, anti_same}
 use Rattle.card.specs.Card.{bits_sent, matching}
-use Rattle.card.specs.WrongLaws.{bits_sent_law}
+use Rattle.card.proofs.WrongLaws.{bits_sent_law}
 use Rattle.delay.specs.declared.Kind.{Kind}
 use Rattle.delay.specs.declared.Kind.TheVariants.{Reqa, Wupa, Anticollision, Select, Other}
 use Rattle.delay.specs.Kind.{bytes_in, five_of, is_anticollision, is_select, level_kind, kind_of}

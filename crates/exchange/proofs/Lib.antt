@@ -1,1 +1,5 @@
 mod Runs
+pub mod ExchangeLaws
+pub mod OpenLaws
+pub mod RowExchangeLaws
+pub mod RunLaws

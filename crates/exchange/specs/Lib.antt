@@ -1,13 +1,9 @@
 pub mod Exchange
 pub mod StepLaws
-pub mod ExchangeLaws
 pub mod RowExchange
 pub mod Lossy
 pub mod FineLaws
-pub mod RowExchangeLaws
 pub mod Open
-pub mod OpenLaws
 pub mod MessageLaws
 pub mod Steps
 pub mod Promise
-pub mod RunLaws

@@ -14,8 +14,8 @@ use Rattle.rows.specs.Rows.{All, clean, next, Bits, same}
 use Rattle.parity.specs.Bits.{bits_of}
 use Rattle.frame.specs.ByteLaws.{length_air_bits}
 use Rattle.frame.specs.Frame.{air_bits, standard, data_of, bytes_of, faulty, air_byte}
-use Rattle.frame.specs.FrameLaws.{length_standard}
-use Rattle.frame.specs.ParityLaws.{faulty_drop}
+use Rattle.frame.proofs.FrameLaws.{length_standard}
+use Rattle.frame.proofs.ParityLaws.{faulty_drop}
 use Rattle.uid.specs.CheckLaws.{check_holds, check_of}
 use Rattle.uid.specs.Uid.{level}
 use Rattle.selection.specs.Heard.{read_atqa, read_rest, rest_of, not_rest}

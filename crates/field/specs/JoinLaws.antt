@@ -5,7 +5,7 @@ use Rattle.std.proofs.Math.Seq.{take-length}
 use Rattle.std.proofs.lemmas.List.{get_or_at}
 use Rattle.std.proofs.Math.Dec.{leb-suc-suc}
 use Rattle.rows.specs.Rows.{overlay}
-use Rattle.rows.specs.RowLaws.{overlay_copy}
+use Rattle.rows.proofs.RowLaws.{overlay_copy}
 use Rattle.field.specs.Merge.{meet, join}
 
 -- ---- how long they are together

@@ -7,7 +7,7 @@ use mathlib.Core.List.{List, [], ◌∷◌, ◌++◌, map}
 use Rattle.std.proofs.Math.ListN.{length-take}
 use Rattle.std.proofs.Math.Seq.{drop-append-add}
 use Rattle.rows.specs.Rows.{overlay}
-use Rattle.rows.specs.RowLaws.{overlay_front, overlay_fits}
+use Rattle.rows.proofs.RowLaws.{overlay_front, overlay_fits}
 use Rattle.card.specs.Calls.{taken, bits_in}
 use Rattle.card.specs.TakenLaws.{bits_answer}
 use Rattle.card.specs.Card.{Step, takes, answers}

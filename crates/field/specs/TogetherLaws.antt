@@ -13,7 +13,7 @@ use Rattle.rows.specs.ListLaws.{map_all, all_of, all_unmap, is_nil_law}
 use Rattle.rows.specs.Rows.{All, clean}
 use Rattle.parity.specs.Bits.{odd}
 use Rattle.frame.specs.Frame.{data_of, faulty}
-use Rattle.frame.specs.WrongLaws.{faulty_none, faulty_step as frame_step}
+use Rattle.frame.proofs.WrongLaws.{faulty_none, faulty_step as frame_step}
 use Rattle.selection.specs.SealLaws.{seal, sealed, length_sealed, seal_byte}
 use Rattle.field.specs.Merge.{merge}
 use Rattle.field.specs.MergeLaws.{clean_merge, merge_append, length_merge, merge_same}

@@ -3,7 +3,7 @@
 use Rattle.std.specs.Prelude.{◌≡◌, refl, ℕ, zero, suc, ◌-◌, ◌≤◌, ◌<◌, List, [], length, take, drop, get_or, set}
 use Rattle.std.proofs.Common.{sym, ap, ◌∙◌, not-suc-le-zero, length-take, drop_of_length-le, drop-cons, get_or-take, arith}
 use Rattle.rows.specs.Rows.{overlay}
-use Rattle.rows.specs.RowLaws.{overlay_front}
+use Rattle.rows.proofs.RowLaws.{overlay_front}
 use Rattle.frame_b.specs.LimitsB.{answer_room_b}
 use Rattle.card_b.specs.CallsB.{taken, bits_in}
 use Rattle.card_b.specs.TakenBLaws.{bits_answer}

@@ -1,11 +1,3 @@
 pub mod Frame
 pub mod Calls
-pub mod WrongLaws
-pub mod FrameLaws
-pub mod LoopLaws
 pub mod ByteLaws
-pub mod ParityLaws
-pub mod TellLaws
-pub mod CallLaws
-pub mod SaysLaws
-pub mod FrameVectors

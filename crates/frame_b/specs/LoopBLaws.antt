@@ -2,7 +2,7 @@
 use Rattle.std.specs.Prelude.{◌≡◌, refl, List, [], ◌∷◌, ◌++◌, ℕ, zero, suc, ◌+◌, ◌*◌, ◌≤◌, ◌<◌, length, take, drop, get_or, set}
 use Rattle.std.proofs.Common.{ap, ◌∙◌, add-one, zero-add, arith, take-suc, length-take-le, drop-drop}
 use Rattle.rows.specs.Rows.{overlay}
-use Rattle.rows.specs.RowLaws.{overlay_next, overlay_set}
+use Rattle.rows.proofs.RowLaws.{overlay_next, overlay_set}
 use Rattle.parity.specs.Bits.{bits_of, unbits}
 use Rattle.parity.specs.BitLaws.{length_bits}
 use Rattle.crc.specs.CrcOf.{with_of, crc_bytes_b}

@@ -8,7 +8,7 @@ use Rattle.rows.specs.Rows.{overlay, clean, same, Bytes}
 use Rattle.rows.specs.ListLaws.{both}
 use Rattle.rows.specs.CleanLaws.{bits_clean}
 use Rattle.rows.specs.HeardLaws.{clean_take, clean_drop}
-use Rattle.rows.specs.RowLaws.{overlay_front}
+use Rattle.rows.proofs.RowLaws.{overlay_front}
 use Rattle.parity.specs.Bits.{unbits}
 use Rattle.crc.specs.Crc.{shift, shifts, crc_byte, crc_from}
 use Rattle.crc.specs.CrcOf.{sent_of, good_of, with_of, with_crc_b, crc_bytes_b, crc_good_b}

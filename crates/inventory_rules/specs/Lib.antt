@@ -3,14 +3,7 @@ pub mod Claim
 pub mod RequestLaws
 pub mod InRound
 pub mod TagLaws
-pub mod SlotLaws
 pub mod Rounds
-pub mod RoundLaws
-pub mod FlagLaws
-pub mod MaskLaws
-pub mod SweepLaws
 pub mod Sweep
-pub mod ClaimLaws
 pub mod Example
 pub mod Found
-pub mod CountLaws

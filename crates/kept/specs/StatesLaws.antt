@@ -10,7 +10,7 @@ use Rattle.std.proofs.lemmas.List.{length-replicate, set_at, drop-append-le}
 use Rattle.std.proofs.Math.Seq.{take-append-add, drop-append-add, drop-drop, length-take-le}
 use Rattle.rows.specs.Rows.{overlay, All}
 use Rattle.rows.specs.ListLaws.{all_append}
-use Rattle.rows.specs.RowLaws.{length_overlay}
+use Rattle.rows.proofs.RowLaws.{length_overlay}
 use Rattle.kept.specs.States.{states_from, array_of, states_left}
 
 -- ---- rows in front of a row

@@ -5,7 +5,7 @@ use Rattle.rows.specs.Rows.{overlay, All}
 use Rattle.card.specs.declared.Card.{Card}
 use Rattle.kept.specs.StatesLaws as states
 use Rattle.kept_card.specs.KeptCard.{card_bytes, card_in}
-use Rattle.kept_card.specs.KeptCardLaws.{card_back, card_length}
+use Rattle.kept_card.proofs.KeptCardLaws.{card_back, card_length}
 use Rattle.kept_field.specs.KeptField.{no_card, cards_in, field_in, cards_left}
 
 -- ---- the cards that a row of states says

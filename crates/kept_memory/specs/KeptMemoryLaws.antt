@@ -3,7 +3,7 @@ use Rattle.std.specs.Prelude.{◌≡◌, refl, Bool, true, false, ◌&&◌, List
 use Rattle.std.proofs.Common.{sym, ap, ◌∙◌, append_assoc, zero-add, arith, length-append, length-drop, take_at, length-take-le}
 use Rattle.std.proofs.lemmas.List.{length-replicate}
 use Rattle.rows.specs.Rows.{overlay, same}
-use Rattle.rows.specs.RowLaws.{length_overlay, overlay_next, overlay_all}
+use Rattle.rows.proofs.RowLaws.{length_overlay, overlay_next, overlay_all}
 use Rattle.rows.specs.ListLaws.{same_sound}
 use Rattle.reader.specs.declared.Reader.{Reader}
 use Rattle.reader.specs.declared.Answer.{Answer}

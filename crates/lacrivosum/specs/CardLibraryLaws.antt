@@ -5,7 +5,7 @@ use Rattle.std.proofs.lemmas.Bool.{false≢true}
 use Rattle.refusal.specs.declared.Refusal.{Refusal}
 use Rattle.refusal.specs.declared.Refusal.TheVariants.{Room}
 use Rattle.rows.specs.Rows.{overlay}
-use Rattle.rows.specs.RowLaws.{overlay_nil}
+use Rattle.rows.proofs.RowLaws.{overlay_nil}
 use Rattle.uid.specs.declared.Made.{Made}
 use Rattle.uid.specs.declared.Made.TheVariants.{Good, NotMade}
 use Rattle.block.specs.declared.Told.TheVariants.{Refused}

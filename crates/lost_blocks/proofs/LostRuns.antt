@@ -24,13 +24,13 @@ use Rattle.card_blocks.specs.CardFrames.{card_block, card_reply, card_wtx, card_
 use Rattle.reader_blocks.specs.ReaderRules.{reader_open, reader_i, reader_again, reader_repeats, reader_echoes, reader_starts, reader_takes_i, reader_takes_ack, lent_for as messageFor}
 use Rattle.reader_blocks.specs.ReaderFrames.{reader_block, reader_send, reader_out}
 use Rattle.exchange.specs.Exchange.{Fate, Arrives, Fails, Act, Answers, Asks, Waits, Round, clean as whole, Ends, passes, exchange, talk}
-use Rattle.exchange.specs.ExchangeLaws.{after_ats_law}
-use Rattle.exchange.specs.RowExchangeLaws.{wide}
+use Rattle.exchange.proofs.ExchangeLaws.{after_ats_law}
+use Rattle.exchange.proofs.RowExchangeLaws.{wide}
 use Rattle.exchange.specs.Lossy.{Whole, Instead, RowRound, row_clean}
 use Rattle.lost_blocks.specs.Lost.{within, few_lost, lost_all, marks, marks_of, FewLosses}
 use Rattle.lost_blocks.specs.RowLost.{RowStart, RowFewLosses}
-use Rattle.lost_blocks.specs.RowLossLaws.{round_of}
-use Rattle.lost_blocks.specs.RowLostLaws.{few_rows}
+use Rattle.lost_blocks.proofs.RowLossLaws.{round_of}
+use Rattle.lost_blocks.proofs.RowLostLaws.{few_rows}
 
 -- both ends after ATS, with buffers of two bytes
 abbrev ends : Ends

@@ -7,7 +7,7 @@ use Rattle.std.proofs.Math.ListN.{get_or-map}
 use Rattle.rows.specs.ListLaws.{all_take_law, all_drop, all_append}
 use Rattle.rows.specs.Rows.{clean, fill, overlay, Bits}
 use Rattle.rows.specs.CleanLaws.{bits_clean}
-use Rattle.rows.specs.RowLaws.{overlay_copy}
+use Rattle.rows.proofs.RowLaws.{overlay_copy}
 use Rattle.parity.specs.Bits.{unbits}
 use Rattle.frame.specs.Frame.{bytes_of}
 use Rattle.uid.specs.FillLaws.{fill_zeros}

@@ -10,7 +10,7 @@ use Rattle.rows.specs.Rows.{Bits, is_nil, clean, next, same}
 use Rattle.parity.specs.Bits.{bits_of}
 use Rattle.frame.specs.ByteLaws.{bits_air_bits, length_air_bits}
 use Rattle.frame.specs.Frame.{air_bits, air_byte, standard, data_of, bytes_of, faulty}
-use Rattle.frame.specs.FrameLaws.{length_standard}
+use Rattle.frame.proofs.FrameLaws.{length_standard}
 use Rattle.uid.specs.Uid.{level}
 use Rattle.selection.specs.Heard.{read_rest, rest_of, not_rest, rest_place}
 use Rattle.selection.specs.LevelLaws.{length_data, data_at}

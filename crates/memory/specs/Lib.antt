@@ -1,13 +1,5 @@
 pub mod Memory
 pub mod Stored
 pub mod Calls
-pub mod MemoryLaws
-pub mod RefusalLaws
-pub mod BranchLaws
 pub mod EnterLaws
-pub mod LearnLaws
-pub mod StoredLaws
-pub mod AnewLaws
 pub mod LevelReadLaws
-pub mod StraightLaws
-pub mod CallLaws

@@ -6,7 +6,7 @@ use mathlib.Core.List.{List}
 use lib.ListN.{take}
 use Rattle.memory_rules.specs.Run.{recalled}
 use Rattle.sweep_steps.specs.Loop.{swept_if}
-use Rattle.sweep.specs.CallLaws.{same_run}
+use Rattle.sweep.proofs.CallLaws.{same_run}
 use Rattle.memory_sweep.proofs.Kept as kept
 use Rattle.sweep_row.specs.Under.{Called}
 use Rattle.card.specs.declared.Card.{Card}

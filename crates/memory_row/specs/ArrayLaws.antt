@@ -2,7 +2,7 @@
 use Rattle.std.specs.Prelude.{◌≡◌, ℕ, List, ◌++◌, length, take, drop}
 use Rattle.memory_rules.specs.Promise.{Remembers}
 use Rattle.memory_rules.specs.Run.{recalled}
-use Rattle.memory_sweep.specs.CallLaws.{promised_by}
+use Rattle.memory_sweep.proofs.CallLaws.{promised_by}
 use Rattle.sweep_row.specs.ArrayLaws.{array_call, array_claim}
 use Rattle.sweep_row.specs.Row.{swept_row}
 use Rattle.card.specs.declared.Card.{Card}

@@ -26,7 +26,7 @@ use Rattle.air_log.specs.Log.{sent_heard}
 use Rattle.memory.specs.LevelReadLaws.{next_bits}
 use Rattle.memory.specs.Memory.{recall, branch, keeping, hear}
 use Rattle.air_log.specs.Log.{sent_heard}
-use Rattle.memory.specs.MemoryLaws.{entering, recalls_atqa, recalls_end, recalls_whole, recalls_collided, recalls_more, recalls_last, recalls_silence}
+use Rattle.memory.proofs.MemoryLaws.{entering, recalls_atqa, recalls_end, recalls_whole, recalls_collided, recalls_more, recalls_last, recalls_silence}
 use Rattle.sweep_rules.specs.Demand.{halted}
 use Rattle.sweep_rules.specs.Run.{before, ended, follow, run_of, finding}
 use Rattle.sweep_rules.proofs.Abstract.{strips, heard}

@@ -12,3 +12,4 @@ pub mod Collisions
 pub mod Totals
 pub mod Remembers
 pub mod Example
+pub mod CountTable

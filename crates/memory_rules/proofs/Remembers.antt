@@ -12,9 +12,9 @@ use Rattle.uid.specs.Uid.{row_of, falling, frame_sum, uid_bytes}
 use Rattle.uid.specs.UidLaws.{name, Sound}
 use Rattle.reader.specs.Reader.{blank, turn, sends}
 use Rattle.reader.specs.ReaderLaws.{asking}
-use Rattle.air_log.specs.CountLaws.{sent_counted}
+use Rattle.air_log.proofs.CountLaws.{sent_counted}
 use Rattle.air_log.specs.Log.{exchange_size}
-use Rattle.air_log.specs.RecordLaws.{exchange_size_law, log_size_law}
+use Rattle.air_log.proofs.RecordLaws.{exchange_size_law, log_size_law}
 use Rattle.memory.specs.Memory.{recall}
 use Rattle.sweep_rules.specs.Demand.{Typed, idle, halted, Demand3}
 use Rattle.sweep_rules.specs.Run.{sweep}

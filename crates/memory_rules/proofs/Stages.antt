@@ -12,7 +12,7 @@ use Rattle.rows.specs.Rows.{clean, next, any, All, is_nil, Bits}
 use Rattle.uid.specs.LevelLaws.{wide, InLevels}
 use Rattle.reader.specs.ReaderLaws.{lvl, opened, selecting, closed}
 use Rattle.memory.specs.Memory.{bits}
-use Rattle.memory.specs.MemoryLaws.{entering, enters_open}
+use Rattle.memory.proofs.MemoryLaws.{entering, enters_open}
 use Rattle.memory.specs.EnterLaws.{length_bits, bits_append}
 use Rattle.sweep_rules.proofs.Abstract.{strips, heard, level, select, Apart}
 use Rattle.sweep_rules.proofs.Early.{law_early_32}

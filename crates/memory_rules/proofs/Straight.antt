@@ -12,7 +12,7 @@ use Rattle.uid.specs.Order.{diff}
 use Rattle.uid.specs.Uid.{air}
 use Rattle.reader.specs.ReaderLaws.{lvl}
 use Rattle.memory.specs.Memory.{bits}
-use Rattle.memory.specs.MemoryLaws.{entering, enters_open, enters_known}
+use Rattle.memory.proofs.MemoryLaws.{entering, enters_open, enters_known}
 use Rattle.sweep_rules.proofs.Abstract.{keep, strips, Apart}
 use Rattle.sweep_rules.proofs.First.{strips_nil, strips_append}
 use Rattle.sweep_rules.proofs.Idle.{idles, Fits}

@@ -1,4 +1,3 @@
 pub mod Run
 pub mod Count
-pub mod CountTable
 pub mod Promise

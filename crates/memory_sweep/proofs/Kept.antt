@@ -8,7 +8,7 @@ use native.Mathlib.Omega.{arith}
 use Rattle.limits.specs.Limits.{log_room}
 use Rattle.rows.specs.Rows.{All}
 use Rattle.air_log.specs.Log.{log_size}
-use Rattle.air_log.specs.RecordLaws.{log_size_law}
+use Rattle.air_log.proofs.RecordLaws.{log_size_law}
 use Rattle.sweep_rules.specs.Demand.{Typed}
 use Rattle.memory_rules.specs.Promise.{Remembers}
 use Rattle.memory_rules.specs.Run.{run, recalled}
@@ -17,7 +17,7 @@ use Rattle.sweep.specs.Promise.{Terms}
 use Rattle.sweep.specs.Shared.{FitsRoom}
 use Rattle.sweep.specs.Sweep.{call}
 use Rattle.sweep_steps.specs.Loop.{swept_if}
-use Rattle.memory_sweep.specs.CallLaws.{promised_by}
+use Rattle.memory_sweep.proofs.CallLaws.{promised_by}
 use Rattle.memory_sweep.specs.Promise.{Recalls}
 use Rattle.memory_sweep.specs.Recalled.{recall_of}
 use Rattle.card.specs.declared.Card.{Card}

@@ -1,3 +1,2 @@
 pub mod Recalled
 pub mod Promise
-pub mod CallLaws

@@ -17,7 +17,7 @@ use Rattle.rows.specs.Rows.{Bits, is_nil, clean, next, same}
 use Rattle.parity.specs.Bits.{bits_of, odd, ones}
 use Rattle.frame.specs.ByteLaws.{bits_bytes_take, length_bytes}
 use Rattle.frame.specs.Frame.{air_bits, air_byte, standard, data_of, bytes_of, first_wrong, faulty}
-use Rattle.frame.specs.FrameLaws.{length_standard, bits_standard}
+use Rattle.frame.proofs.FrameLaws.{length_standard, bits_standard}
 use Rattle.uid.specs.Uid.{level}
 use Rattle.selection.specs.Heard.{read_atqa, rest_place, read_rest, rest_of, not_rest}
 use Rattle.selection.specs.Level.{first_collided, level_says}

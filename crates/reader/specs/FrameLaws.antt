@@ -4,7 +4,7 @@ use Rattle.rows.specs.ListLaws.{all_append, all_take_law}
 use Rattle.rows.specs.Rows.{Bits}
 use Rattle.parity.specs.BitLaws.{bits_bits}
 use Rattle.frame.specs.Frame.{short, standard}
-use Rattle.frame.specs.FrameLaws.{bits_standard}
+use Rattle.frame.proofs.FrameLaws.{bits_standard}
 use Rattle.selection.specs.Selection.{reqa, wupa, hlta, sel, nvb, cut, anticollision, select}
 use Rattle.reader.specs.Reader.{frame_in, frame}
 use Rattle.reader.specs.declared.Phase.{Phase}

@@ -2,7 +2,7 @@
 use Rattle.std.specs.Prelude.{◌≡◌, refl, Bool, true, false, cond, not, ◌&&◌, List, [], ◌∷◌, ◌++◌, ℕ, zero, suc, ◌+◌, ◌-◌, ◌*◌, ◌/◌, ◌%◌, ◌≤◌, ◌<◌, length, take, drop, replicate, get_or, eqb, ltb}
 use Rattle.std.proofs.Common.{sym, ap, ◌∙◌, not-suc-le-zero, arith, length-append, length-take, length-drop, lt-ltb, le-ltb}
 use Rattle.rows.specs.Rows.{overlay, is_nil, fill}
-use Rattle.rows.specs.RowLaws.{overlay_nil, overlay_next}
+use Rattle.rows.proofs.RowLaws.{overlay_nil, overlay_next}
 use Rattle.uid.specs.FillLaws.{fill_zeros}
 use Rattle.uid.specs.Uid.{place}
 use Rattle.selection.specs.Heard.{read_atqa, read_rest, read_sak}

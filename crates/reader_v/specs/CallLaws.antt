@@ -4,7 +4,7 @@ use Rattle.std.proofs.Common.{sym, ap, ◌∙◌, arith, lt-ltb, le-ltb, ltb-tru
 use Rattle.std.proofs.Math.Bool.{Bool, cond}
 use Rattle.std.proofs.Math.ListN.{length, replicate}
 use Rattle.request_v.specs.Inventory.{most_mask}
-use Rattle.request_v.specs.RequestLaws.{mask_64}
+use Rattle.request_v.proofs.RequestLaws.{mask_64}
 use Rattle.rows.specs.ListLaws.{both}
 use Rattle.rows.specs.Rows.{overlay}
 use Rattle.refusal.specs.Refusal.{Said, giving, declining}

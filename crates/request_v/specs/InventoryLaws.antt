@@ -4,7 +4,7 @@ use Rattle.std.proofs.Common.{sym, ap, ◌∙◌, arith}
 use Rattle.std.proofs.lemmas.List.{length-replicate}
 use Rattle.rows.specs.Rows.{overlay, clean}
 use Rattle.rows.specs.CleanLaws.{bits_clean}
-use Rattle.rows.specs.RowLaws.{overlay_all}
+use Rattle.rows.proofs.RowLaws.{overlay_all}
 use Rattle.frame.specs.Frame.{air_bits}
 use Rattle.frame.specs.ByteLaws.{length_air_bits, bits_air_bits}
 

@@ -2,5 +2,3 @@ pub mod Flags
 pub mod Inventory
 pub mod InventoryLaws
 pub mod Request
-pub mod RequestLaws
-pub mod DeedTable

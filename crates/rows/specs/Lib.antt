@@ -1,5 +1,4 @@
 pub mod Rows
-pub mod RowLaws
 pub mod HeardLaws
 pub mod ListLaws
 pub mod EachLaws

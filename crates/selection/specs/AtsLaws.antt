@@ -2,7 +2,7 @@
 use Rattle.std.specs.Prelude.{◌≡◌, refl, false, cond, ◌&&◌, List, [], ◌∷◌, ℕ, suc, ◌+◌, ◌-◌, ◌%◌, ◌≤◌, length, take, get_or, replicate, eqb, ltb, leb}
 use Rattle.std.proofs.Common.{ap, arith, length-append}
 use Rattle.rows.specs.Rows.{overlay, is_nil}
-use Rattle.rows.specs.RowLaws.{overlay_front, overlay_fits}
+use Rattle.rows.proofs.RowLaws.{overlay_front, overlay_fits}
 use Rattle.frame.specs.Frame.{Verdict, Good, Fault, read_crc}
 use Rattle.frame.specs.Calls.{received, read_answer, good_bytes, bytes_after}
 use Rattle.selection.specs.Selection.{at_most8, size}

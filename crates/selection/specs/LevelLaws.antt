@@ -4,7 +4,7 @@ use Rattle.std.proofs.Common.{sym, ap, ◌∙◌, append_assoc, append-nil, not-
 use Rattle.std.proofs.lemmas.List.{length-replicate, take-append-le}
 use Rattle.std.proofs.Math.ListN.{get_or-append}
 use Rattle.rows.specs.Rows.{overlay, clean, next, fill, Bits}
-use Rattle.rows.specs.RowLaws.{overlay_set, overlay_copy}
+use Rattle.rows.proofs.RowLaws.{overlay_set, overlay_copy}
 use Rattle.uid.specs.FillLaws.{fill_zeros}
 use Rattle.frame.specs.Frame.{data_of, bytes_of}
 use Rattle.frame.specs.ByteLaws.{length_bytes}

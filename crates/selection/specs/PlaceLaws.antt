@@ -6,7 +6,7 @@ use Rattle.std.proofs.Common.{sym, ◌∙◌, drop-drop}
 use Prim.Native.Nat.{ℕ, ◌+◌, ◌-◌, ◌*◌, ◌/◌, ◌≤◌, ◌<◌}
 use native.Mathlib.Omega.{arith}
 use Rattle.frame.specs.Frame.{wrong_byte, first_wrong, faulty}
-use Rattle.frame.specs.WrongLaws.{BrokeAt, first_broke, broke_first}
+use Rattle.frame.proofs.WrongLaws.{BrokeAt, first_broke, broke_first}
 use Rattle.selection.specs.Heard.{rest_place}
 
 -- byte j of the level's five: none of its bits is among the k sent, its parity is wrong, and that of no such byte before it is

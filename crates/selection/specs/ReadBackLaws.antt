@@ -12,8 +12,8 @@ use Rattle.crc.specs.Crc.{with_crc}
 use Rattle.crc.specs.CrcLaws.{length_with, with_bytes}
 use Rattle.frame.specs.ByteLaws.{bits_air_bits, bytes_bits}
 use Rattle.frame.specs.Frame.{air_byte, standard, air_bits, data_of, bytes_of, first_wrong, faulty}
-use Rattle.frame.specs.FrameLaws.{Passed, read_passed, read_standard, read_crc_standard, length_standard}
-use Rattle.frame.specs.ParityLaws.{faulty_drop}
+use Rattle.frame.proofs.FrameLaws.{Passed, read_passed, read_standard, read_crc_standard, length_standard}
+use Rattle.frame.proofs.ParityLaws.{faulty_drop}
 use Rattle.uid.specs.CheckLaws.{Five}
 use Rattle.uid.specs.Uid.{level}
 use Rattle.selection.specs.Selection.{nvb, cut, others, sak_frame, atqa, ats, at_most8, size}

@@ -11,8 +11,8 @@ use Rattle.selection.specs.Selection.{cut}
 use Rattle.selection.specs.Heard.{not_rest, rest_place, rest_of, read_rest, read_sak}
 use Rattle.selection.specs.declared.SakRead.TheVariants.{Sak, NotSak}
 use Rattle.crc.specs.Crc.{crc_good, with_crc}
-use Rattle.rows.specs.RowLaws.{overlay_all}
-use Rattle.frame.specs.WrongLaws.{found_wrong, found_none}
+use Rattle.rows.proofs.RowLaws.{overlay_all}
+use Rattle.frame.proofs.WrongLaws.{found_wrong, found_none}
 use Rattle.frame.specs.ByteLaws.{length_bytes}
 use Rattle.selection.specs.Level.{first_collided, level_says}
 use Rattle.selection.specs.LevelLaws.{first_clean, first_clash, first_head, length_data}

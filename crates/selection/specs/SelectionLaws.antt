@@ -9,9 +9,9 @@ use Rattle.parity.specs.BitLaws.{length_bits}
 use Rattle.crc.specs.Crc.{with_crc, crc_bytes}
 use Rattle.frame.specs.ByteLaws.{bits_bytes, length_bytes, length_air_bits, air_bits_append}
 use Rattle.frame.specs.Frame.{air_bits, short, standard, bytes_of}
-use Rattle.frame.specs.FrameLaws.{length_standard}
+use Rattle.frame.proofs.FrameLaws.{length_standard}
 use Rattle.crc.specs.CrcLaws.{length_with}
-use Rattle.frame.specs.TellLaws.{standard_bits}
+use Rattle.frame.proofs.TellLaws.{standard_bits}
 use Rattle.selection.specs.SealLaws.{seal, standard_seal, take_seal, seal_same}
 use Rattle.selection.specs.Selection.{rats, cut, sel, nvb, reqa, wupa, hlta, anticollision, select, sak_frame}
 use Rattle.uid.specs.declared.Level.{Level}

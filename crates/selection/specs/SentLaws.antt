@@ -3,11 +3,11 @@ use Rattle.std.specs.Prelude.{◌≡◌, refl, Bool, true, false, List, [], ◌�
 use Rattle.std.proofs.Common.{sym, ap, ◌∙◌, pow-suc, mul_comm, mul_assoc, arith, length-append, take_all, ltb-true, ltb-false}
 use Rattle.std.proofs.Math.ListN.{length, take, length-take}
 use Rattle.rows.specs.Rows.{overlay}
-use Rattle.rows.specs.RowLaws.{overlay_next, overlay_all}
+use Rattle.rows.proofs.RowLaws.{overlay_next, overlay_all}
 use Rattle.parity.specs.Bits.{bits_of}
 use Rattle.crc.specs.Crc.{crc_bytes, with_crc}
 use Rattle.frame.specs.Frame.{air_byte, standard}
-use Rattle.frame.specs.FrameLaws.{length_standard, standard_append}
+use Rattle.frame.proofs.FrameLaws.{length_standard, standard_append}
 use Rattle.selection.specs.Selection.{sel, nvb, cut, anticollision}
 use Rattle.uid.specs.declared.Level.{Level}
 

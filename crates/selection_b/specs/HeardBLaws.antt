@@ -8,7 +8,7 @@ use borrow.Author.Tests.{eq-eqb, ne_eqb}
 use native.Mathlib.Omega.{arith}
 use Rattle.rows.specs.CleanLaws.{not_nil}
 use Rattle.rows.specs.ListLaws.{is_nil_law}
-use Rattle.rows.specs.RowLaws.{overlay_all}
+use Rattle.rows.proofs.RowLaws.{overlay_all}
 use Rattle.rows.specs.Rows.{overlay, is_nil, clean}
 use Rattle.crc.specs.CrcOf.{crc_good_b}
 use Rattle.frame.specs.ByteLaws.{length_bytes}

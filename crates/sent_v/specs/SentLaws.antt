@@ -4,7 +4,7 @@ use Rattle.std.proofs.Common.{sym, ap, ◌∙◌, zero-add, arith, append_assoc,
 use Rattle.std.proofs.lemmas.List.{length-replicate}
 use Rattle.std.proofs.Math.Seq.{drop-append-add}
 use Rattle.rows.specs.Rows.{overlay, fill, clean, Bits, Bytes}
-use Rattle.rows.specs.RowLaws.{overlay_next, overlay_all}
+use Rattle.rows.proofs.RowLaws.{overlay_next, overlay_all}
 use Rattle.rows.specs.ListLaws.{all_append, all_take_law}
 use Rattle.rows.specs.CleanLaws.{bits_clean}
 use Rattle.parity.specs.Bits.{bits_of}

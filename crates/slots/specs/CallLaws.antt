@@ -11,7 +11,7 @@ use Rattle.refusal.specs.Refusal.{declining}
 use Rattle.card_b.specs.CardB.{drawn}
 use Rattle.reader_b.specs.ReaderB.{is_ready}
 use Rattle.slots_rules.specs.Claim as claims
-use Rattle.slots_rules.specs.ClaimLaws.{claim}
+use Rattle.slots_rules.proofs.ClaimLaws.{claim}
 use Rattle.slots_rules.specs.RunB.{Out, inquiry, list_bytes}
 use Rattle.slots_rules.specs.TermsB.{idle_or_halted, card_fits, all_fit, within}
 use Rattle.slots.specs.Inquiry.{call, refused, done, inquiry_of}

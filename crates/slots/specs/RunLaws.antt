@@ -14,7 +14,7 @@ use native.Mathlib.Omega.{arith}
 use Rattle.limits.specs.Limits.{most_cards}
 use Rattle.frame_b.specs.LimitsB.{most_slots, list_room_b}
 use Rattle.rows.specs.Rows.{overlay}
-use Rattle.rows.specs.RowLaws.{overlay_nil, length_overlay}
+use Rattle.rows.proofs.RowLaws.{overlay_nil, length_overlay}
 use Rattle.rows.specs.ListLaws.{both}
 use Rattle.selection_b.specs.HeardB.{entry}
 use Rattle.reader_b.specs.ReaderB.{opens, goes, hear}

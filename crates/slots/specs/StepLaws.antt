@@ -5,7 +5,7 @@ use Rattle.std.proofs.Common.{sym, ◌∙◌, arith, eq-eqb, ne_eqb}
 use mathlib.Core.List.{List, [], ◌∷◌, ◌++◌}
 use Rattle.std.proofs.Math.ListN.{length-append}
 use Rattle.rows.specs.Rows.{overlay}
-use Rattle.rows.specs.RowLaws.{overlay_front, overlay_nil, overlay_next}
+use Rattle.rows.proofs.RowLaws.{overlay_front, overlay_nil, overlay_next}
 use Rattle.selection_b.specs.HeardB.{held_number, entry}
 use Rattle.selection_b.specs.TypeB.{request}
 use Rattle.field.specs.TakeLaws.{front_fits}

@@ -8,14 +8,14 @@ use native.Mathlib.Omega.{arith}
 use Rattle.limits.specs.Limits.{log_room}
 use Rattle.rows.specs.Rows.{All}
 use Rattle.air_log.specs.Log.{log_size}
-use Rattle.air_log.specs.RecordLaws.{log_size_law}
+use Rattle.air_log.proofs.RecordLaws.{log_size_law}
 use Rattle.sweep_rules.specs.Demand.{Typed, Demand3}
 use Rattle.sweep_rules.specs.Run.{sweep}
 use Rattle.sweep_rules.proofs.Demand3.{demand3}
 use Rattle.sweep_steps.specs.Loop.{swept_if}
 use Rattle.sweep_steps.specs.LoopLaws.{swept_plain}
 use Rattle.card.specs.declared.Card.{Card}
-use Rattle.sweep.specs.CallLaws.{Promised, promised_by}
+use Rattle.sweep.proofs.CallLaws.{Promised, promised_by}
 use Rattle.sweep.specs.Promise.{Terms}
 use Rattle.sweep.specs.Shared.{FitsRoom}
 use Rattle.sweep.specs.Sweep.{call, sweep_of}

@@ -1,4 +1,3 @@
 pub mod Sweep
 pub mod Promise
 pub mod Shared
-pub mod CallLaws

@@ -8,7 +8,7 @@ use native.Mathlib.Omega.{arith}
 use Rattle.limits.specs.Limits.{log_room}
 use Rattle.rows.specs.Rows.{All, overlay}
 use Rattle.air_log.specs.Log.{log_bytes, log_size, list_bytes}
-use Rattle.air_log.specs.RecordLaws.{log_size_law}
+use Rattle.air_log.proofs.RecordLaws.{log_size_law}
 use Rattle.sweep_rules.specs.Demand.{Typed}
 use Rattle.sweep_rules.specs.Run.{sweep}
 use Rattle.sweep_rules.specs.Terms.{within}
@@ -17,7 +17,7 @@ use Rattle.memory_rules.specs.Run.{run, recalled}
 use Rattle.memory_rules.proofs.Remembers.{remembers}
 use Rattle.sweep_steps.specs.Loop.{swept_if}
 use Rattle.sweep_steps.specs.LoopLaws.{swept_plain}
-use Rattle.sweep.specs.CallLaws.{Promised, same_run, runs}
+use Rattle.sweep.proofs.CallLaws.{Promised, same_run, runs}
 use Rattle.sweep.specs.Promise.{Terms}
 use Rattle.sweep.specs.Shared.{FitsRoom}
 use Rattle.sweep.specs.Sweep.{call, done}

@@ -12,7 +12,7 @@ use Rattle.sweep_rules.specs.Demand.{Typed}
 use Rattle.limits.specs.Limits.{most_cards}
 use Rattle.sweep_rules.specs.Terms.{within}
 use Rattle.memory.specs.Stored.{path_of}
-use Rattle.sweep.specs.CallLaws.{ruled_out, no_field}
+use Rattle.sweep.proofs.CallLaws.{ruled_out, no_field}
 use Rattle.sweep_steps.specs.Loop.{sweeper, first_recall, swept_if}
 use Rattle.sweep_steps.specs.RunLaws as run-laws
 use Rattle.sweep_steps.specs.Steps as steps

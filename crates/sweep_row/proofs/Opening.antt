@@ -12,7 +12,7 @@ use Rattle.limits.specs.Limits.{most_cards, most_frames, log_room, list_room}
 use Rattle.sweep_rules.specs.RunLaws.{run_cards}
 use Rattle.sweep_rules.specs.Terms.{all_fit, apart, within}
 use Rattle.sweep_steps.specs.Loop.{sweeper, first_recall, swept_if}
-use Rattle.sweep.specs.CallLaws.{Declined, ruled_out, not_due, no_log, no_list, too_many}
+use Rattle.sweep.proofs.CallLaws.{Declined, ruled_out, not_due, no_log, no_list, too_many}
 use Rattle.card.specs.declared.Card.{Card}
 use Rattle.sweep.specs.declared.Start.{Start}
 use Rattle.refusal.specs.declared.Refusal.{Refusal}

@@ -16,7 +16,7 @@ use Rattle.card.specs.Card.{takes}
 use Rattle.reader.specs.Reader.{frame}
 use Rattle.memory.specs.Memory.{Recall, recall, hear_if}
 use Rattle.memory.specs.Stored.{path_of, stored}
-use Rattle.memory.specs.StoredLaws.{path_at}
+use Rattle.memory.proofs.StoredLaws.{path_at}
 use Rattle.reader.specs.declared.Turn.{Turn}
 use Rattle.reader.specs.declared.Answer.{Answer}
 use Rattle.reader.specs.declared.Answer.TheVariants.{Sends, Finds, Selects, Finishes, Declines}

@@ -9,7 +9,7 @@ use Rattle.reader.specs.Reader.{is_new}
 use Rattle.sweep_rules.specs.Demand.{Demand3}
 use Rattle.sweep_rules.specs.Run.{Out, sweep}
 use Rattle.sweep_rules.specs.Terms.{within}
-use Rattle.sweep.specs.CallLaws.{Promised, promised_by}
+use Rattle.sweep.proofs.CallLaws.{Promised, promised_by}
 use Rattle.sweep.specs.Promise.{Terms}
 use Rattle.sweep.specs.Sweep.{Call, call, refused, done, call_of}
 use Rattle.card.specs.declared.Card.{Card}

@@ -8,7 +8,7 @@ use Rattle.std.proofs.Math.ListN.{length}
 use Rattle.std.proofs.lemmas.List.{length-replicate, length-map}
 use Rattle.std.proofs.Math.Seq.{take-length}
 use Rattle.rows.specs.Rows.{overlay}
-use Rattle.rows.specs.RowLaws.{overlay_nil, overlay_front}
+use Rattle.rows.proofs.RowLaws.{overlay_nil, overlay_front}
 use Rattle.card.specs.Card.{takes, answers}
 use Rattle.reader.specs.Reader.{frame}
 use Rattle.field.specs.Calls.{cards_after}

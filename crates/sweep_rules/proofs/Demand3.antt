@@ -16,9 +16,9 @@ use Rattle.uid.specs.SortLaws.{map_sort, length_sort, all_sort}
 use Rattle.uid.specs.Uid.{levels, row_of, falling, frame_sum, uid_bytes}
 use Rattle.uid.specs.UidLaws.{name, Sound, rows_off, length_row, name_row}
 use Rattle.reader.specs.Reader.{blank, sends, turn}
-use Rattle.air_log.specs.CountLaws.{sent_counted}
+use Rattle.air_log.proofs.CountLaws.{sent_counted}
 use Rattle.air_log.specs.Log.{exchange_bytes, log_bytes, exchange_size, log_size}
-use Rattle.air_log.specs.RecordLaws.{exchange_size_law, log_size_law}
+use Rattle.air_log.proofs.RecordLaws.{exchange_size_law, log_size_law}
 use Rattle.sweep_rules.specs.Demand.{Typed, idle, halted, Descending, Demand3}
 use Rattle.limits.specs.Limits.{most_cards, most_frames, frames_bound}
 use Rattle.sweep_rules.specs.Run.{plain, run, sweep}

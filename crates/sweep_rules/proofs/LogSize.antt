@@ -11,7 +11,7 @@ use Rattle.rows.specs.EachLaws.{length_fill}
 use Rattle.rows.specs.ListLaws.{both}
 use Rattle.rows.specs.Rows.{All, clean, fill}
 use Rattle.air_log.specs.Log.{tick_bytes, sent_record, heard_record, Exchange, sent_heard, exchange_bytes, log_bytes, exchange_size, log_size, list_bytes, entry_bytes}
-use Rattle.air_log.specs.RecordLaws.{length_tick, length_sent, length_heard_clean, length_heard_collided, log_size_next}
+use Rattle.air_log.proofs.RecordLaws.{length_tick, length_sent, length_heard_clean, length_heard_collided, log_size_next}
 
 -- the bytes of n bits
 abbrev bytes_for : ℕ → ℕ

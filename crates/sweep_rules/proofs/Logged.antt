@@ -11,9 +11,9 @@ use Rattle.reader.specs.FrameLaws.{frame_bits}
 use Rattle.reader.specs.Reader.{frame}
 use Rattle.field.specs.Field.{all_take, heard_from}
 use Rattle.air_log.specs.Calls.{row_size}
-use Rattle.air_log.specs.CountLaws.{Loggable}
+use Rattle.air_log.proofs.CountLaws.{Loggable}
 use Rattle.air_log.specs.Log.{Exchange, tick_bytes, sent_record, heard_record, exchange_bytes, exchange_size}
-use Rattle.air_log.specs.RecordLaws.{length_sent, length_heard_clean, length_heard_collided}
+use Rattle.air_log.proofs.RecordLaws.{length_sent, length_heard_clean, length_heard_collided}
 use Rattle.sweep_rules.specs.Run.{Out, before, ended, follow, Runner, run_of, finding}
 use Rattle.card.specs.declared.Card.{Card}
 use Rattle.reader.specs.declared.Answer.{Answer}

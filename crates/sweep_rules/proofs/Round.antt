@@ -21,9 +21,9 @@ use Rattle.selection.specs.SealLaws.{seal}
 use Rattle.selection.specs.Selection.{cut, reqa, hlta, anticollision, select, sak_frame, atqa}
 use Rattle.selection.specs.SelectionLaws.{length_hlta, length_anti, length_select}
 use Rattle.card.specs.Card.{Step, up, rules}
-use Rattle.card.specs.CardLaws.{sit₁, said, saked, card_anti, card_sel}
-use Rattle.card.specs.ElseLaws.{idle_else, halt_else}
-use Rattle.card.specs.StateLaws.{halt_reqa}
+use Rattle.card.proofs.CardLaws.{sit₁, said, saked, card_anti, card_sel}
+use Rattle.card.proofs.ElseLaws.{idle_else, halt_else}
+use Rattle.card.proofs.StateLaws.{halt_reqa}
 use Rattle.field.specs.Field.{all_take, heard_from}
 use Rattle.field.specs.Merge.{join, merge}
 use Rattle.field.specs.MergeLaws.{join_nil, merge_same}

@@ -11,7 +11,7 @@ use Rattle.uid.specs.Order.{Diff, on, off, diff}
 use Rattle.uid.specs.StripLaws.{strip, shape}
 use Rattle.uid.specs.Uid.{levels, row_of}
 use Rattle.card.specs.Card.{rules, with_state, takes, answers}
-use Rattle.card.specs.CardLaws.{sit₁, rules_state}
+use Rattle.card.proofs.CardLaws.{sit₁, rules_state}
 use Rattle.field.specs.Field.{all_take, heard_from}
 use Rattle.field.specs.Merge.{join, merge}
 use Rattle.sweep_rules.specs.Demand.{halted}

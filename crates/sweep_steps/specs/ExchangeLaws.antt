@@ -2,14 +2,14 @@
 use Rattle.std.specs.Prelude.{◌≡◌, refl, ℕ, ◌+◌, ◌≤◌, true, List, [], ◌∷◌, ◌++◌, length, take, drop, replicate}
 use Rattle.std.proofs.Common.{sym, ap, ◌∙◌, arith, length-append}
 use Rattle.rows.specs.Rows.{overlay, clean}
-use Rattle.rows.specs.RowLaws.{overlay_front, overlay_next}
+use Rattle.rows.proofs.RowLaws.{overlay_front, overlay_next}
 use Rattle.reader.specs.Reader.{frame}
 use Rattle.field.specs.Calls.{together}
 use Rattle.field.specs.Field.{heard_from}
 use Rattle.field.specs.TakeLaws.{front_fits}
 use Rattle.field.specs.declared.within.Together.{Together}
 use Rattle.air_log.specs.Log.{sent_heard, tick_bytes, exchange_bytes, exchange_size, sent_record, heard_record}
-use Rattle.air_log.specs.RecordLaws.{exchange_size_law}
+use Rattle.air_log.proofs.RecordLaws.{exchange_size_law}
 use Rattle.card.specs.declared.Card.{Card}
 use Rattle.reader.specs.declared.Reader.{Reader}
 use Rattle.sweep_steps.specs.Steps.{aired}

@@ -2,7 +2,7 @@
 use Rattle.std.specs.Prelude.{◌≡◌, refl, ℕ, suc, ◌+◌, ◌-◌, ◌*◌, ◌≤◌, List, [], ◌∷◌, ◌++◌, length, take}
 use Rattle.std.proofs.Common.{sym, ap, ◌∙◌, arith, append-nil, length-take}
 use Rattle.rows.specs.Rows.{overlay, fill}
-use Rattle.rows.specs.RowLaws.{overlay_nil}
+use Rattle.rows.proofs.RowLaws.{overlay_nil}
 use Rattle.rows.specs.EachLaws.{length_fill}
 use Rattle.uid.specs.Uid.{byte_count, uid_bytes}
 use Rattle.uid.specs.declared.Uid.{Uid}

@@ -10,13 +10,13 @@ use Rattle.std.proofs.Math.ListN.{length, drop, length-append}
 use Rattle.std.proofs.lemmas.List.{length-map, length-replicate}
 use native.Mathlib.Omega.{arith}
 use Rattle.rows.specs.Rows.{overlay, fill}
-use Rattle.rows.specs.RowLaws.{overlay_nil, overlay_next, length_overlay}
+use Rattle.rows.proofs.RowLaws.{overlay_nil, overlay_next, length_overlay}
 use Rattle.uid.specs.Uid.{uid_bytes}
 use Rattle.reader.specs.Reader.{frame}
 use Rattle.field.specs.Calls.{cards_after}
 use Rattle.field.specs.Field.{all_take}
 use Rattle.air_log.specs.Log.{exchange_bytes, log_bytes, exchange_size, log_size, list_bytes, entry_bytes}
-use Rattle.air_log.specs.RecordLaws.{exchange_size_law, log_size_law, log_size_next}
+use Rattle.air_log.proofs.RecordLaws.{exchange_size_law, log_size_law, log_size_next}
 use Rattle.limits.specs.Limits.{most_cards}
 use Rattle.sweep_rules.specs.Run.{Out, before, finding, ended, follow}
 use Rattle.card.specs.declared.Card.{Card}

@@ -7,7 +7,7 @@ use Rattle.air_log.specs.Log.{log_size, list_bytes}
 use Rattle.limits.specs.Limits.{most_cards, most_frames}
 use Rattle.memory.specs.Memory.{Recall, recall, hear_if}
 use Rattle.memory.specs.Stored.{path_of, stored, memory_of}
-use Rattle.memory.specs.StoredLaws.{path_at}
+use Rattle.memory.proofs.StoredLaws.{path_at}
 use Rattle.sweep_rules.specs.Run.{Out, sweep}
 use Rattle.sweep_rules.specs.RunLaws.{run_as_plain}
 use Rattle.card.specs.declared.Card.{Card}

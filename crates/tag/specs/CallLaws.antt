@@ -2,7 +2,7 @@
 use Rattle.std.specs.Prelude.{◌≡◌, refl, ℕ, ◌+◌, ◌-◌, ◌*◌, ◌≤◌, ◌<◌, max, Bool, true, false, cond, not, ◌||◌, List, length, take, drop, ltb}
 use Rattle.std.proofs.Common.{sym, ap, ◌∙◌, mul-le-mul_right, mul_comm, mul-add, mul-le-mul, le_trans, arith, true≢false, length-take, length-drop, take_all, ltb-false}
 use Rattle.rows.specs.Rows.{overlay, clean}
-use Rattle.rows.specs.RowLaws.{overlay_part}
+use Rattle.rows.proofs.RowLaws.{overlay_part}
 use Rattle.rows.specs.HeardLaws.{clean_take, clean_drop}
 use Rattle.frame.specs.Frame.{bytes_of}
 use Rattle.frame_v.specs.FrameV.{bytes_in, sound}

@@ -7,7 +7,7 @@ use native.Mathlib.Omega.{arith}
 use Rattle.std.proofs.Math.Bool.{true, false}
 use Rattle.std.proofs.Math.ListN.{take}
 use Rattle.rows.specs.Rows.{overlay, Bytes}
-use Rattle.rows.specs.RowLaws.{overlay_next}
+use Rattle.rows.proofs.RowLaws.{overlay_next}
 use Rattle.rows.specs.ListLaws.{all_take_law, all_drop, all_append}
 use Rattle.parity.specs.BitLaws.{length_bits}
 use Rattle.frame.specs.Frame.{air_bits}

@@ -12,7 +12,7 @@ use Rattle.frame_v.specs.FrameVLaws.{Sound, sound_is}
 use Rattle.request_v.specs.Flags.{flags_of, formed, is_off, listens, is_selected}
 use Rattle.request_v.specs.Inventory.{length_at, is_inventory, admitted, matching, slot_of, turn_in, inventory_deed}
 use Rattle.request_v.specs.Request.{is_command, is_read, count_of, length_due, absent, any_locked, lock_error, option_error, error_of, fails_with, done_of, command_deed, meant, is_bare, parameters_at, quiet_deed, lone_select, asked_deed, own_deed, other_deed, request_deed, deed_by, deed_of}
-use Rattle.request_v.specs.RequestLaws.{not_absent, meant_long}
+use Rattle.request_v.proofs.RequestLaws.{not_absent, meant_long}
 use Rattle.request_v.specs.declared.Tag.{Tag}
 use Rattle.request_v.specs.declared.Flags.{Flags}
 use Rattle.request_v.specs.declared.Deed.{Deed}

@@ -7,7 +7,7 @@ use native.Mathlib.Omega.{arith}
 use Rattle.std.proofs.Math.ListN.{length, drop, length-drop}
 use Rattle.std.proofs.Math.Seq.{take-append-le, drop-append-le, drop-append-add, drop-drop}
 use Rattle.rows.specs.Rows.{overlay}
-use Rattle.rows.specs.RowLaws.{length_overlay}
+use Rattle.rows.proofs.RowLaws.{length_overlay}
 use Rattle.frame.specs.Frame.{bytes_of}
 use Rattle.frame.specs.ByteLaws.{length_bytes}
 use Rattle.request_v.specs.Request.{deed_of}

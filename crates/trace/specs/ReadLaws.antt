@@ -3,7 +3,7 @@ use Rattle.std.specs.Prelude.{◌≡◌, refl, ℕ, zero, suc, ◌+◌, ◌-◌,
 use Rattle.std.proofs.Common.{sym, ap, ap₂, ◌∙◌, not-suc-le-zero, zero-add, arith, length-take, length-drop, length-take-le, get_or-take, take_all, Fits}
 use Rattle.std.specs.Int.{w8}
 use Rattle.rows.specs.Rows.{overlay}
-use Rattle.rows.specs.RowLaws.{overlay_copy}
+use Rattle.rows.proofs.RowLaws.{overlay_copy}
 use Rattle.air_log.specs.Calls.{most_bits, row_size}
 use Rattle.air_log.specs.Reading.{bits_from, row_at, bit_count, record_at}
 use Rattle.air_log.specs.UnpackLaws.{bits_enough}

@@ -14,7 +14,7 @@ use Rattle.rows.specs.CleanLaws.{bits_clean, bit_two}
 use Rattle.air_log.specs.Log.{packed, pack, header, plain, marks, sent_record, heard_record}
 use Rattle.air_log.specs.Calls.{row_size}
 use Rattle.air_log.specs.Reading.{row_at, fill_at, bits_from, zeros, apart, kind_of, zero_bit, bit_count}
-use Rattle.air_log.specs.RecordLaws.{plain_clean, heard_clean, heard_collided}
+use Rattle.air_log.proofs.RecordLaws.{plain_clean, heard_clean, heard_collided}
 use Rattle.air_log.specs.UnpackLaws.{bits_enough}
 use Rattle.trace_rules.specs.Trace.{marked}
 use Rattle.trace_rules.specs.PackBackLaws.{row_bits_law, row_packed}

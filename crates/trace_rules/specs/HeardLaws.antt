@@ -5,7 +5,7 @@ use Rattle.rows.specs.ListLaws.{all_drop}
 use Rattle.rows.specs.EachLaws.{all_weaken}
 use Rattle.rows.specs.Rows.{All, Bits, same}
 use Rattle.frame.specs.Frame.{standard}
-use Rattle.frame.specs.FrameLaws.{bits_standard}
+use Rattle.frame.proofs.FrameLaws.{bits_standard}
 use Rattle.uid.specs.Uid.{place, levels}
 use Rattle.selection.specs.Selection.{cut, reqa, wupa, hlta, select, others, sak_frame, atqa, rats, ats, at_most8}
 use Rattle.card.specs.Card.{Step, bits_sent, fsdi, sak, home, ready_in, chosen, matching, rules, ready, ready_at, active, answers}

@@ -5,15 +5,4 @@ pub mod WholeLaws
 pub mod PackBackLaws
 pub mod BytesBackLaws
 pub mod CleanLaws
-pub mod SweptLaws
-pub mod FieldLaws
 pub mod HeardLaws
-pub mod FollowLaws
-pub mod ContentLaws
-pub mod ReadableLaws
-pub mod MirrorLaws
-pub mod MatchLaws
-pub mod KindRunLaws
-pub mod SweepCleanLaws
-pub mod FaithLaws
-pub mod WitnessLaws

@@ -2,7 +2,7 @@
 use Rattle.std.specs.Prelude.{◌≡◌, refl, ℕ, suc, ◌+◌, ◌*◌, ◌≤◌, ◌<◌, List, [], ◌∷◌, ◌++◌, map, length, take, get_or}
 use Rattle.std.proofs.Common.{ap, ◌∙◌, append_assoc, append-nil, length-append, take-suc, length-take-le, zero-add, add-one, arith}
 use Rattle.rows.specs.Rows.{overlay}
-use Rattle.rows.specs.RowLaws.{overlay_next}
+use Rattle.rows.proofs.RowLaws.{overlay_next}
 use Rattle.parity.specs.Bits.{bits_of}
 use Rattle.parity.specs.BitLaws.{length_bits}
 use Rattle.frame.specs.Frame.{air_bits}

@@ -4,7 +4,6 @@ pub mod Calls
 pub mod SaysLaws
 pub mod LevelLaws
 pub mod BytesAtLaws
-pub mod Table
 pub mod AirLaws
 pub mod FillLaws
 pub mod OrderLaws

@@ -20,7 +20,7 @@ use Rattle.uid.specs.Uid.{place, uid_bytes, levels, row_of}
 use Rattle.uid.specs.UidLaws.{Sound, length_row, uid_in_levels}
 use Rattle.selection.specs.Selection.{reqa, wupa, select, sak_frame, atqa}
 use Rattle.card.specs.Card.{home, ready_in, active_in, up, rules, with_state, takes, answers}
-use Rattle.card.specs.CardLaws.{sit₁, saked, card_sel, rules_state}
+use Rattle.card.proofs.CardLaws.{sit₁, saked, card_sel, rules_state}
 use Rattle.reader.specs.ReaderLaws.{lvl, place_lvl}
 use Rattle.field.specs.Field.{all_take, heard_from}
 use Rattle.field.specs.Merge.{join, merge}

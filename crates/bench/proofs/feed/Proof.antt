@@ -1,7 +1,7 @@
 -- `bench::feed` meets its contract. Assumes nothing.
 use borrow.Author.Tests.{lt-ltb, le-ltb, eq-eqb, ne_eqb}
 use borrow.Author.Rules.{rules}
-use Rattle.rows.specs.RowLaws.{overlay_one}
+use Rattle.rows.proofs.RowLaws.{overlay_one}
 use Rattle.bench.specs.Lines.{fed, fed_bytes}
 use Rattle.bench.proofs.feed.Statement.{statement}
 use Rattle.bench.proofs.feed.Tie as tie

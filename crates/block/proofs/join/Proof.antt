@@ -4,7 +4,7 @@ use lib.ListN.{length, length-take, length-drop}
 use native.Mathlib.Omega.{arith}
 use borrow.Author.Rules.{rules}
 use Rattle.block.specs.CutLaws.{fits_true}
-use Rattle.rows.specs.RowLaws.{overlay_part}
+use Rattle.rows.proofs.RowLaws.{overlay_part}
 use Rattle.block.proofs.join.Statement.{statement}
 use Rattle.block.proofs.join.Tie as tie
 

@@ -4,7 +4,7 @@ use native.Mathlib.Omega.{arith}
 use borrow.Author.Rules.{rules}
 use Rattle.block.specs.CutLaws.{part_none, part_cut}
 use Rattle.block.specs.Cut.{part_bytes}
-use Rattle.rows.specs.RowLaws.{overlay_nil}
+use Rattle.rows.proofs.RowLaws.{overlay_nil}
 use Rattle.rows.specs.Rows.{overlay}
 use Rattle.block.proofs.payload_in.Statement.{statement}
 use Rattle.block.proofs.payload_in.Tie as tie

@@ -1,7 +1,7 @@
 -- `exchange::advance` meets its contract, by those of `told_by`, `bits_of` and `count_in`. Assumes nothing.
 use native.Mathlib.Omega.{arith}
 use Rattle.exchange.specs.Steps.{advanced}
-use Rattle.exchange.specs.RunLaws.{count_most}
+use Rattle.exchange.proofs.RunLaws.{count_most}
 use borrow.Author.Rules.{rules}
 use Rattle.exchange.proofs.advance.Statement.{statement}
 use Rattle.exchange.proofs.advance.Tie as tie

@@ -2,7 +2,7 @@
 use mathlib.Core.Path.{◌∙◌}
 use borrow.Author.Rules.{rules}
 use Rattle.rows.specs.ListLaws.{bytes_at_law}
-use Rattle.exchange.specs.RunLaws.{clean_is, exchanges}
+use Rattle.exchange.proofs.RunLaws.{clean_is, exchanges}
 use Rattle.exchange.proofs.exchange.Statement.{statement}
 use Rattle.exchange.proofs.exchange.Tie as tie
 

@@ -6,7 +6,7 @@ use native.Mathlib.Omega.{arith}
 use borrow.Author.Rules.{rules}
 use Rattle.exchange.specs.Lossy.{round_by}
 use Rattle.exchange.specs.Steps.{goes_on, state_of, rest_of, outcome_of}
-use Rattle.exchange.specs.RunLaws.{Script, scripted, Under, under_none, rest_first, goes_left, fewer, under_turn, under_done}
+use Rattle.exchange.proofs.RunLaws.{Script, scripted, Under, under_none, rest_first, goes_left, fewer, under_turn, under_done}
 use Rattle.exchange.proofs.lossy.Statement.{statement}
 use Rattle.exchange.proofs.lossy.Tie as tie
 

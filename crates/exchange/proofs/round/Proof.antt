@@ -3,7 +3,7 @@ use mathlib.Core.Path.{sym}
 use native.Mathlib.Omega.{arith}
 use lib.Seq.{length-take-le}
 use Rattle.exchange.specs.Lossy.{round_by}
-use Rattle.exchange.specs.RunLaws.{host_of, round_made}
+use Rattle.exchange.proofs.RunLaws.{host_of, round_made}
 use borrow.Author.Rules.{rules}
 use Rattle.exchange.proofs.round.Statement.{statement}
 use Rattle.exchange.proofs.round.Tie as tie

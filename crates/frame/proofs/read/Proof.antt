@@ -1,7 +1,7 @@
 -- `frame::read` meets its contract, by that of `read_within`: what it answers, in the table's numbers. Assumes nothing.
 use mathlib.Core.Path.{ap, ◌∙◌}
 use Rattle.frame.specs.Calls.{received_says}
-use Rattle.frame.specs.SaysLaws.{says_read}
+use Rattle.frame.proofs.SaysLaws.{says_read}
 use borrow.Author.Rules.{rules}
 use Rattle.frame.proofs.read.Statement.{statement}
 use Rattle.frame.proofs.read.Tie as tie

@@ -2,8 +2,8 @@
 use mathlib.Core.Path.{refl, sym}
 use native.Mathlib.Omega.{arith}
 use lib.ListN.{length}
-use Rattle.frame.specs.LoopLaws.{standard_crc}
-use Rattle.frame.specs.SaysLaws.{no_room, has_room}
+use Rattle.frame.proofs.LoopLaws.{standard_crc}
+use Rattle.frame.proofs.SaysLaws.{no_room, has_room}
 use borrow.Author.Rules.{rules}
 use Rattle.frame.proofs.write_crc.Statement.{statement}
 use Rattle.frame.proofs.write_crc.Tie as tie

@@ -5,7 +5,7 @@ use Prim.Native.Nat.{ℕ}
 use lib.ListN.{length, take, length-take}
 use Rattle.parity.specs.Bits.{bits_of}
 use Rattle.frame.specs.Frame.{short}
-use Rattle.frame.specs.SaysLaws.{short_no_room, short_has_room}
+use Rattle.frame.proofs.SaysLaws.{short_no_room, short_has_room}
 use borrow.Author.Rules.{rules}
 use Rattle.frame.proofs.write_short.Statement.{statement}
 use Rattle.frame.proofs.write_short.Tie as tie

@@ -3,8 +3,8 @@ use mathlib.Core.Path.{◌≡◌, refl, sym, ap, ◌∙◌}
 use lib.ListN.{length}
 use borrow.Author.Rules.{rules}
 use borrow.Author.Tests.{not-true, not-false}
-use Rattle.rows.specs.RowLaws.{overlay_nil}
-use Rattle.front.specs.CallLaws.{no_room, not_taken, says_row, taken_at_law}
+use Rattle.rows.proofs.RowLaws.{overlay_nil}
+use Rattle.front.proofs.CallLaws.{no_room, not_taken, says_row, taken_at_law}
 use Rattle.front.proofs.receive.Statement.{statement}
 use Rattle.front.proofs.receive.Tie as tie
 

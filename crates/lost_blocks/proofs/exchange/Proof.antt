@@ -1,7 +1,7 @@
 -- `lost_blocks::exchange` meets its contract, by that of `exchange::lossy`. Assumes nothing.
 use borrow.Author.Rules.{rules}
 use Rattle.rows.specs.ListLaws.{bytes_at_law}
-use Rattle.lost_blocks.specs.PromiseLaws.{survives}
+use Rattle.lost_blocks.proofs.PromiseLaws.{survives}
 use Rattle.lost_blocks.proofs.exchange.Statement.{statement}
 use Rattle.lost_blocks.proofs.exchange.Tie as tie
 

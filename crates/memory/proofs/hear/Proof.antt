@@ -3,7 +3,7 @@ use mathlib.Core.Path.{sym, ◌∙◌}
 use borrow.Author.Tests.{not-true, not-false}
 use Rattle.reader.specs.Calls.{row_after}
 use Rattle.reader.specs.SakLevelLaws.{completed_valid}
-use Rattle.memory.specs.CallLaws.{hear_not_due, hear_room, hear_due, hear_says_law, heard_valid, refused_row_law, refused_valid}
+use Rattle.memory.proofs.CallLaws.{hear_not_due, hear_room, hear_due, hear_says_law, heard_valid, refused_row_law, refused_valid}
 use borrow.Author.Rules.{rules}
 use Rattle.memory.proofs.hear.Statement.{statement}
 use Rattle.memory.proofs.hear.Tie as tie

@@ -4,7 +4,7 @@ use mathlib.Core.List.{[]}
 use Rattle.memory.specs.Calls.{start_call}
 use Rattle.memory.specs.Memory.{recall}
 use Rattle.memory.specs.Stored.{memory_of}
-use Rattle.memory.specs.StoredLaws.{made_memory}
+use Rattle.memory.proofs.StoredLaws.{made_memory}
 use borrow.Author.Rules.{rules}
 use Rattle.memory.proofs.start_sweep.Statement.{statement}
 use Rattle.memory.proofs.start_sweep.Tie as tie

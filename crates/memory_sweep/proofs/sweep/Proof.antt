@@ -4,7 +4,7 @@ use borrow.Author.Rules.{rules}
 use lib.ListN.{take}
 use Rattle.memory_rules.specs.Run.{recalled}
 use Rattle.sweep_steps.specs.Loop.{swept_if}
-use Rattle.sweep.specs.CallLaws.{same_run}
+use Rattle.sweep.proofs.CallLaws.{same_run}
 use Rattle.memory_sweep.proofs.Kept.{swept_recalled, loop_fits, promised}
 use Rattle.memory_sweep.proofs.sweep.Statement.{statement}
 use Rattle.memory_sweep.proofs.sweep.Tie as tie

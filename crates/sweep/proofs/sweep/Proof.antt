@@ -5,7 +5,7 @@ use lib.ListN.{take}
 use Rattle.sweep_rules.specs.Run.{sweep}
 use Rattle.sweep_steps.specs.Loop.{swept_if}
 use Rattle.sweep_steps.specs.LoopLaws.{swept_plain}
-use Rattle.sweep.specs.CallLaws.{same_run}
+use Rattle.sweep.proofs.CallLaws.{same_run}
 use Rattle.sweep.proofs.Kept.{loop_fits, promised}
 use Rattle.sweep.proofs.sweep.Statement.{statement}
 use Rattle.sweep.proofs.sweep.Tie as tie

@@ -68,7 +68,7 @@ use Rattle.sweep_row.proofs.within.opening.Met as opening-thm
 use Rattle.sweep_row.specs.contracts.within.turn as turn
 use Rattle.sweep_row.proofs.within.turn.Symbol as turn-def
 use Rattle.sweep_row.proofs.within.turn.Met as turn-thm
-use Rattle.sweep.specs.CallLaws.{Promised}
+use Rattle.sweep.proofs.CallLaws.{Promised}
 use Rattle.sweep_row.specs.Row.{no_card, swept_row, Ready, Turns}
 use Rattle.sweep_row.specs.Under.{Opened, Under, measure}
 use Rattle.sweep_row.proofs.Carried.{promised}

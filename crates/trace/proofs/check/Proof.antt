@@ -2,7 +2,7 @@ use mathlib.Core.Path.{◌∙◌, ap, sym}
 use borrow.Author.Rules.{rules}
 use Rattle.rows.specs.ListLaws.{bytes_at_law}
 use Rattle.trace_rules.specs.Check.{checked_says}
-use Rattle.trace_rules.specs.FaithLaws.{faithful, says}
+use Rattle.trace_rules.proofs.FaithLaws.{faithful, says}
 use Rattle.trace.proofs.check.Statement.{statement}
 use Rattle.trace.proofs.check.Tie as tie
 

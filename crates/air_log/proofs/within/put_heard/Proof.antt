@@ -3,7 +3,7 @@ use borrow.Author.Rules.{rules}
 use mathlib.Core.Path.{sym, ◌∙◌}
 use native.Mathlib.Omega.{arith}
 use Rattle.air_log.specs.Log.{tick_bytes}
-use Rattle.air_log.specs.RecordLaws.{length_tick, heard_silent, heard_clean, length_heard_silent, length_heard_clean, length_heard_collided, marks_written}
+use Rattle.air_log.proofs.RecordLaws.{length_tick, heard_silent, heard_clean, length_heard_silent, length_heard_clean, length_heard_collided, marks_written}
 use Rattle.air_log.proofs.within.put_heard.Statement.{statement}
 use Rattle.air_log.proofs.within.put_heard.Tie as tie
 

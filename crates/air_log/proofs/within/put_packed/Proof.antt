@@ -4,7 +4,7 @@ use mathlib.Core.Path.{◌≡◌, refl, sym}
 use native.Mathlib.Omega.{arith}
 use lib.ListN.{length, length-set}
 use Rattle.rows.specs.Rows.{overlay}
-use Rattle.rows.specs.RowLaws.{overlay_nil}
+use Rattle.rows.proofs.RowLaws.{overlay_nil}
 use Rattle.air_log.specs.Log.{packed}
 use Rattle.air_log.specs.Calls.{shown, row_size}
 use Rattle.air_log.specs.PackLaws.{length_shown, packed_turn}

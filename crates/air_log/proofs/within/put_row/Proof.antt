@@ -4,7 +4,7 @@ use mathlib.Core.Path.{refl}
 use native.Mathlib.Omega.{arith}
 use lib.ListN.{length}
 use Rattle.air_log.specs.Log.{pack, plain}
-use Rattle.air_log.specs.RecordLaws.{length_pack, row_written}
+use Rattle.air_log.proofs.RecordLaws.{length_pack, row_written}
 use mathlib.Core.Bool.{false}
 use Rattle.air_log.proofs.within.put_row.Statement.{statement}
 use Rattle.air_log.proofs.within.put_row.Tie as tie

@@ -2,7 +2,7 @@
 use borrow.Author.Rules.{rules}
 use native.Mathlib.Omega.{arith}
 use Rattle.air_log.specs.Log.{tick_bytes}
-use Rattle.air_log.specs.RecordLaws.{length_sent, length_tick, sent_shown}
+use Rattle.air_log.proofs.RecordLaws.{length_sent, length_tick, sent_shown}
 use Rattle.air_log.proofs.within.put_sent.Statement.{statement}
 use Rattle.air_log.proofs.within.put_sent.Tie as tie
 

@@ -5,7 +5,7 @@ use native.Mathlib.Omega.{arith}
 use lib.ListN.{length, take, length-set}
 use lib.Seq.{take_all}
 use Rattle.rows.specs.Rows.{overlay}
-use Rattle.rows.specs.RowLaws.{overlay_nil}
+use Rattle.rows.proofs.RowLaws.{overlay_nil}
 use Rattle.bench_values.specs.Values.{hex_bytes}
 use Rattle.bench_values.specs.ValueLaws.{copy_front, hex_at, length_hex_bytes}
 use Rattle.bench_values.proofs.within.write_hex.Statement.{statement}

@@ -5,7 +5,7 @@ use native.Mathlib.Omega.{arith}
 use lib.ListN.{length, take, length-set}
 use lib.Seq.{take_all}
 use Rattle.rows.specs.Rows.{overlay}
-use Rattle.rows.specs.RowLaws.{overlay_nil}
+use Rattle.rows.proofs.RowLaws.{overlay_nil}
 use Rattle.bench_values.specs.Values.{row_bits}
 use Rattle.bench_values.specs.ValueLaws.{copy_front, row_at, length_row_bits}
 use Rattle.bench_values.proofs.within.write_row.Statement.{statement}

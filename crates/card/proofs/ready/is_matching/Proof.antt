@@ -2,7 +2,7 @@
 use native.Mathlib.Omega.{arith}
 use mathlib.Core.Path.{◌∙◌}
 use borrow.Author.Rules.{rules}
-use Rattle.card.specs.ReadyLaws.{match_told, match_none}
+use Rattle.card.proofs.ReadyLaws.{match_told, match_none}
 use Rattle.card.proofs.ready.is_matching.Statement.{statement}
 use Rattle.card.proofs.ready.is_matching.Tie as tie
 

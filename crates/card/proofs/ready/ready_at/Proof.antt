@@ -6,7 +6,7 @@ use native.Mathlib.Omega.{arith}
 use borrow.Author.Rules.{rules}
 use Rattle.selection.specs.Selection.{others}
 use Rattle.card.specs.Card.{ready_in}
-use Rattle.card.specs.ReadyLaws.{match_few, ready_step}
+use Rattle.card.proofs.ReadyLaws.{match_few, ready_step}
 use Rattle.card.specs.TakenLaws.{handed, unmoved, told}
 use Rattle.card.proofs.ready.ready_at.Statement.{statement}
 use Rattle.card.proofs.ready.ready_at.Tie as tie

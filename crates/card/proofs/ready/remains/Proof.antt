@@ -1,7 +1,7 @@
 -- `card::ready::remains` meets its contract, by those of `place` and `level_count`. Assumes nothing.
 use native.Mathlib.Omega.{arith}
 use borrow.Author.Rules.{rules}
-use Rattle.card.specs.ReadyLaws.{place_most, remain_is}
+use Rattle.card.proofs.ReadyLaws.{place_most, remain_is}
 use Rattle.card.proofs.ready.remains.Statement.{statement}
 use Rattle.card.proofs.ready.remains.Tie as tie
 

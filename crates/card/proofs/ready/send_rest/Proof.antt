@@ -1,7 +1,7 @@
 -- `card::ready::send_rest` meets its contract: the rest of the row is what the definition drops to. Assumes nothing.
 use mathlib.Core.Path.{ap₂}
 use borrow.Author.Rules.{rules}
-use Rattle.card.specs.ReadyLaws.{rest_made}
+use Rattle.card.proofs.ReadyLaws.{rest_made}
 use Rattle.card.specs.TakenLaws.{handed}
 use Rattle.card.proofs.ready.send_rest.Statement.{statement}
 use Rattle.card.proofs.ready.send_rest.Tie as tie

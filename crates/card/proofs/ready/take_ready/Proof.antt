@@ -3,7 +3,7 @@ use mathlib.Core.Path.{ap, ◌∙◌}
 use mathlib.Core.List.{[]}
 use native.Mathlib.Omega.{arith}
 use borrow.Author.Rules.{rules}
-use Rattle.card.specs.ReadyLaws.{place_most, level_step, level_none}
+use Rattle.card.proofs.ReadyLaws.{place_most, level_step, level_none}
 use Rattle.card.specs.TakenLaws.{handed, unmoved}
 use Rattle.card.proofs.ready.take_ready.Statement.{statement}
 use Rattle.card.proofs.ready.take_ready.Tie as tie

@@ -9,7 +9,7 @@ use Rattle.selection.specs.Selection.{ats, at_most8}
 use Rattle.selection.specs.SizeLaws.{index_most}
 use Rattle.card.specs.declared.CardState.TheVariants.{Protocol}
 use Rattle.card.specs.RatsLaws.{rats_is}
-use Rattle.card.specs.RulesLaws.{active_step}
+use Rattle.card.proofs.RulesLaws.{active_step}
 use Rattle.card.specs.TakenLaws.{handed, unmoved, told}
 use Rattle.card.proofs.within.take_active.Statement.{statement}
 use Rattle.card.proofs.within.take_active.Tie as tie

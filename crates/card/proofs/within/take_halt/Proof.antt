@@ -1,7 +1,7 @@
 -- `card::within::take_halt` meets its contract: the rules of Halt at what the test told. Assumes nothing.
 use mathlib.Core.Bool.{true, false}
 use borrow.Author.Rules.{rules}
-use Rattle.card.specs.RulesLaws.{halt_step}
+use Rattle.card.proofs.RulesLaws.{halt_step}
 use Rattle.card.specs.TakenLaws.{handed, unmoved, told}
 use Rattle.card.proofs.within.take_halt.Statement.{statement}
 use Rattle.card.proofs.within.take_halt.Tie as tie

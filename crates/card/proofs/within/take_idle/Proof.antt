@@ -2,7 +2,7 @@
 use mathlib.Core.Path.{refl}
 use mathlib.Core.Bool.{true, false}
 use borrow.Author.Rules.{rules}
-use Rattle.card.specs.RulesLaws.{idle_step}
+use Rattle.card.proofs.RulesLaws.{idle_step}
 use Rattle.card.specs.TakenLaws.{handed, unmoved, told}
 use Rattle.card.proofs.within.take_idle.Statement.{statement}
 use Rattle.card.proofs.within.take_idle.Tie as tie

@@ -5,7 +5,7 @@ use borrow.Author.Tests.{not-true, not-false}
 use Rattle.card_blocks.specs.CardFrames.{card_out, card_wtx}
 use Rattle.card_link.specs.CardCalls.{with_row, owing, ask_call}
 use Rattle.card_link.specs.WholeLaws.{two, two_not_due, two_room, two_due}
-use Rattle.card_link.specs.SaysLaws.{ask_said}
+use Rattle.card_link.proofs.SaysLaws.{ask_said}
 use borrow.Author.Rules.{rules}
 use Rattle.card_link.proofs.whole.ask.Statement.{statement}
 use Rattle.card_link.proofs.whole.ask.Tie as tie

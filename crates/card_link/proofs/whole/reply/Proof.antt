@@ -5,7 +5,7 @@ use borrow.Author.Tests.{not-true, not-false}
 use Rattle.card_blocks.specs.CardFrames.{card_out, card_reply}
 use Rattle.card_link.specs.CardCalls.{with_row, owing, reply_call}
 use Rattle.card_link.specs.WholeLaws.{two, two_not_due, two_room, two_due}
-use Rattle.card_link.specs.SaysLaws.{reply_said}
+use Rattle.card_link.proofs.SaysLaws.{reply_said}
 use borrow.Author.Rules.{rules}
 use Rattle.card_link.proofs.whole.reply.Statement.{statement}
 use Rattle.card_link.proofs.whole.reply.Tie as tie

@@ -1,7 +1,7 @@
 -- `card_link::whole::take` meets its contract, by that of `take_due`. Assumes nothing.
 use mathlib.Core.Path.{sym, ◌∙◌}
 use Rattle.card_link.specs.WholeLaws.{take_not_due, take_room, take_due}
-use Rattle.card_link.specs.SaysLaws.{take_said}
+use Rattle.card_link.proofs.SaysLaws.{take_said}
 use borrow.Author.Rules.{rules}
 use Rattle.card_link.proofs.whole.take.Statement.{statement}
 use Rattle.card_link.proofs.whole.take.Tie as tie

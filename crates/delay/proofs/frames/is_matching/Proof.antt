@@ -1,6 +1,6 @@
 -- `delay::frames::is_matching` meets its contract: fewer than 40 bits are sent, or more. Assumes nothing.
 use Rattle.std.proofs.Common.{◌∙◌, arith, rules}
-use Rattle.card.specs.ReadyLaws.{match_told, match_none}
+use Rattle.card.proofs.ReadyLaws.{match_told, match_none}
 use Rattle.delay.proofs.frames.is_matching.Statement.{statement}
 use Rattle.delay.proofs.frames.is_matching.Tie as tie
 

@@ -6,7 +6,7 @@ use borrow.Author.Rules.{rules}
 use lib.ListN.{length, take, length-set}
 use lib.Seq.{length-take-le}
 use Rattle.rows.specs.Rows.{overlay}
-use Rattle.rows.specs.RowLaws.{overlay_nil}
+use Rattle.rows.proofs.RowLaws.{overlay_nil}
 use Rattle.field.specs.Merge.{join}
 use Rattle.field.specs.JoinLaws.{length_join_most, length_join_more, join_turn, join_done}
 use Rattle.field.proofs.within.join.Statement.{statement}

@@ -6,7 +6,7 @@ use borrow.Author.Rules.{rules}
 use lib.ListN.{length, length-set}
 use Rattle.limits.specs.Limits.{most_cards}
 use Rattle.field.specs.TakeLaws.{Under, under_turn, from_none, from_done, heard_none, front_fits}
-use Rattle.rows.specs.RowLaws.{overlay_nil}
+use Rattle.rows.proofs.RowLaws.{overlay_nil}
 use Rattle.field.proofs.within.take_all.Statement.{statement}
 use Rattle.field.proofs.within.take_all.Tie as tie
 

@@ -7,7 +7,7 @@ use lib.ListN.{length, length-set}
 use Rattle.field_b.specs.TakeBLaws.{Under, under_turn, from_done, heard_none}
 use Rattle.field.specs.TakeLaws.{from_none, front_fits}
 use Rattle.limits.specs.Limits.{most_cards}
-use Rattle.rows.specs.RowLaws.{overlay_nil}
+use Rattle.rows.proofs.RowLaws.{overlay_nil}
 use Rattle.field_b.proofs.within.take_all.Statement.{statement}
 use Rattle.field_b.proofs.within.take_all.Tie as tie
 

@@ -3,10 +3,10 @@ use mathlib.Core.Path.{◌≡◌, sym, ◌∙◌}
 use native.Mathlib.Omega.{arith}
 use lib.ListN.{length, drop, length-set}
 use Rattle.rows.specs.Rows.{overlay}
-use Rattle.rows.specs.RowLaws.{overlay_nil}
+use Rattle.rows.proofs.RowLaws.{overlay_nil}
 use Rattle.rows.specs.HeardLaws.{clean_take, clean_drop}
 use Rattle.frame.specs.Frame.{data_of, bytes_of}
-use Rattle.frame.specs.LoopLaws.{bytes_turn}
+use Rattle.frame.proofs.LoopLaws.{bytes_turn}
 use Rattle.frame.proofs.within.bytes_of.Statement.{statement}
 use Rattle.frame.proofs.within.bytes_of.Tie as tie
 

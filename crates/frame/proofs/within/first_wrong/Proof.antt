@@ -4,7 +4,7 @@ use native.Mathlib.Omega.{arith}
 use native.Mathlib.Nat.{sub-zero, add-zero, zero-add}
 use lib.ListN.{length, drop}
 use Rattle.frame.specs.Frame.{first_wrong}
-use Rattle.frame.specs.LoopLaws.{first_next, first_here, first_done}
+use Rattle.frame.proofs.LoopLaws.{first_next, first_here, first_done}
 use Rattle.frame.proofs.within.first_wrong.Statement.{statement}
 use Rattle.frame.proofs.within.first_wrong.Tie as tie
 

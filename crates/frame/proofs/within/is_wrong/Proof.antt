@@ -6,7 +6,7 @@ use borrow.Author.Tests.{not-true, not-false}
 use native.Mathlib.Omega.{arith}
 use lib.ListN.{take, drop}
 use Rattle.rows.specs.Rows.{clean}
-use Rattle.frame.specs.LoopLaws.{wrong_read}
+use Rattle.frame.proofs.LoopLaws.{wrong_read}
 use borrow.Author.Rules.{rules}
 use Rattle.frame.proofs.within.is_wrong.Statement.{statement}
 use Rattle.frame.proofs.within.is_wrong.Tie as tie

@@ -6,10 +6,10 @@ use native.Mathlib.Omega.{arith}
 use lib.ListN.{length, take}
 use lib.Seq.{take_all}
 use Rattle.rows.specs.Rows.{overlay}
-use Rattle.rows.specs.RowLaws.{overlay_nil}
+use Rattle.rows.proofs.RowLaws.{overlay_nil}
 use Rattle.frame.specs.Frame.{standard}
-use Rattle.frame.specs.FrameLaws.{length_air_byte}
-use Rattle.frame.specs.LoopLaws.{standard_turn}
+use Rattle.frame.proofs.FrameLaws.{length_air_byte}
+use Rattle.frame.proofs.LoopLaws.{standard_turn}
 use Rattle.frame.proofs.within.put_bytes.Statement.{statement}
 use Rattle.frame.proofs.within.put_bytes.Tie as tie
 

@@ -3,8 +3,8 @@ use borrow.Author.Tests.{lt-ltb}
 use native.Mathlib.Omega.{arith}
 use Rattle.frame.specs.Frame.{read_crc}
 use Rattle.frame.specs.Calls.{read_answer}
-use Rattle.frame.specs.FrameLaws.{read_size}
-use Rattle.frame.specs.CallLaws.{read_room, refused_verdict, read_verdict}
+use Rattle.frame.proofs.FrameLaws.{read_size}
+use Rattle.frame.proofs.CallLaws.{read_room, refused_verdict, read_verdict}
 use borrow.Author.Rules.{rules}
 use Rattle.frame.proofs.within.read_crc_within.Statement.{statement}
 use Rattle.frame.proofs.within.read_crc_within.Tie as tie

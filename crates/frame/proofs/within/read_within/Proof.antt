@@ -4,11 +4,11 @@ use mathlib.Core.Path.{◌≡◌, refl, sym, ap, ◌∙◌}
 use borrow.Author.Tests.{lt-ltb, le-ltb, not-true, not-false}
 use native.Mathlib.Omega.{arith}
 use Rattle.rows.specs.Rows.{overlay}
-use Rattle.frame.specs.CallLaws.{held_sound}
+use Rattle.frame.proofs.CallLaws.{held_sound}
 use Rattle.frame.specs.Frame.{read_frame}
 use Rattle.frame.specs.Calls.{read_answer}
-use Rattle.frame.specs.FrameLaws.{whole_size, read_good}
-use Rattle.frame.specs.WrongLaws.{found_wrong, found_none}
+use Rattle.frame.proofs.FrameLaws.{whole_size, read_good}
+use Rattle.frame.proofs.WrongLaws.{found_wrong, found_none}
 use Rattle.frame.specs.ByteLaws.{length_bytes}
 use borrow.Author.Rules.{rules}
 use Rattle.frame.proofs.within.read_within.Statement.{statement}

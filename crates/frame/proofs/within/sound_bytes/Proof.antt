@@ -7,10 +7,10 @@ use native.Mathlib.Nat.{sub-zero, zero-add}
 use native.Mathlib.Omega.{arith}
 use lib.ListN.{length, drop, length-set}
 use Rattle.rows.specs.Rows.{overlay}
-use Rattle.rows.specs.RowLaws.{overlay_nil}
+use Rattle.rows.proofs.RowLaws.{overlay_nil}
 use Rattle.rows.specs.HeardLaws.{clean_take, clean_drop}
 use Rattle.frame.specs.Frame.{data_of, bytes_of, first_wrong}
-use Rattle.frame.specs.LoopLaws.{first_next, first_here, first_done, wrong_here, right_here, bytes_turn}
+use Rattle.frame.proofs.LoopLaws.{first_next, first_here, first_done, wrong_here, right_here, bytes_turn}
 use Rattle.frame.proofs.within.sound_bytes.Statement.{statement}
 use Rattle.frame.proofs.within.sound_bytes.Tie as tie
 

@@ -1,4 +1,4 @@
-use Rattle.frame.specs.CallLaws.{held_good}
+use Rattle.frame.proofs.CallLaws.{held_good}
 use Prim.Native.Nat.{◌-◌}
 use mathlib.Core.Path.{◌≡◌, refl, sym, ◌∙◌}
 use borrow.Author.Tests.{not-true, not-false}

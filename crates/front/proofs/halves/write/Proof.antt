@@ -8,9 +8,9 @@ use native.Mathlib.Omega.{arith}
 use lib.ListN.{length, drop, length-set, length-drop}
 use borrow.Author.Rules.{rules, scaled_Fits}
 use Rattle.rows.specs.Rows.{overlay}
-use Rattle.rows.specs.RowLaws.{overlay_nil}
+use Rattle.rows.proofs.RowLaws.{overlay_nil}
 use Rattle.front.specs.Front.{row_at}
-use Rattle.front.specs.LoopLaws.{overlay_shift, row_length, row_ends, row_goes, row_done}
+use Rattle.front.proofs.LoopLaws.{overlay_shift, row_length, row_ends, row_goes, row_done}
 use Rattle.front.proofs.halves.write.Statement.{statement}
 use Rattle.front.proofs.halves.write.Tie as tie
 

@@ -7,7 +7,7 @@ use lib.ListN.{length, drop}
 use borrow.Author.Rules.{rules, scaled_Fits}
 use borrow.Author.Tests.{not-true, not-false}
 use Rattle.front.specs.Front.{energies}
-use Rattle.front.specs.LoopLaws.{energies_next, energies_here, energies_done}
+use Rattle.front.proofs.LoopLaws.{energies_next, energies_here, energies_done}
 use Rattle.front.proofs.tests.are_energies.Statement.{statement}
 use Rattle.front.proofs.tests.are_energies.Tie as tie
 

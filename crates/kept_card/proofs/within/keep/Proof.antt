@@ -1,5 +1,5 @@
 -- `kept_card::within::keep` meets its contract, by the law `settled`. Assumes nothing.
-use Rattle.kept_card.specs.KeptWholeLaws.{settled}
+use Rattle.kept_card.proofs.KeptWholeLaws.{settled}
 use borrow.Author.Rules.{rules}
 use Rattle.kept_card.proofs.within.keep.Statement.{statement}
 use Rattle.kept_card.proofs.within.keep.Tie as tie

@@ -3,7 +3,7 @@ use mathlib.Core.Path.{◌≡◌, sym, ◌∙◌}
 use mathlib.Core.Bool.{true}
 use Rattle.kept.specs.Kept.{told_refuses}
 use Rattle.kept_card.specs.KeptWhole.{link_card_of}
-use Rattle.kept_card.specs.KeptWholeLaws.{stayed, moved}
+use Rattle.kept_card.proofs.KeptWholeLaws.{stayed, moved}
 use borrow.Author.Rules.{rules}
 use Rattle.kept_card.proofs.within.settle.Statement.{statement}
 use Rattle.kept_card.proofs.within.settle.Tie as tie

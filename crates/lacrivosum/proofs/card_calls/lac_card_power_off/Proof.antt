@@ -1,7 +1,7 @@
 -- `lacrivosum::card_calls::lac_card_power_off` meets its contract, by those of `link_card_of`, `power_off` and `settle`. Assumes nothing.
 use mathlib.Core.List.{[]}
 use native.Mathlib.Omega.{arith}
-use Rattle.rows.specs.RowLaws.{overlay_nil}
+use Rattle.rows.proofs.RowLaws.{overlay_nil}
 use Rattle.block.specs.Out.{Out}
 use Rattle.card_link.specs.declared.LinkCard.{LinkCard}
 use mathlib.Core.Path.{sym, ap, ◌∙◌}

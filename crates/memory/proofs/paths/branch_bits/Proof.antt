@@ -5,7 +5,7 @@ use native.Mathlib.Omega.{arith}
 use borrow.Author.Rules.{rules}
 use lib.ListN.{length, take}
 use Rattle.memory.specs.Memory.{branch}
-use Rattle.memory.specs.BranchLaws.{branched_here, branched_less, branched_none}
+use Rattle.memory.proofs.BranchLaws.{branched_here, branched_less, branched_none}
 use Rattle.memory.proofs.paths.branch_bits.Statement.{statement}
 use Rattle.memory.proofs.paths.branch_bits.Tie as tie
 

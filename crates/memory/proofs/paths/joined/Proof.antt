@@ -2,7 +2,7 @@
 use mathlib.Core.Path.{◌≡◌}
 use native.Mathlib.Omega.{arith}
 use lib.ListN.{length, length-take}
-use Rattle.memory.specs.LearnLaws.{made_joined}
+use Rattle.memory.proofs.LearnLaws.{made_joined}
 use borrow.Author.Rules.{rules}
 use Rattle.memory.proofs.paths.joined.Statement.{statement}
 use Rattle.memory.proofs.paths.joined.Tie as tie

@@ -3,7 +3,7 @@ use Prim.Native.Nat.{◌+◌, ◌*◌}
 use native.Mathlib.Omega.{arith}
 use lib.ListN.{length-take, length-drop}
 use Rattle.reader.specs.StepLaws.{place_most}
-use Rattle.memory.specs.LearnLaws.{made_learns, made_learns_none}
+use Rattle.memory.proofs.LearnLaws.{made_learns, made_learns_none}
 use borrow.Author.Rules.{rules}
 use Rattle.memory.proofs.paths.learns.Statement.{statement}
 use Rattle.memory.proofs.paths.learns.Tie as tie

@@ -1,7 +1,7 @@
 -- `memory::paths::marked_bits` meets its contract. Assumes nothing.
 use mathlib.Core.Path.{refl, sym, ◌∙◌}
 use native.Mathlib.Omega.{arith}
-use Rattle.memory.specs.LearnLaws.{marked_plain, marked_last, marked_none}
+use Rattle.memory.proofs.LearnLaws.{marked_plain, marked_last, marked_none}
 use borrow.Author.Rules.{rules}
 use Rattle.memory.proofs.paths.marked_bits.Statement.{statement}
 use Rattle.memory.proofs.paths.marked_bits.Tie as tie

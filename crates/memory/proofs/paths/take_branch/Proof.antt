@@ -3,7 +3,7 @@ use mathlib.Core.Path.{◌≡◌}
 use native.Mathlib.Omega.{arith}
 use lib.ListN.{length, length-take}
 use borrow.Author.Rules.{rules}
-use Rattle.memory.specs.BranchLaws.{made_branch, made_none}
+use Rattle.memory.proofs.BranchLaws.{made_branch, made_none}
 use Rattle.memory.proofs.paths.take_branch.Statement.{statement}
 use Rattle.memory.proofs.paths.take_branch.Tie as tie
 

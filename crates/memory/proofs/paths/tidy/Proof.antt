@@ -2,7 +2,7 @@
 use mathlib.Core.Path.{◌≡◌}
 use native.Mathlib.Omega.{arith}
 use lib.ListN.{length, length-take}
-use Rattle.memory.specs.StoredLaws.{made_tidy}
+use Rattle.memory.proofs.StoredLaws.{made_tidy}
 use borrow.Author.Rules.{rules}
 use Rattle.memory.proofs.paths.tidy.Statement.{statement}
 use Rattle.memory.proofs.paths.tidy.Tie as tie

@@ -1,7 +1,7 @@
 -- `memory::within::comes` meets its contract. Assumes nothing.
 use borrow.Author.Rules.{rules}
 use Rattle.memory.specs.Memory.{comes}
-use Rattle.memory.specs.StoredLaws.{made_memory}
+use Rattle.memory.proofs.StoredLaws.{made_memory}
 use Rattle.memory.proofs.within.comes.Statement.{statement}
 use Rattle.memory.proofs.within.comes.Tie as tie
 

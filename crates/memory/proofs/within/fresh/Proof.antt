@@ -3,7 +3,7 @@ use mathlib.Core.List.{[]}
 use Rattle.reader.specs.Reader.{sends}
 use Rattle.memory.specs.Memory.{recall}
 use Rattle.memory.specs.Stored.{memory_of}
-use Rattle.memory.specs.StoredLaws.{made_memory}
+use Rattle.memory.proofs.StoredLaws.{made_memory}
 use borrow.Author.Rules.{rules}
 use Rattle.memory.proofs.within.fresh.Statement.{statement}
 use Rattle.memory.proofs.within.fresh.Tie as tie

@@ -3,7 +3,7 @@ use mathlib.Core.Path.{ap, ◌∙◌}
 use mathlib.Core.List.{[]}
 use Rattle.memory.specs.Memory.{recall, hear_if}
 use Rattle.memory.specs.Stored.{path_of, memory_of}
-use Rattle.memory.specs.StoredLaws.{made_memory}
+use Rattle.memory.proofs.StoredLaws.{made_memory}
 use borrow.Author.Rules.{rules}
 use Rattle.memory.proofs.within.hear_if.Statement.{statement}
 use Rattle.memory.proofs.within.hear_if.Tie as tie

@@ -2,7 +2,7 @@
 use mathlib.Core.Path.{ap, ap₂}
 use Rattle.memory.specs.Memory.{recall, branch, comes, stays}
 use Rattle.memory.specs.Stored.{path_of}
-use Rattle.memory.specs.StoredLaws.{kept_stored, path_at, heard_at, rest_heard}
+use Rattle.memory.proofs.StoredLaws.{kept_stored, path_at, heard_at, rest_heard}
 use Rattle.uid.specs.declared.Level.TheVariants.{One}
 use borrow.Author.Rules.{rules}
 use Rattle.memory.proofs.within.hear_kept.Statement.{statement}

@@ -6,7 +6,7 @@ use lib.ListN.{take}
 use Rattle.uid.specs.Uid.{place}
 use Rattle.memory.specs.Memory.{learnt, stays}
 use Rattle.memory.specs.Stored.{path_of, memory_of}
-use Rattle.memory.specs.StoredLaws.{kept_stored, path_at}
+use Rattle.memory.proofs.StoredLaws.{kept_stored, path_at}
 use borrow.Author.Rules.{rules}
 use Rattle.memory.proofs.within.hear_rest.Statement.{statement}
 use Rattle.memory.proofs.within.hear_rest.Tie as tie

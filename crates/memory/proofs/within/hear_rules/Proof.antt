@@ -2,7 +2,7 @@
 use mathlib.Core.Path.{ap, ◌∙◌}
 use Rattle.memory.specs.Memory.{hear}
 use Rattle.memory.specs.Stored.{path_of, memory_of}
-use Rattle.memory.specs.StoredLaws.{kept_stored, path_at}
+use Rattle.memory.proofs.StoredLaws.{kept_stored, path_at}
 use borrow.Author.Rules.{rules}
 use Rattle.memory.proofs.within.hear_rules.Statement.{statement}
 use Rattle.memory.proofs.within.hear_rules.Tie as tie

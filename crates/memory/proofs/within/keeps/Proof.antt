@@ -2,7 +2,7 @@
 use mathlib.Core.Path.{sym, ap, ◌∙◌}
 use mathlib.Core.Bool.{true, false}
 use Rattle.memory.specs.Stored.{path_of, stored}
-use Rattle.memory.specs.StoredLaws.{keeps_on}
+use Rattle.memory.proofs.StoredLaws.{keeps_on}
 use borrow.Author.Rules.{rules}
 use Rattle.memory.proofs.within.keeps.Statement.{statement}
 use Rattle.memory.proofs.within.keeps.Tie as tie

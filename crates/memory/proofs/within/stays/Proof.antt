@@ -1,7 +1,7 @@
 -- `memory::within::stays` meets its contract. Assumes nothing.
 use borrow.Author.Rules.{rules}
 use Rattle.memory.specs.Memory.{stays}
-use Rattle.memory.specs.StoredLaws.{made_memory}
+use Rattle.memory.proofs.StoredLaws.{made_memory}
 use Rattle.memory.proofs.within.stays.Statement.{statement}
 use Rattle.memory.proofs.within.stays.Tie as tie
 

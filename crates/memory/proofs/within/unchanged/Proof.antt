@@ -1,6 +1,6 @@
 -- `memory::within::unchanged` meets its contract. Assumes nothing.
 use Rattle.memory.specs.Stored.{path_of}
-use Rattle.memory.specs.StoredLaws.{made_memory}
+use Rattle.memory.proofs.StoredLaws.{made_memory}
 use Rattle.memory.proofs.within.unchanged.Statement.{statement}
 use Rattle.memory.proofs.within.unchanged.Tie as tie
 

@@ -1,6 +1,6 @@
 use mathlib.Core.Path.{◌≡◌, sym, ap, ◌∙◌}
 use Rattle.rows.specs.Rows.{overlay}
-use Rattle.rows.specs.RowLaws.{overlay_nil}
+use Rattle.rows.proofs.RowLaws.{overlay_nil}
 use Rattle.reader.specs.Calls.{sent_by}
 use borrow.Author.Rules.{rules}
 use Rattle.reader.proofs.within.put_sent.Statement.{statement}

@@ -3,7 +3,7 @@ use mathlib.Core.Path.{sym, ◌∙◌}
 use borrow.Author.Tests.{not-true, not-false}
 use Rattle.reader_link.specs.ReaderCalls.{between, deselect_call}
 use Rattle.reader_link.specs.WholeLaws.{two_not_due, two_no_room, two_is_due}
-use Rattle.reader_link.specs.SaysLaws.{deselect_said}
+use Rattle.reader_link.proofs.SaysLaws.{deselect_said}
 use borrow.Author.Rules.{rules}
 use Rattle.reader_link.proofs.whole.deselect.Statement.{statement}
 use Rattle.reader_link.proofs.whole.deselect.Tie as tie

@@ -3,7 +3,7 @@ use mathlib.Core.Path.{sym, ◌∙◌}
 use borrow.Author.Tests.{not-true, not-false}
 use Rattle.reader_link.specs.ReaderCalls.{frame_due, hear_call}
 use Rattle.reader_link.specs.WholeLaws.{not_due, no_room, is_due}
-use Rattle.reader_link.specs.SaysLaws.{hear_said}
+use Rattle.reader_link.proofs.SaysLaws.{hear_said}
 use borrow.Author.Rules.{rules}
 use Rattle.reader_link.proofs.whole.hear.Statement.{statement}
 use Rattle.reader_link.proofs.whole.hear.Tie as tie

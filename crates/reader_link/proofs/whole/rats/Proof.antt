@@ -5,7 +5,7 @@ use native.Mathlib.Omega.{arith}
 use borrow.Author.Tests.{not-true, not-false}
 use Rattle.reader_link.specs.ReaderCalls.{rats_due, rats_call}
 use Rattle.reader_link.specs.WholeLaws.{two_not_due, two_no_room, two_is_due, rats_index, rats_sent}
-use Rattle.reader_link.specs.SaysLaws.{rats_said}
+use Rattle.reader_link.proofs.SaysLaws.{rats_said}
 use borrow.Author.Rules.{rules}
 use Rattle.reader_link.proofs.whole.rats.Statement.{statement}
 use Rattle.reader_link.proofs.whole.rats.Tie as tie

@@ -5,7 +5,7 @@ use borrow.Author.Tests.{not-true, not-false}
 use Rattle.reader.specs.Reader.{sends}
 use Rattle.reader_link.specs.ReaderCalls.{is_new_in, selecting, start_call}
 use Rattle.reader_link.specs.WholeLaws.{two, two_not_due, two_no_room, two_is_due}
-use Rattle.reader_link.specs.SaysLaws.{start_said}
+use Rattle.reader_link.proofs.SaysLaws.{start_said}
 use borrow.Author.Rules.{rules}
 use Rattle.reader_link.proofs.whole.start.Statement.{statement}
 use Rattle.reader_link.proofs.whole.start.Tie as tie

@@ -4,7 +4,7 @@ use mathlib.Core.List.{[]}
 use borrow.Author.Tests.{not-true, not-false}
 use Rattle.reader_link.specs.ReaderCalls.{is_new_in, selecting, wake_call}
 use Rattle.reader_link.specs.WholeLaws.{two, two_not_due, two_no_room, two_is_due}
-use Rattle.reader_link.specs.SaysLaws.{wake_said}
+use Rattle.reader_link.proofs.SaysLaws.{wake_said}
 use borrow.Author.Rules.{rules}
 use Rattle.reader_link.proofs.whole.wake.Statement.{statement}
 use Rattle.reader_link.proofs.whole.wake.Tie as tie

@@ -3,7 +3,7 @@ use Prim.Native.Nat.{◌-◌}
 use mathlib.Core.Path.{◌≡◌, sym, ◌∙◌}
 use lib.ListN.{length, length-take, length-drop}
 use Rattle.rows.specs.HeardLaws.{clean_take, clean_drop}
-use Rattle.rows.specs.RowLaws.{overlay_nil}
+use Rattle.rows.proofs.RowLaws.{overlay_nil}
 use Rattle.reader_v.specs.SafeLaws.{rest_is}
 use borrow.Author.Rules.{rules}
 use native.Mathlib.Omega.{arith}

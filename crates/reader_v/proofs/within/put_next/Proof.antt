@@ -1,6 +1,6 @@
 -- `reader_v::within::put_next` meets its contract: the definition has the same cases. Assumes nothing.
 use mathlib.Core.Path.{◌≡◌, refl, sym}
-use Rattle.rows.specs.RowLaws.{overlay_nil}
+use Rattle.rows.proofs.RowLaws.{overlay_nil}
 use Rattle.reader_v.specs.HearV.{out_frame}
 use borrow.Author.Rules.{rules}
 use Rattle.reader_v.proofs.within.put_next.Statement.{statement}

@@ -3,7 +3,7 @@ use borrow.Author.Tests.{eq-eqb, ne_eqb, le-leb, lt-leb, lt-ltb, le-ltb, not-tru
 use mathlib.Core.Path.{◌≡◌, refl, sym, ap, ◌∙◌}
 use Rattle.frame_v.specs.FrameVLaws.{sound_is}
 use Rattle.request_v.specs.Request.{deed_by, deed_of}
-use Rattle.request_v.specs.RequestLaws.{deed_read, by_flags}
+use Rattle.request_v.proofs.RequestLaws.{deed_read, by_flags}
 use mathlib.Core.Bool.{true, false}
 use borrow.Author.Rules.{rules}
 use native.Mathlib.Omega.{arith}

@@ -4,7 +4,7 @@ use mathlib.Core.Path.{◌≡◌, refl, sym, ap, ◌∙◌}
 use Prim.Native.Nat.{◌≤◌}
 use lib.ListN.{length}
 use Rattle.request_v.specs.Request.{error_of}
-use Rattle.request_v.specs.RequestLaws.{not_absent}
+use Rattle.request_v.proofs.RequestLaws.{not_absent}
 use borrow.Author.Rules.{rules}
 use native.Mathlib.Omega.{arith}
 use Rattle.request_v.proofs.within.error_of.Statement.{statement}

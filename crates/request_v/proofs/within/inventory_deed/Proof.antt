@@ -4,7 +4,7 @@ use mathlib.Core.Path.{◌≡◌, refl, sym, ap, ◌∙◌}
 use Prim.Native.Nat.{◌≤◌, ◌-◌, ◌/◌}
 use lib.ListN.{length}
 use Rattle.request_v.specs.Inventory.{inventory_deed}
-use Rattle.request_v.specs.RequestLaws.{inventory_fits, mask_64}
+use Rattle.request_v.proofs.RequestLaws.{inventory_fits, mask_64}
 use Rattle.frame_v.specs.FrameVLaws.{sound_is}
 use borrow.Author.Rules.{rules}
 use native.Mathlib.Omega.{arith}

@@ -4,7 +4,7 @@ use mathlib.Core.Path.{◌≡◌, sym, ◌∙◌}
 use lib.ListN.{take, drop}
 use Rattle.rows.specs.Rows.{any}
 use Rattle.request_v.specs.Request.{is_lock, any_locked}
-use Rattle.request_v.specs.RequestLaws.{any_start, any_next, any_here, any_done}
+use Rattle.request_v.proofs.RequestLaws.{any_start, any_next, any_here, any_done}
 use borrow.Author.Rules.{rules}
 use native.Mathlib.Omega.{arith}
 use Rattle.request_v.proofs.within.is_any_locked.Statement.{statement}

@@ -2,7 +2,7 @@
 use borrow.Author.Tests.{eq-eqb, ne_eqb, le-leb, lt-leb, lt-ltb, le-ltb, not-true, not-false}
 use mathlib.Core.Path.{◌≡◌, refl, sym, ap, ◌∙◌}
 use Rattle.request_v.specs.Request.{length_due}
-use Rattle.request_v.specs.RequestLaws.{blocks_bytes}
+use Rattle.request_v.proofs.RequestLaws.{blocks_bytes}
 use borrow.Author.Rules.{rules}
 use native.Mathlib.Omega.{arith}
 use Rattle.request_v.proofs.within.length_due.Statement.{statement}

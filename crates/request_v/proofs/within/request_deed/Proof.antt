@@ -3,7 +3,7 @@ use borrow.Author.Tests.{eq-eqb, ne_eqb, le-leb, lt-leb, lt-ltb, le-ltb, not-tru
 use mathlib.Core.Path.{◌≡◌, refl, sym, ap, ◌∙◌}
 use Rattle.frame_v.specs.FrameVLaws.{sound_is}
 use Rattle.request_v.specs.Request.{request_deed}
-use Rattle.request_v.specs.RequestLaws.{meant_long}
+use Rattle.request_v.proofs.RequestLaws.{meant_long}
 use native.Mathlib.Omega.{arith}
 use Rattle.request_v.proofs.within.request_deed.Statement.{statement}
 use Rattle.request_v.proofs.within.request_deed.Tie as tie

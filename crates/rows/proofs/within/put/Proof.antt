@@ -5,7 +5,7 @@ use native.Mathlib.Omega.{arith}
 use lib.ListN.{length, take, length-set}
 use lib.Seq.{take_all}
 use Rattle.rows.specs.Rows.{overlay}
-use Rattle.rows.specs.RowLaws.{overlay_nil, overlay_copy}
+use Rattle.rows.proofs.RowLaws.{overlay_nil, overlay_copy}
 use Rattle.rows.proofs.within.put.Statement.{statement}
 use Rattle.rows.proofs.within.put.Tie as tie
 

@@ -2,7 +2,7 @@ use mathlib.Core.Path.{ap}
 use Prim.Native.Nat.{◌+◌, ◌-◌, ◌*◌, ◌/◌}
 use lib.ListN.{drop}
 use native.Mathlib.Omega.{arith}
-use Rattle.frame.specs.WrongLaws.{first_most}
+use Rattle.frame.proofs.WrongLaws.{first_most}
 use Rattle.selection.specs.Heard.{rest_place}
 use borrow.Author.Rules.{rules}
 use Rattle.selection.proofs.heard.first_wrong.Statement.{statement}

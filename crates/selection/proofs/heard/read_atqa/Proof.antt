@@ -4,7 +4,7 @@ use mathlib.Core.Path.{refl, sym, ◌∙◌}
 use borrow.Author.Tests.{eq-eqb, ne_eqb}
 use Rattle.selection.specs.Heard.{read_atqa}
 use Rattle.selection.specs.RestLaws.{nil_yes, nil_no}
-use Rattle.frame.specs.WrongLaws.{found_wrong, found_none}
+use Rattle.frame.proofs.WrongLaws.{found_wrong, found_none}
 use borrow.Author.Rules.{rules}
 use Rattle.selection.proofs.heard.read_atqa.Statement.{statement}
 use Rattle.selection.proofs.heard.read_atqa.Tie as tie

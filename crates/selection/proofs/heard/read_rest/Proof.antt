@@ -3,7 +3,7 @@ use Prim.Native.Nat.{◌+◌}
 use native.Mathlib.Omega.{arith}
 use lib.ListN.{length}
 use Rattle.frame.specs.Frame.{standard}
-use Rattle.frame.specs.FrameLaws.{length_standard}
+use Rattle.frame.proofs.FrameLaws.{length_standard}
 use Rattle.selection.specs.Selection.{cut}
 use Rattle.selection.specs.RestLaws.{rest_silent, rest_length, rest_level, level_row_law}
 use Rattle.selection.specs.Level.{level_says}

@@ -7,7 +7,7 @@ use Rattle.selection.specs.Heard.{read_sak}
 use Rattle.selection.specs.Says.{sak_says}
 use Rattle.selection.specs.SaysLaws.{with_says}
 use Rattle.selection.specs.RestLaws.{nil_yes, nil_no}
-use Rattle.frame.specs.WrongLaws.{found_wrong, found_none}
+use Rattle.frame.proofs.WrongLaws.{found_wrong, found_none}
 use borrow.Author.Rules.{rules}
 use Rattle.selection.proofs.heard.read_sak.Statement.{statement}
 use Rattle.selection.proofs.heard.read_sak.Tie as tie

@@ -5,7 +5,7 @@ use native.Mathlib.Omega.{arith}
 use lib.ListN.{length, take, replicate, length-set}
 use lib.Seq.{take_all}
 use Rattle.rows.specs.Rows.{overlay}
-use Rattle.rows.specs.RowLaws.{overlay_nil, overlay_all}
+use Rattle.rows.proofs.RowLaws.{overlay_nil, overlay_all}
 use Rattle.frame.specs.Frame.{data_of}
 use Rattle.selection.specs.LevelLaws.{length_data, data_turn}
 use Rattle.selection.proofs.level.data_bits.Statement.{statement}

@@ -7,7 +7,7 @@ use native.Mathlib.Omega.{arith}
 use lib.ListN.{length, take, drop, length-set}
 use lib.Seq.{take_all}
 use Rattle.rows.specs.Rows.{overlay, clean}
-use Rattle.rows.specs.RowLaws.{overlay_nil, overlay_all}
+use Rattle.rows.proofs.RowLaws.{overlay_nil, overlay_all}
 use Rattle.rows.specs.HeardLaws.{clean_take, clean_drop}
 use Rattle.frame.specs.Frame.{bytes_of}
 use Rattle.frame.specs.ByteLaws.{length_bytes}

@@ -4,7 +4,7 @@ use lib.ListN.{length-take}
 use mathlib.Core.Path.{◌≡◌, sym, ap, ◌∙◌}
 use native.Mathlib.Omega.{arith}
 use lib.ListN.{length}
-use Rattle.rows.specs.RowLaws.{overlay_front}
+use Rattle.rows.proofs.RowLaws.{overlay_front}
 use Rattle.selection.specs.SentLaws.{anti_length}
 use borrow.Author.Rules.{rules}
 use Rattle.selection.proofs.within.is_anticollision.Statement.{statement}

@@ -3,7 +3,7 @@ use mathlib.Core.Path.{◌≡◌, ap, ◌∙◌}
 use lib.ListN.{length}
 use native.Mathlib.Omega.{arith}
 use Rattle.frame_b.specs.FrameB.{frame_b}
-use Rattle.selection_b.specs.SentBLaws.{framed}
+use Rattle.selection_b.proofs.SentBLaws.{framed}
 use borrow.Author.Rules.{rules}
 use Rattle.selection_b.proofs.sent.atqb.Statement.{statement}
 use Rattle.selection_b.proofs.sent.atqb.Tie as tie

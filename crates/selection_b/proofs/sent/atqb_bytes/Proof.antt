@@ -2,7 +2,7 @@
 use mathlib.Core.Path.{◌≡◌}
 use lib.ListN.{length}
 use Rattle.selection_b.specs.TypeB.{atqb_bytes}
-use Rattle.selection_b.specs.SentBLaws.{joined_three}
+use Rattle.selection_b.proofs.SentBLaws.{joined_three}
 use borrow.Author.Rules.{rules}
 use Rattle.selection_b.proofs.sent.atqb_bytes.Statement.{statement}
 use Rattle.selection_b.proofs.sent.atqb_bytes.Tie as tie

@@ -6,7 +6,7 @@ use native.Mathlib.Omega.{arith}
 use Rattle.rows.specs.Rows.{overlay}
 use Rattle.frame_b.specs.FrameB.{frame_b}
 use Rattle.selection_b.specs.TypeB.{attrib}
-use Rattle.selection_b.specs.SentBLaws.{framed, joined_two}
+use Rattle.selection_b.proofs.SentBLaws.{framed, joined_two}
 use borrow.Author.Rules.{rules}
 use Rattle.selection_b.proofs.sent.attrib.Statement.{statement}
 use Rattle.selection_b.proofs.sent.attrib.Tie as tie

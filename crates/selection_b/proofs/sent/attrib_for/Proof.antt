@@ -3,7 +3,7 @@ use mathlib.Core.Path.{◌≡◌, refl, ap₂, ◌∙◌}
 use lib.ListN.{length}
 use native.Mathlib.Omega.{arith}
 use Rattle.selection_b.specs.TypeB.{attrib, parameters_for, attrib_for}
-use Rattle.selection_b.specs.SentBLaws.{pupi_of}
+use Rattle.selection_b.proofs.SentBLaws.{pupi_of}
 use borrow.Author.Rules.{rules}
 use Rattle.selection_b.proofs.sent.attrib_for.Statement.{statement}
 use Rattle.selection_b.proofs.sent.attrib_for.Tie as tie

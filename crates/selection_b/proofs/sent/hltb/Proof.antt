@@ -6,7 +6,7 @@ use native.Mathlib.Omega.{arith}
 use Rattle.rows.specs.Rows.{overlay}
 use Rattle.frame_b.specs.FrameB.{frame_b}
 use Rattle.selection_b.specs.TypeB.{hltb}
-use Rattle.selection_b.specs.SentBLaws.{framed, joined}
+use Rattle.selection_b.proofs.SentBLaws.{framed, joined}
 use borrow.Author.Rules.{rules}
 use Rattle.selection_b.proofs.sent.hltb.Statement.{statement}
 use Rattle.selection_b.proofs.sent.hltb.Tie as tie

@@ -1,6 +1,6 @@
 -- `selection_b::sent::one_byte` meets its contract: the frame takes the whole row. Assumes nothing.
 use mathlib.Core.Path.{refl}
-use Rattle.selection_b.specs.SentBLaws.{framed}
+use Rattle.selection_b.proofs.SentBLaws.{framed}
 use borrow.Author.Rules.{rules}
 use Rattle.selection_b.proofs.sent.one_byte.Statement.{statement}
 use Rattle.selection_b.proofs.sent.one_byte.Tie as tie

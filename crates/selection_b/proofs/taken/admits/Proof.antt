@@ -1,5 +1,5 @@
 -- `selection_b::taken::admits` meets its contract: the definition has the same tests. Assumes nothing.
-use Rattle.selection_b.specs.SentBLaws.{admits_all, admits_own, admits_other, admits_family}
+use Rattle.selection_b.proofs.SentBLaws.{admits_all, admits_own, admits_other, admits_family}
 use Rattle.selection_b.proofs.taken.admits.Statement.{statement}
 use Rattle.selection_b.proofs.taken.admits.Tie as tie
 

@@ -8,8 +8,8 @@ use Rattle.rows.specs.HeardLaws.{clean_take, clean_drop}
 use Rattle.rows.specs.Rows.{same}
 use Rattle.selection_b.specs.TypeB.{attrib}
 use Rattle.selection_b.specs.TakenB.{is_attrib}
-use Rattle.selection_b.specs.TypeBLaws.{attrib_length}
-use Rattle.selection_b.specs.SentBLaws.{attrib_clean, parameters_are}
+use Rattle.selection_b.proofs.TypeBLaws.{attrib_length}
+use Rattle.selection_b.proofs.SentBLaws.{attrib_clean, parameters_are}
 use borrow.Author.Rules.{rules}
 use Rattle.selection_b.proofs.taken.is_attrib.Statement.{statement}
 use Rattle.selection_b.proofs.taken.is_attrib.Tie as tie

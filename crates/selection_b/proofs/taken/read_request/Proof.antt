@@ -1,8 +1,8 @@
 -- `selection_b::taken::read_request` meets its contract: only a clean row of 40 bits can be a request. Assumes nothing.
 use mathlib.Core.Path.{sym, ◌∙◌}
 use borrow.Author.Tests.{not-true, not-false}
-use Rattle.selection_b.specs.TypeBLaws.{request_length}
-use Rattle.selection_b.specs.SentBLaws.{no_request_law, not_clean}
+use Rattle.selection_b.proofs.TypeBLaws.{request_length}
+use Rattle.selection_b.proofs.SentBLaws.{no_request_law, not_clean}
 use borrow.Author.Rules.{rules}
 use Rattle.selection_b.proofs.taken.read_request.Statement.{statement}
 use Rattle.selection_b.proofs.taken.read_request.Tie as tie

@@ -4,7 +4,7 @@ use native.Mathlib.Omega.{arith}
 use borrow.Author.Tests.{not-true, not-false}
 use Rattle.rows.specs.HeardLaws.{clean_take, clean_drop}
 use Rattle.rows.specs.Rows.{same}
-use Rattle.selection_b.specs.SentBLaws.{high_param, no_code, other_row, request_is}
+use Rattle.selection_b.proofs.SentBLaws.{high_param, no_code, other_row, request_is}
 use borrow.Author.Rules.{rules}
 use Rattle.selection_b.proofs.taken.request_in.Statement.{statement}
 use Rattle.selection_b.proofs.taken.request_in.Tie as tie

@@ -8,7 +8,7 @@ use Rattle.reader.specs.Reader.{is_new}
 use Rattle.sweep_rules.specs.Demand.{Typed}
 use Rattle.sweep_rules.specs.Terms.{within}
 use Rattle.sweep_steps.specs.Loop.{swept_if, reached_at}
-use Rattle.sweep.specs.CallLaws.{not_due, no_log, no_list, too_many, no_field, ruled_out, runs, ends_call}
+use Rattle.sweep.proofs.CallLaws.{not_due, no_log, no_list, too_many, no_field, ruled_out, runs, ends_call}
 use Rattle.sweep.specs.Promise.{Terms}
 use Rattle.sweep.proofs.within.call.Statement.{statement}
 use Rattle.sweep.proofs.within.call.Tie as tie

@@ -56,7 +56,7 @@ use Rattle.sweep_row.specs.contracts.RowSwept as R
 use Rattle.sweep_row.proofs.RowSwept.TheLaws as R'
 use Rattle.sweep_row.specs.contracts.within.ArraySwept as S
 use Rattle.sweep_row.proofs.within.ArraySwept.TheLaws as S'
-use Rattle.sweep.specs.CallLaws.{Promised}
+use Rattle.sweep.proofs.CallLaws.{Promised}
 use Rattle.sweep.specs.Promise.{Sweeps}
 use Rattle.sweep.specs.Sweep.{call, sweep_of}
 use Rattle.sweep_row.specs.ArrayLaws.{array_promised}

@@ -2,7 +2,7 @@
 use borrow.Author.Tests.{eq-eqb, ne_eqb, le-leb, lt-leb, lt-ltb, le-ltb, not-true, not-false}
 use mathlib.Core.Path.{◌≡◌, refl, sym, ap, ◌∙◌}
 use Prim.Native.Nat.{◌-◌}
-use Rattle.rows.specs.RowLaws.{overlay_nil}
+use Rattle.rows.proofs.RowLaws.{overlay_nil}
 use Rattle.tag.specs.Tag.{waits, takes_eof, answers_eof}
 use borrow.Author.Rules.{rules}
 use Rattle.tag.proofs.within.eof_rules.Statement.{statement}

@@ -1,7 +1,7 @@
 -- `tag::within::put_answer` meets its contract: the definition has the same cases. Assumes nothing.
 use Prim.Native.Nat.{◌+◌}
 use mathlib.Core.Path.{refl, sym}
-use Rattle.rows.specs.RowLaws.{overlay_nil}
+use Rattle.rows.proofs.RowLaws.{overlay_nil}
 use Rattle.tag.specs.Tag.{row_of}
 use Rattle.tag.specs.CallLaws.{room_96, room_read, bytes_fit}
 use borrow.Author.Rules.{rules}

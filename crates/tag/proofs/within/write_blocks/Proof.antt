@@ -3,7 +3,7 @@ use Prim.Native.Nat.{◌*◌, ◌-◌, ◌+◌}
 use mathlib.Core.Path.{◌≡◌, ap, ◌∙◌}
 use native.Mathlib.Nat.{mul_comm}
 use lib.ListN.{length, length-take, length-drop, drop, take}
-use Rattle.rows.specs.RowLaws.{overlay_part}
+use Rattle.rows.proofs.RowLaws.{overlay_part}
 use Rattle.tag.specs.CallLaws.{sent_there, rest_clean, rest_is}
 use Rattle.frame_v.specs.FrameVLaws.{sound_is}
 use borrow.Author.Rules.{rules}

@@ -1,5 +1,5 @@
 -- `tag::within::write_locks` meets its contract: the definition has the same cases. Assumes nothing.
-use Rattle.rows.specs.RowLaws.{overlay_one}
+use Rattle.rows.proofs.RowLaws.{overlay_one}
 use borrow.Author.Rules.{rules}
 use native.Mathlib.Omega.{arith}
 use Rattle.tag.proofs.within.write_locks.Statement.{statement}

@@ -1,6 +1,6 @@
 use mathlib.Core.Path.{◌≡◌, sym, ap, ◌∙◌}
 use native.Mathlib.Omega.{arith}
-use Rattle.rows.specs.RowLaws.{overlay_nil}
+use Rattle.rows.proofs.RowLaws.{overlay_nil}
 use Rattle.air_log.specs.Reading.{row_at}
 use Rattle.trace_rules.specs.declared.Passed.TheVariants.{Behind}
 use Rattle.trace.specs.Reads.{heard_bits}

@@ -5,7 +5,7 @@ use native.Mathlib.Omega.{arith}
 use borrow.Author.Rules.{rules}
 use lib.ListN.{length, take, length-set}
 use Rattle.rows.specs.Rows.{overlay}
-use Rattle.rows.specs.RowLaws.{overlay_nil}
+use Rattle.rows.proofs.RowLaws.{overlay_nil}
 use Rattle.trace.specs.ReadLaws.{row_turn}
 use Rattle.air_log.specs.Reading.{bits_from}
 use Rattle.trace.proofs.reading.put_bits.Statement.{statement}

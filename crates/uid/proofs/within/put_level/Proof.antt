@@ -6,7 +6,7 @@ use native.Mathlib.Omega.{arith}
 use lib.ListN.{length, take}
 use lib.Seq.{take_all}
 use Rattle.rows.specs.Rows.{overlay}
-use Rattle.rows.specs.RowLaws.{overlay_nil}
+use Rattle.rows.proofs.RowLaws.{overlay_nil}
 use Rattle.parity.specs.BitLaws.{length_bits}
 use Rattle.frame.specs.Frame.{air_bits}
 use Rattle.uid.specs.AirLaws.{bits_turn}

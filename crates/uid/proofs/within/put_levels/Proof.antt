@@ -6,7 +6,7 @@ use mathlib.Core.List.{map}
 use native.Mathlib.Omega.{arith}
 use lib.ListN.{length, take}
 use Rattle.rows.specs.Rows.{overlay}
-use Rattle.rows.specs.RowLaws.{overlay_nil}
+use Rattle.rows.proofs.RowLaws.{overlay_nil}
 use Rattle.frame.specs.Frame.{air_bits}
 use Rattle.uid.specs.Uid.{air}
 use Rattle.uid.specs.AirLaws.{levels_turn}

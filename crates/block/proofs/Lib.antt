@@ -1,0 +1,2 @@
+pub mod BlockTable
+pub mod CutBlockLaws

@@ -1,0 +1,4 @@
+pub mod CallLaws
+pub mod FrontTable
+pub mod HalfLaws
+pub mod LoopLaws

@@ -1,0 +1,3 @@
+pub mod KeptCardLaws
+pub mod KeptLinkLaws
+pub mod KeptWholeLaws

@@ -1,0 +1,2 @@
+pub mod DeedTable
+pub mod RequestLaws

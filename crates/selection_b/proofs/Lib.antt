@@ -1,0 +1,3 @@
+pub mod FrameBTable
+pub mod SentBLaws
+pub mod TypeBLaws

@@ -1,0 +1,11 @@
+pub mod ContentLaws
+pub mod FaithLaws
+pub mod FieldLaws
+pub mod FollowLaws
+pub mod KindRunLaws
+pub mod MatchLaws
+pub mod MirrorLaws
+pub mod ReadableLaws
+pub mod SweepCleanLaws
+pub mod SweptLaws
+pub mod WitnessLaws
