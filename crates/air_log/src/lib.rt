@@ -28,7 +28,7 @@ pub fn entry(u: Uid) -> [u8; 11]
 }
 
 // What stands at a place of a log: a whole record, with the place of its rows, their number of bits and the place behind it.
-#[derive(Drop)]
+#[derive(Clone, Copy)]
 pub enum Record {
     Sent {
         start: usize,

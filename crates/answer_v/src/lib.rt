@@ -10,7 +10,7 @@ use refusal::Refusal;
 use selection_b::{Held, SlotSays};
 
 // What was heard in a slot of a round: of one tag its DSFID and its UID, else zeros.
-#[derive(Drop)]
+#[derive(Clone, Copy)]
 pub struct SlotV {
     pub says: SlotSays,
     pub dsfid: u8,
@@ -18,7 +18,7 @@ pub struct SlotV {
 }
 
 // A round's slot, and its mask: the low len bits count. one: the round has one slot and not 16. deep: a sweep whose mask cannot grow.
-#[derive(Drop)]
+#[derive(Clone, Copy)]
 pub struct Turn {
     pub one: bool,
     pub deep: bool,
@@ -28,7 +28,7 @@ pub struct Turn {
 }
 
 // What a tag's answer to another request says: done, with so many bytes behind the flags; an error of the tag.
-#[derive(Drop)]
+#[derive(Clone, Copy)]
 pub enum AnswerSays {
     Good(usize),
     Fails(u8),

@@ -8,7 +8,7 @@ ghost use Rattle.bench.specs.Words.{word_at, without_return, kind_of};
 pub mod within;
 
 // A line that is being collected: its length so far, whether bytes had no room, and whether its line feed has come.
-#[derive(Drop)]
+#[derive(Clone, Copy)]
 pub struct Line {
     pub length: usize,
     pub overlong: bool,
@@ -16,7 +16,7 @@ pub struct Line {
 }
 
 // What is to be done with a line: nothing; it is not understood; its words are to be read.
-#[derive(Drop)]
+#[derive(Clone, Copy)]
 pub enum LineKind {
     PassedOver,
     TooLong,

@@ -8,7 +8,7 @@ use card_link::LinkCard;
 
 // The card, if there is one; the message buffer and its room; and the host's answer, so many bytes at the front. A line holds fewer than
 // 8,192 bytes: a host's answer that is too long for the core reaches it all the same.
-#[derive(Drop)]
+#[derive(Clone, Copy)]
 pub struct Bench {
     pub has_card: bool,
     pub card: LinkCard,
@@ -19,7 +19,7 @@ pub struct Bench {
 }
 
 // The bench after a line, and the answer to it.
-#[derive(Drop)]
+#[derive(Clone, Copy)]
 pub struct Reply {
     pub bench: Bench,
     pub answer: Answer,

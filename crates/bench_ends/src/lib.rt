@@ -7,7 +7,7 @@ use reader_link::{LinkAnswer, LinkReader, LinkTurn};
 
 // Both ends, and what the reader's last turn was, in plain numbers: so many bits of its frame at the front of row; the card's frame size, where it
 // has opened; the refusal's number. 0 where there is none.
-#[derive(Drop)]
+#[derive(Clone, Copy)]
 pub struct Ends {
     pub reader: LinkReader,
     pub card: LinkCard,
@@ -18,7 +18,7 @@ pub struct Ends {
 }
 
 // A card, and what it sends: so many bits at the front of row.
-#[derive(Drop)]
+#[derive(Clone, Copy)]
 struct Said {
     card: LinkCard,
     row: [u8; 2304],

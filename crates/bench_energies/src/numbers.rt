@@ -4,7 +4,7 @@ ghost use Rattle.std.specs.Float.{binary32};
 ghost use Rattle.std.specs.Float.Ieee.{of_bits};
 
 // The numbers of a word, so many at the front. Where it is not understood the rest is of no meaning.
-#[derive(Drop)]
+#[derive(Clone, Copy)]
 pub struct Numbers {
     pub is_understood: bool,
     pub values: [f32; 2048],

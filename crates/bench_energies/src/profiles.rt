@@ -3,14 +3,14 @@ use crate::numbers;
 use front::{Gate, Profile};
 
 // The profile after a line, and whether the line was understood.
-#[derive(Drop)]
+#[derive(Clone, Copy)]
 pub struct ProfileLine {
     pub is_understood: bool,
     pub profile: Profile,
 }
 
 // One number, and whether the word was one.
-#[derive(Drop)]
+#[derive(Clone, Copy)]
 struct Number {
     is_understood: bool,
     value: f32,

@@ -12,7 +12,7 @@ use limits::MOST_CARDS;
 
 // The cards so far, in the order given: their number, and as many of them as a sweep takes; whether a card was not to be made; how many bytes of
 // log and list are lent to the sweep; the tick of its first record; whether it remembers (T-14); and the UID to wake, so many bytes, none where the field is to be swept.
-#[derive(Drop)]
+#[derive(Clone, Copy)]
 pub struct Collected {
     pub cards: [Card; MOST_CARDS],
     pub count: usize,
@@ -29,7 +29,7 @@ pub struct Collected {
 const MOST_ROOM: usize = 65535;
 
 // How the cards are handed over: as values, or as a row that is lent and changed in place. The answer is the same.
-#[derive(Drop)]
+#[derive(Clone, Copy)]
 pub enum Way {
     Values,
     Row,
@@ -53,7 +53,7 @@ pub fn none() -> Collected {
 }
 
 // The cards after a line, if it was understood.
-#[derive(Drop)]
+#[derive(Clone, Copy)]
 pub struct Collecting {
     pub is_understood: bool,
     pub collected: Collected,

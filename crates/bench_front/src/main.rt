@@ -6,7 +6,7 @@ use bench_talk::{Answer, Talk};
 use front::Profile;
 
 // The profile; and the room, its places at the front. A place in which nothing was written holds 255.
-#[derive(Drop)]
+#[derive(Clone, Copy)]
 pub struct Bench {
     pub profile: Profile,
     pub places: [u8; 4096],
@@ -14,7 +14,7 @@ pub struct Bench {
 }
 
 // The bench after a line, and the answer to it.
-#[derive(Drop)]
+#[derive(Clone, Copy)]
 pub struct Reply {
     pub bench: Bench,
     pub answer: Answer,

@@ -8,7 +8,7 @@ use refusal::Refusal;
 
 // A card's words: its UID, so many bytes at the front; whether it speaks blocks; its size index. Where they are not understood the rest is
 // of no meaning.
-#[derive(Drop)]
+#[derive(Clone, Copy)]
 pub struct CardWords {
     pub is_understood: bool,
     pub uid: [u8; 10],

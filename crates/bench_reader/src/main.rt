@@ -10,7 +10,7 @@ use reader_link::LinkReader;
 
 // The reader; the answer buffer and its room; and the host's message, so many bytes at the front. A line holds fewer than 8,192 bytes: a
 // message that is too long for the core reaches it all the same. In a sweep that remembers (T-14) rows are heard with the path.
-#[derive(Drop)]
+#[derive(Clone, Copy)]
 pub struct Bench {
     pub reader: LinkReader,
     pub is_remembering: bool,
@@ -22,7 +22,7 @@ pub struct Bench {
 }
 
 // The bench after a line, and the answer to it.
-#[derive(Drop)]
+#[derive(Clone, Copy)]
 pub struct Reply {
     pub bench: Bench,
     pub answer: Answer,

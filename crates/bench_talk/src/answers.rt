@@ -1,7 +1,7 @@
 // The text of an answer, made part by part.
 
 // The text so far: so many bytes at the front. None: the line is not understood.
-#[derive(Drop)]
+#[derive(Clone, Copy)]
 pub struct Answer {
     pub text: [u8; 16448],
     pub length: usize,

@@ -7,7 +7,7 @@ use bench::{Line, LineKind};
 use libc::{STDIN_FILENO, STDOUT_FILENO};
 
 // The line that was handed over last: its number, from 1, and its bytes, so many at the front.
-#[derive(Drop)]
+#[derive(Clone, Copy)]
 pub struct Talk {
     pub number: usize,
     pub line: Line,
@@ -15,7 +15,7 @@ pub struct Talk {
 }
 
 // A byte of the input, or its end.
-#[derive(Drop)]
+#[derive(Clone, Copy)]
 struct Byte {
     is_end: bool,
     value: u8,

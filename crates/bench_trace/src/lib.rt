@@ -9,7 +9,7 @@ use air_log::Record;
 use names::Name;
 
 // The line of a record, the place of the next record, and the frame that was sent last. Where there is no record is_end is true.
-#[derive(Drop)]
+#[derive(Clone, Copy)]
 pub struct Trace {
     pub is_end: bool,
     pub line: Answer,
@@ -19,7 +19,7 @@ pub struct Trace {
 
 // A record in plain numbers: what it is, by the numbers below; where its bits and the marks of collided ones start; how many bits; where
 // the next record starts.
-#[derive(Drop)]
+#[derive(Clone, Copy)]
 struct Part {
     kind: usize,
     start: usize,

@@ -3,7 +3,7 @@ use crate::groups;
 use bench_talk::Answer;
 
 // The number of the frame's word in the lists below; its level, 1 to 3, or 0; and how many bits of a broken byte it has.
-#[derive(Drop)]
+#[derive(Clone, Copy)]
 pub struct Name {
     pub word: usize,
     pub level: usize,

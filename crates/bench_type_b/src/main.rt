@@ -16,14 +16,14 @@ use field_b::Drawn;
 use reader_b::ReaderB;
 
 // The cards, in the order put in: so many at the front. More than the core's limit, so that a field over it reaches the core.
-#[derive(Drop)]
+#[derive(Clone, Copy)]
 pub struct Field {
     pub members: [Drawn; 40],
     pub count: usize,
 }
 
 // The field; the reader, and the frame that it sent last, so many bits at the front; the list, of which room bytes are lent.
-#[derive(Drop)]
+#[derive(Clone, Copy)]
 pub struct Bench {
     pub field: Field,
     pub reader: ReaderB,
@@ -34,7 +34,7 @@ pub struct Bench {
 }
 
 // The bench after a line, and the answer to it.
-#[derive(Drop)]
+#[derive(Clone, Copy)]
 pub struct Reply {
     pub bench: Bench,
     pub answer: Answer,

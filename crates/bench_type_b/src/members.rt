@@ -5,14 +5,14 @@ use card_b::{AnswerB, CardB, StateB};
 use field_b::Drawn;
 
 // A card's words.
-#[derive(Drop)]
+#[derive(Clone, Copy)]
 struct CardWords {
     is_understood: bool,
     card: CardB,
 }
 
 // The field with numbers drawn, where the line is understood.
-#[derive(Drop)]
+#[derive(Clone, Copy)]
 struct DrawnField {
     is_understood: bool,
     field: Field,

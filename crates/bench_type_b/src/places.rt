@@ -4,7 +4,7 @@ use field_b::Drawn;
 use limits::MOST_CARDS;
 
 // The field after a frame, and how many bits are heard of it.
-#[derive(Drop)]
+#[derive(Clone, Copy)]
 pub struct Air {
     pub field: Field,
     pub bits: usize,

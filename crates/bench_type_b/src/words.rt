@@ -1,7 +1,7 @@
 // Words with their bounds, and those that may be left out.
 
 // Bytes of a word, at the front; where the word is not understood they are of no meaning.
-#[derive(Drop)]
+#[derive(Clone, Copy)]
 pub struct ExactBytes {
     pub is_understood: bool,
     pub bytes: [u8; 12],

@@ -7,7 +7,7 @@ ghost use Rattle.bench_values.specs.Values.{hex_word, row_word, read_answer, rea
 mod within;
 
 // Hexadecimal digits of either case, the bits of a row, decimal digits.
-#[derive(Drop)]
+#[derive(Clone, Copy)]
 pub enum Alphabet {
     Hex,
     Bits,
@@ -15,14 +15,14 @@ pub enum Alphabet {
 }
 
 // How many bytes or bits of a word were written at the front of the lent memory; or why not, and it is unchanged.
-#[derive(Drop)]
+#[derive(Clone, Copy)]
 pub enum ReadWord {
     Count(usize),
     TooLong,
     NotRead,
 }
 
-#[derive(Drop)]
+#[derive(Clone, Copy)]
 pub enum Number {
     Value(usize),
     NotANumber,

@@ -13,7 +13,7 @@ use refusal::Refusal;
 
 // A block without its payload. I: number, chained; Ack, Nak: number; Wtx: its value.
 // Unknown is a good frame that is no block; Nothing is silence or a damaged frame where it is heard, and silence where it is sent.
-#[derive(Drop)]
+#[derive(Clone, Copy)]
 pub enum Block {
     I(bool, bool),
     Ack(bool),
@@ -25,14 +25,14 @@ pub enum Block {
 }
 
 // A frame's bytes without CRC_A: so many at the front, zeros behind.
-#[derive(Drop)]
+#[derive(Clone, Copy)]
 pub struct BlockBytes {
     pub bytes: [u8; 256],
     pub count: usize,
 }
 
 // What a host is told: a whole message of so many bytes, that its WTX was granted, that the card is deselected, a refusal.
-#[derive(Drop)]
+#[derive(Clone, Copy)]
 pub enum Told {
     Quiet,
     Message(usize),

@@ -16,7 +16,7 @@ use refusal::Refusal;
 use uid::{Level, Made, Uid, UidSize};
 
 // ReadyStar and ActiveStar are Ready* and Active*, of a card that was woken from Halt (T-03). Protocol holds the reader's size index, from RATS.
-#[derive(Drop)]
+#[derive(Clone, Copy)]
 pub enum CardState {
     Off,
     Idle,
@@ -29,7 +29,7 @@ pub enum CardState {
 }
 
 // blocks: it speaks the block protocol; index: its own size index.
-#[derive(Drop)]
+#[derive(Clone, Copy)]
 pub struct Card {
     pub uid: Uid,
     pub blocks: bool,
@@ -38,21 +38,21 @@ pub struct Card {
 }
 
 // A card from its UID; where it is refused the card is one of four zeros, Off.
-#[derive(Drop)]
+#[derive(Clone, Copy)]
 pub struct NewCard {
     pub card: Card,
     pub made: Made,
 }
 
 // What a card answers to a frame: so many air bits at the front of the lent row, or nothing.
-#[derive(Drop)]
+#[derive(Clone, Copy)]
 pub enum CardAnswer {
     Sends(usize),
     Silent,
 }
 
 // A card after a frame.
-#[derive(Drop)]
+#[derive(Clone, Copy)]
 pub struct Taken {
     pub card: Card,
     pub answer: CardAnswer,

@@ -12,7 +12,7 @@ use block::{Block, BlockBytes, Told};
 use refusal::Refusal;
 
 // Where a card in Protocol stands: Waiting for the reply to the WTX that it asked, Answering while a chained I of its answer is out.
-#[derive(Drop)]
+#[derive(Clone, Copy)]
 pub enum CardPhase {
     Receiving,
     Owing,
@@ -21,7 +21,7 @@ pub enum CardPhase {
 }
 
 // The card's end. own, reader: size indexes; joined: bytes of the message so far; at: where in its answer the last I begins.
-#[derive(Drop)]
+#[derive(Clone, Copy)]
 pub struct CardLink {
     pub own: u8,
     pub reader: u8,
@@ -33,7 +33,7 @@ pub struct CardLink {
 }
 
 // What a card does: its link afterwards, the block that it sends, what its host is told, and whether the payload is joined.
-#[derive(Drop)]
+#[derive(Clone, Copy)]
 pub struct CardStep {
     pub link: CardLink,
     pub send: Block,

@@ -20,7 +20,7 @@ use refusal::Refusal;
 use uid::Made;
 
 // A card from its UID; where it is refused the card is one of four zeros, Off.
-#[derive(Drop)]
+#[derive(Clone, Copy)]
 pub struct NewLinkCard {
     pub card: LinkCard,
     pub made: Made,

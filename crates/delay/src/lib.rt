@@ -9,7 +9,7 @@ ghost use Rattle.delay.specs.Calls.{judged_says, judge_says, number_of};
 mod frames;
 
 // The frame that the card answered. Each of the first four has one due delay.
-#[derive(Drop)]
+#[derive(Clone, Copy)]
 pub enum Kind {
     Reqa,
     Wupa,
@@ -19,7 +19,7 @@ pub enum Kind {
 }
 
 // How far the answer was from due; or why that cannot be told.
-#[derive(Drop)]
+#[derive(Clone, Copy)]
 pub enum Judged {
     // carrier periods, "early below zero and late above it"
     Off(i64),

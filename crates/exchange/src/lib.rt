@@ -23,7 +23,7 @@ use reader_link::{LinkAnswer, LinkReader, LinkTurn};
 
 // After an exchange: both ends; what the reader's host was told last, Quiet if the rounds ran out; whether the card's host has answered; how
 // many rounds there were; how many messages the card's host got, and how many bytes the last of them has.
-#[derive(Drop)]
+#[derive(Clone, Copy)]
 pub struct Outcome {
     pub reader: LinkReader,
     pub card: LinkCard,
@@ -35,7 +35,7 @@ pub struct Outcome {
 }
 
 // Between two rounds: bits is how many air bits the reader's frame has that is out.
-#[derive(Drop)]
+#[derive(Clone, Copy)]
 pub struct Progress {
     pub reader: LinkReader,
     pub card: LinkCard,
@@ -49,7 +49,7 @@ pub struct Progress {
 
 // What becomes of the frames of a round, and what the card's host does if it owes an answer. A frame arrives with 0 and is lost with 1; with any
 // other number noise is heard instead. The host answers with 0, waits with 255, and else asks for WTX with that value.
-#[derive(Drop)]
+#[derive(Clone, Copy)]
 pub struct Fates {
     pub down: u8,
     pub host: u8,
@@ -57,7 +57,7 @@ pub struct Fates {
 }
 
 // After the card's host: the card, how many air bits it has sent, and whether its host has answered.
-#[derive(Drop)]
+#[derive(Clone, Copy)]
 pub struct Hosted {
     pub card: LinkCard,
     pub bits: usize,

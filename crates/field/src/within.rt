@@ -11,14 +11,14 @@ use card::Card;
 use limits::MOST_CARDS;
 
 // A card after a frame, and the number of bits heard up to it.
-#[derive(Drop)]
+#[derive(Clone, Copy)]
 pub struct One {
     pub card: Card,
     pub bits: usize,
 }
 
 // The cards after a frame, and the number of bits heard.
-#[derive(Drop)]
+#[derive(Clone, Copy)]
 pub struct Together {
     pub cards: [Card; MOST_CARDS],
     pub bits: usize,

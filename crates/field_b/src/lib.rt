@@ -6,7 +6,7 @@ use card_b::CardB;
 pub mod within;
 
 // A card, and its slot number: "The host hands in slot numbers".
-#[derive(Drop)]
+#[derive(Clone, Copy)]
 pub struct Drawn {
     pub card: CardB,
     pub number: u8,

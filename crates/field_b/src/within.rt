@@ -11,14 +11,14 @@ use crate::Drawn;
 use limits::MOST_CARDS;
 
 // A card after a frame, and the number of bits heard up to it.
-#[derive(Drop)]
+#[derive(Clone, Copy)]
 pub struct OneB {
     pub drawn: Drawn,
     pub bits: usize,
 }
 
 // The cards after a frame, and the number of bits heard.
-#[derive(Drop)]
+#[derive(Clone, Copy)]
 pub struct TogetherB {
     pub cards: [Drawn; MOST_CARDS],
     pub bits: usize,

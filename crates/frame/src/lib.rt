@@ -6,6 +6,7 @@
 // 2, 8, 3, 4, and room, which does not depend on what was heard, before all of them. Writing is refused with 1 alone: the table gives 2 for
 // what is received.
 #![tactic(auto)]
+
 ghost use Rattle.std.specs.Prelude.{◌≡◌, length};
 ghost use Rattle.crc.specs.Crc.{with_crc};
 ghost use Rattle.frame.specs.Frame.{short, air_byte, standard, whole_bytes, read_frame, read_crc};
@@ -18,21 +19,21 @@ use refusal::Refusal;
 pub mod within;
 
 // Air bits that were written at the front of the lent row; or why not, and the row is unchanged.
-#[derive(Drop)]
+#[derive(Clone, Copy)]
 pub enum Written {
     Bits(usize),
     NotWritten(Refusal),
 }
 
 // Bytes that were written at the front of the lent bytes; or why not, and they are unchanged.
-#[derive(Drop)]
+#[derive(Clone, Copy)]
 pub enum Received {
     Bytes(usize),
     NotReceived(Refusal),
 }
 
 // The byte of a short frame.
-#[derive(Drop)]
+#[derive(Clone, Copy)]
 pub enum ReceivedShort {
     Byte(u8),
     NotShort(Refusal),

@@ -1,6 +1,7 @@
 // T-01: "Raw energies from the new front end". For each bit the radio chip hands over the energy of its first and of its second half; this
 // crate makes a received row of them, which the frame code reads like any other.
 #![tactic(auto)]
+
 ghost use Rattle.std.specs.Prelude.{◌≡◌, length};
 ghost use Rattle.front.specs.Front.{row_of};
 ghost use Rattle.front.specs.Calls.{heard_says, number_of, receive_says, places_after};
@@ -9,7 +10,7 @@ mod halves;
 mod tests;
 
 // "The gate is a fixed level, a share of the strongest half heard, or off (then every row is silence)"
-#[derive(Drop)]
+#[derive(Clone, Copy)]
 pub enum Gate {
     Level(f32),
     Share(f32),
@@ -17,7 +18,7 @@ pub enum Gate {
 }
 
 // "it sits in a profile with the noise floor and the peak": the peak is the strongest half heard, which the caller hands in.
-#[derive(Drop)]
+#[derive(Clone, Copy)]
 pub struct Profile {
     pub floor: f32,
     pub peak: f32,
@@ -26,7 +27,7 @@ pub struct Profile {
 
 // What came of the energies: a row of so many bits stands at the front of the lent places (none: silence); or why not, and they are
 // unchanged.
-#[derive(Drop)]
+#[derive(Clone, Copy)]
 pub enum Heard {
     Bits(usize),
     // 1: there are fewer places than whole bits were handed in

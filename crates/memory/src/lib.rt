@@ -13,14 +13,14 @@ use reader::{Reader, Turn};
 use refusal::Refusal;
 
 // The path, in the first `known` places of the row; zeros stand behind it.
-#[derive(Drop)]
+#[derive(Clone, Copy)]
 pub struct Path {
     pub row: [u8; 120],
     pub known: usize,
 }
 
 // The reader's turn, and the path. The next row goes to `hear` with this turn's reader and this path.
-#[derive(Drop)]
+#[derive(Clone, Copy)]
 pub struct Memory {
     pub turn: Turn,
     pub path: Path,

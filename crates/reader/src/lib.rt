@@ -13,7 +13,7 @@ use refusal::Refusal;
 use uid::{Level, Uid};
 
 // What a reader has sent last, and so what it awaits. UidSelectSent: SELECT of a level of a UID that is known, after WUPA (T-03).
-#[derive(Drop)]
+#[derive(Clone, Copy)]
 pub enum Phase {
     New,
     ReqaSent,
@@ -29,7 +29,7 @@ pub enum Phase {
 
 // sweeps: it is in a sweep; five: the level's bytes as far as known, zeros behind; known: how many of its 40 bits are known;
 // uid: the UID, whole once it is complete and from WUPA on, else the bytes of the levels so far; sak: the last SAK of a selection.
-#[derive(Drop)]
+#[derive(Clone, Copy)]
 pub struct Reader {
     pub phase: Phase,
     pub sweeps: bool,
@@ -41,7 +41,7 @@ pub struct Reader {
 
 // What a reader answers to a call or a row. Sends: its next frame, so many air bits at the front of the lent row. Finds: the same, and the
 // UID in the reader is complete (in a sweep). Selects: the UID and its last SAK stand in the reader. Finishes: the sweep is over.
-#[derive(Drop)]
+#[derive(Clone, Copy)]
 pub enum Answer {
     Sends(usize),
     Finds(usize),
@@ -50,7 +50,7 @@ pub enum Answer {
     Declines(Refusal),
 }
 
-#[derive(Drop)]
+#[derive(Clone, Copy)]
 pub struct Turn {
     pub reader: Reader,
     pub answer: Answer,

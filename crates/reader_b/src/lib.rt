@@ -12,7 +12,7 @@ use refusal::Refusal;
 use selection_b::Held;
 
 // Slot: the request or a marker is out; AttribSent, HltbSent: their answer is awaited.
-#[derive(Drop)]
+#[derive(Clone, Copy)]
 pub enum PhaseB {
     Ready,
     Slot,
@@ -22,7 +22,7 @@ pub enum PhaseB {
 }
 
 // In a slot, slots is N and slot the slot's number, from 1; else both are 0.
-#[derive(Drop)]
+#[derive(Clone, Copy)]
 pub struct ReaderB {
     pub phase: PhaseB,
     pub slots: u8,
@@ -31,7 +31,7 @@ pub struct ReaderB {
 
 // Sends: a frame of so many bits goes out. Marks: what the slot held, and the next slot's marker goes out. Ends: what the last slot held.
 // Attached: the card's MBLI.
-#[derive(Drop)]
+#[derive(Clone, Copy)]
 pub enum AnswerB {
     Sends(usize),
     Marks(Held),
@@ -42,7 +42,7 @@ pub enum AnswerB {
 }
 
 // atqb: the ATQB without CRC_B of the one card that a slot held, else zeros.
-#[derive(Drop)]
+#[derive(Clone, Copy)]
 pub struct TurnB {
     pub reader: ReaderB,
     pub answer: AnswerB,

@@ -12,7 +12,7 @@ use block::{Block, BlockBytes, Told};
 use refusal::Refusal;
 
 // How far one message and its answer are: more to send; the last I out and nothing come; a chained I of the answer come.
-#[derive(Drop)]
+#[derive(Clone, Copy)]
 pub enum Turn {
     Sending,
     Awaiting,
@@ -20,7 +20,7 @@ pub enum Turn {
 }
 
 // Where a reader stands: between messages, in one, DESELECT out, or with nothing more due.
-#[derive(Drop)]
+#[derive(Clone, Copy)]
 pub enum ReaderPhase {
     Open,
     Talking(Turn),
@@ -31,7 +31,7 @@ pub enum ReaderPhase {
 
 // The reader's end. own, card: size indexes; at: where in its message the last I begins; joined: bytes of the answer so far;
 // again: times that I was sent again; repeats: repeats running.
-#[derive(Drop)]
+#[derive(Clone, Copy)]
 pub struct ReaderLink {
     pub own: u8,
     pub card: u8,
@@ -44,7 +44,7 @@ pub struct ReaderLink {
 }
 
 // What a reader does, as a card's step.
-#[derive(Drop)]
+#[derive(Clone, Copy)]
 pub struct ReaderStep {
     pub link: ReaderLink,
     pub send: Block,

@@ -7,7 +7,7 @@ use reader::{Answer, Reader};
 use reader_blocks::ReaderLink;
 
 // How far a reader is on the way to blocks: selecting or selected; RATS sent with its own size index; linked.
-#[derive(Drop)]
+#[derive(Clone, Copy)]
 pub enum Link {
     NoLink,
     RatsSent(u8),
@@ -15,7 +15,7 @@ pub enum Link {
 }
 
 // A reader with its end of the block protocol. Once a link is there the reader in it is the selected one.
-#[derive(Drop)]
+#[derive(Clone, Copy)]
 pub struct LinkReader {
     pub reader: Reader,
     pub link: Link,
@@ -23,14 +23,14 @@ pub struct LinkReader {
 
 // What a reader answers to a call or a row. Selection: as crate reader has it. Opens: a good ATS, the card's size index.
 // Blocks: so many air bits of the next frame at the front of the lent row (none: no frame), and what the host is told.
-#[derive(Drop)]
+#[derive(Clone, Copy)]
 pub enum LinkAnswer {
     Selection(Answer),
     Opens(u8),
     Blocks(usize, Told),
 }
 
-#[derive(Drop)]
+#[derive(Clone, Copy)]
 pub struct LinkTurn {
     pub reader: LinkReader,
     pub answer: LinkAnswer,

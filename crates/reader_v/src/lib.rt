@@ -13,7 +13,7 @@ use selection_b::Held;
 use sent_v::Round;
 
 // InRound, InSweep: a slot is awaited; QuietSent: silence; ReadSent: the answer to a read; OtherSent: another answer.
-#[derive(Drop)]
+#[derive(Clone, Copy)]
 pub enum PhaseV {
     Ready,
     InRound,
@@ -26,7 +26,7 @@ pub enum PhaseV {
 
 // round and slot: the round that goes on, and its slot from 0. count, less one, and status: the blocks of a read. met: the slots of a sweep whose rounds
 // are still to come (specs/Met.antt). What a phase does not need is zero.
-#[derive(Drop)]
+#[derive(Clone, Copy)]
 pub struct ReaderV {
     pub phase: PhaseV,
     pub round: Round,
@@ -38,7 +38,7 @@ pub struct ReaderV {
 
 // Sends: a call's frame goes out. NextSlot: what the slot held, and an EOF goes out. NextRound: what the last slot held, and the request of a sweep's next
 // round goes out. Ends: what the last slot held. Data: so many bytes of a read. TagError: a code of the tag's; the reader is ready.
-#[derive(Drop)]
+#[derive(Clone, Copy)]
 pub enum AnswerR {
     Sends,
     NextSlot(Held),
@@ -52,7 +52,7 @@ pub enum AnswerR {
 }
 
 // bits: of the frame that goes out, at the front of the lent row. dsfid, uid: of the one tag that a slot held, else zeros.
-#[derive(Drop)]
+#[derive(Clone, Copy)]
 pub struct TurnV {
     pub reader: ReaderV,
     pub answer: AnswerR,

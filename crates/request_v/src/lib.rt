@@ -6,7 +6,7 @@ ghost use Rattle.std.specs.Prelude.{◌≡◌};
 ghost use Rattle.request_v.specs.Flags.{flags_of};
 
 // Ready and Selected hold the round of an inventory with 16 slots: how many EOFs are left until the tag's own slot begins, 0 outside a round.
-#[derive(Drop)]
+#[derive(Clone, Copy)]
 pub enum StateV {
     Off,
     Ready(u8),
@@ -15,7 +15,7 @@ pub enum StateV {
 }
 
 // supports: it has an AFI. blocks: 1 to 256, of size bytes each, 1 to 32. The memory and its locks are lent at each call.
-#[derive(Drop)]
+#[derive(Clone, Copy)]
 pub struct Tag {
     pub uid: [u8; 8],
     pub dsfid: u8,
@@ -27,7 +27,7 @@ pub struct Tag {
 }
 
 // The flags of a request, by their bits: b3, b4, b5 (Select flag; in an inventory AFI flag), b6 (Address flag; in an inventory 1 slot), b7, b8.
-#[derive(Drop)]
+#[derive(Clone, Copy)]
 pub struct Flags {
     pub inventory: bool,
     pub extended: bool,
@@ -38,7 +38,7 @@ pub struct Flags {
 }
 
 // What a request makes a tag do.
-#[derive(Drop)]
+#[derive(Clone, Copy)]
 pub enum Deed {
     // silent, unchanged
     Nothing,

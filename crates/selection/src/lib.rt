@@ -11,14 +11,14 @@ pub mod within;
 use refusal::Refusal;
 
 // What an ATQA says.
-#[derive(Drop)]
+#[derive(Clone, Copy)]
 pub enum AtqaRead {
     Atqa,
     NotAtqa(Refusal),
 }
 
 // What the answer to ANTICOLLISION says: the level's bits are all known, or the first of them collided at a position below 32.
-#[derive(Drop)]
+#[derive(Clone, Copy)]
 pub enum RestSays {
     Whole,
     Collided,
@@ -26,21 +26,21 @@ pub enum RestSays {
 }
 
 // five: the level's bytes as far as they are known, zeros behind; known: how many of its 40 bits are known.
-#[derive(Drop)]
+#[derive(Clone, Copy)]
 pub struct Rest {
     pub says: RestSays,
     pub five: [u8; 5],
     pub known: u8,
 }
 
-#[derive(Drop)]
+#[derive(Clone, Copy)]
 pub enum SakRead {
     Sak(u8),
     NotSak(Refusal),
 }
 
 // What an ATS says: the card's size index.
-#[derive(Drop)]
+#[derive(Clone, Copy)]
 pub enum AtsRead {
     Index(u8),
     NotAts(Refusal),

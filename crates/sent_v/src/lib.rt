@@ -3,7 +3,7 @@
 pub mod within;
 
 // Whom a request is for: the tag with a UID, every tag that is not quiet, or the selected one.
-#[derive(Drop)]
+#[derive(Clone, Copy)]
 pub enum Mode {
     Addressed,
     Any,
@@ -11,7 +11,7 @@ pub enum Mode {
 }
 
 // An inventory: with one slot or 16; with an AFI or without; the low len bits of the mask count.
-#[derive(Drop)]
+#[derive(Clone, Copy)]
 pub struct Round {
     pub one: bool,
     pub asks: bool,
@@ -21,7 +21,7 @@ pub struct Round {
 }
 
 // Any other request: whom it is for, the Option flag, its code.
-#[derive(Drop)]
+#[derive(Clone, Copy)]
 pub struct Head {
     pub mode: Mode,
     pub uid: [u8; 8],

@@ -14,7 +14,7 @@ use refusal::Refusal;
 
 // After a request: the reader and its last answer, Ends with what the last slot held, or why the request was declined; the cards; and how many
 // slots stand in the list.
-#[derive(Drop)]
+#[derive(Clone, Copy)]
 pub struct Inquired {
     pub reader: ReaderB,
     pub answer: AnswerB,

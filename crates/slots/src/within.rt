@@ -13,14 +13,14 @@ use reader_b::{AnswerB, ReaderB, TurnB};
 use selection_b::Held;
 
 // After a slot: the reader's turn on what it heard, and the cards.
-#[derive(Drop)]
+#[derive(Clone, Copy)]
 pub struct ExchangedB {
     pub turn: TurnB,
     pub cards: [Drawn; MOST_CARDS],
 }
 
 // How far a request is: the reader's turn, the cards, how many frames went out and how many slots stand in the list.
-#[derive(Drop)]
+#[derive(Clone, Copy)]
 pub struct ProgressB {
     pub turn: TurnB,
     pub cards: [Drawn; MOST_CARDS],

@@ -14,7 +14,7 @@ pub mod within;
 
 // After the call: the reader and its last answer, Ends with what the last slot held, or why the request was declined; and how many slots stand in the
 // list.
-#[derive(Drop)]
+#[derive(Clone, Copy)]
 pub struct RowInquired {
     pub reader: ReaderB,
     pub answer: AnswerB,

@@ -14,7 +14,7 @@ use refusal::Refusal;
 
 // going: the card at a place is asked for; at: its place. First the cards are fetched, then they are stored; held: the cards that were fetched, or are
 // to be stored.
-#[derive(Drop)]
+#[derive(Clone, Copy)]
 pub struct Progress {
     pub going: bool,
     pub at: usize,
@@ -26,7 +26,7 @@ pub struct Progress {
 }
 
 // A card after its turn, and how far the call is.
-#[derive(Drop)]
+#[derive(Clone, Copy)]
 pub struct Turned {
     pub card: Drawn,
     pub next: Progress,

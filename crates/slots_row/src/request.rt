@@ -11,7 +11,7 @@ use reader_b::ReaderB;
 use slots::Inquired;
 
 // What the call is told, but for the cards and the list.
-#[derive(Drop)]
+#[derive(Clone, Copy)]
 pub struct Request {
     pub reader: ReaderB,
     pub wake: bool,

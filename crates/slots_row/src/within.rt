@@ -12,7 +12,7 @@ use reader_b::ReaderB;
 use slots::Inquired;
 
 // The array after the request, and what the request over the lent row gave.
-#[derive(Drop)]
+#[derive(Clone, Copy)]
 pub struct ArrayInquired {
     pub cards: [Drawn; MOST_CARDS],
     pub inquired: RowInquired,

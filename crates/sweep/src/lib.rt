@@ -12,7 +12,7 @@ use limits::MOST_CARDS;
 use reader::{Answer, Reader};
 
 // What a sweep begins with: a new reader, and the tick of the log's first record (T-09). Each record after it has the next tick; ticks wrap.
-#[derive(Drop)]
+#[derive(Clone, Copy)]
 pub struct Start {
     pub reader: Reader,
     pub tick: u32,
@@ -20,7 +20,7 @@ pub struct Start {
 
 // After a sweep: the reader and its last answer, Finishes or why the sweep was declined; the cards; how many frames the reader sent, how many
 // bytes of the log are written, and how many UIDs stand in the list.
-#[derive(Drop)]
+#[derive(Clone, Copy)]
 pub struct Swept {
     pub reader: Reader,
     pub answer: Answer,

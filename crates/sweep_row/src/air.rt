@@ -6,14 +6,14 @@ use card::Card;
 use reader::Reader;
 
 // The bits heard, at the front of a row with room for the longest answer.
-#[derive(Drop)]
+#[derive(Clone, Copy)]
 pub struct Air {
     pub heard: [u8; 45],
     pub bits: usize,
 }
 
 // A card after a frame, and what is heard up to it.
-#[derive(Drop)]
+#[derive(Clone, Copy)]
 pub struct HeardCard {
     pub card: Card,
     pub air: Air,

@@ -12,14 +12,14 @@ use memory::{Memory, Path};
 use reader::Reader;
 
 // The reader's turn and path after an exchange, and the bytes of log that it took.
-#[derive(Drop)]
+#[derive(Clone, Copy)]
 pub struct Exchanged {
     pub memory: Memory,
     pub bytes: usize,
 }
 
 // What a sweep gave so far, and the reader's path.
-#[derive(Drop)]
+#[derive(Clone, Copy)]
 pub struct RowReached {
     pub swept: RowSwept,
     pub path: Path,

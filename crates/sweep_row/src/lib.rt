@@ -18,7 +18,7 @@ pub mod within;
 
 // After a sweep: the reader and its last answer, Finishes or why the sweep was declined; how many frames the reader sent, how many bytes of the
 // log are written, and how many UIDs stand in the list.
-#[derive(Drop)]
+#[derive(Clone, Copy)]
 pub struct RowSwept {
     pub reader: Reader,
     pub answer: Answer,

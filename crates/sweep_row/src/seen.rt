@@ -12,7 +12,7 @@ use limits::MOST_CARDS;
 use uid::{Uid, UidSize};
 
 // fits: the cards seen so far are such a field; uids: their UIDs, each at its card's place.
-#[derive(Drop)]
+#[derive(Clone, Copy)]
 pub struct Seen {
     pub fits: bool,
     pub uids: [Uid; MOST_CARDS],

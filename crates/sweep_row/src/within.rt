@@ -19,7 +19,7 @@ use sweep::{Start, Swept};
 // going: the card at a place is asked for; at: its place. In a pass over the row its cards come one by one, the last first. The first pass
 // looks whether the row is a field that a sweep takes; in each pass after it the cards take the frame that the reader has out. tick: that of the
 // log's first record. remembers: the reader has a path (T-14), path: what it knows; the plain reader's is empty.
-#[derive(Drop)]
+#[derive(Clone, Copy)]
 pub struct Progress {
     pub going: bool,
     pub at: usize,
@@ -34,7 +34,7 @@ pub struct Progress {
 }
 
 // A card after its turn, and how far the sweep is.
-#[derive(Drop)]
+#[derive(Clone, Copy)]
 pub struct Turned {
     pub card: Card,
     pub next: Progress,
@@ -90,7 +90,7 @@ pub fn opening(remembers: bool, start: Start, n: usize, log: &mut [u8], list: &m
 }
 
 // The array after the sweep, and what the sweep over the lent row gave.
-#[derive(Drop)]
+#[derive(Clone, Copy)]
 pub struct ArraySwept {
     pub cards: [Card; MOST_CARDS],
     pub swept: RowSwept,

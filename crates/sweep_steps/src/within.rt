@@ -24,7 +24,7 @@ pub fn is_within(cards: [Card; MOST_CARDS], n: usize) -> bool
 }
 
 // A frame was on the air: the cards after it, the bits heard, at the front of a row with room for the longest answer, and the bytes of log that both took.
-#[derive(Drop)]
+#[derive(Clone, Copy)]
 pub struct Aired {
     pub cards: [Card; MOST_CARDS],
     pub heard: [u8; 45],
@@ -33,7 +33,7 @@ pub struct Aired {
 }
 
 // After an exchange: the reader's turn and path, the cards, and the bytes of log that it took.
-#[derive(Drop)]
+#[derive(Clone, Copy)]
 pub struct Exchanged {
     pub memory: Memory,
     pub cards: [Card; MOST_CARDS],
@@ -42,7 +42,7 @@ pub struct Exchanged {
 
 // How far a sweep is: the reader's turn and path (of the plain sweep it is empty), the cards, the bytes of log so far, the frames sent and the UIDs
 // found.
-#[derive(Drop)]
+#[derive(Clone, Copy)]
 pub struct Progress {
     pub memory: Memory,
     pub cards: [Card; MOST_CARDS],

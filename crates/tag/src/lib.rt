@@ -10,7 +10,7 @@ use refusal::Refusal;
 use request_v::{StateV, Tag};
 
 // What a tag answers: so many bits at the front of the lent row, or nothing.
-#[derive(Drop)]
+#[derive(Clone, Copy)]
 pub enum AnswerV {
     Sends(usize),
     Silent,
@@ -18,7 +18,7 @@ pub enum AnswerV {
 }
 
 // A tag after a row or an EOF.
-#[derive(Drop)]
+#[derive(Clone, Copy)]
 pub struct TakenV {
     pub tag: Tag,
     pub answer: AnswerV,

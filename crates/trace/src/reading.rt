@@ -14,7 +14,7 @@ use trace_rules::Passed;
 const MOST_BITS: usize = 8191;
 
 // What was heard, by its record: so many bits, at the front of the lent row; and the place behind the record.
-#[derive(Drop)]
+#[derive(Clone, Copy)]
 pub struct Heard {
     pub bits: usize,
     pub passed: Passed,

@@ -15,7 +15,7 @@ use refusal::Refusal;
 use trace_rules::{Compared, Passed, Verdict};
 
 // After an exchange of the sweep: the reader's turn, the cards, and the exchange's records held to those of the log.
-#[derive(Drop)]
+#[derive(Clone, Copy)]
 pub struct Played {
     pub turn: Turn,
     pub cards: [Card; MOST_CARDS],

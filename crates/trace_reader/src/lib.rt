@@ -8,7 +8,7 @@ ghost use Rattle.air_log.specs.Reading.{record_at};
 use air_log::Record;
 
 // A log, and a place in it.
-#[derive(Drop)]
+#[derive(Clone, Copy)]
 pub struct Trace<'a> {
     pub log: &'a [u8],
     pub at: usize,

@@ -8,7 +8,7 @@ use refusal::Refusal;
 
 // What the check says of a log. Clean: it is the one that the plain sweep writes over the cards found, ticks apart. Fault: the record at fault,
 // counted from 0, reader's records and heard ones together, and the refusal.
-#[derive(Drop)]
+#[derive(Clone, Copy)]
 pub enum Verdict {
     Clean,
     Fault { record: usize, refusal: Refusal },
@@ -16,7 +16,7 @@ pub enum Verdict {
 
 // A checked log: the cards that were found in it, up to the fault if there is one, as many as found says, in the order found, each idle, and
 // speaking blocks where its last SAK was 20.
-#[derive(Drop)]
+#[derive(Clone, Copy)]
 pub struct Checked {
     pub verdict: Verdict,
     pub cards: [Card; MOST_CARDS],
@@ -24,14 +24,14 @@ pub struct Checked {
 }
 
 // A record where one is due: passed, with the place behind it; or why it is at fault.
-#[derive(Drop)]
+#[derive(Clone, Copy)]
 pub enum Passed {
     Behind(usize),
     Not(Refusal),
 }
 
 // Where a check is: a reader's record is due at a place of the log, the reader has sent its frame, and so many cards were found.
-#[derive(Drop)]
+#[derive(Clone, Copy)]
 pub struct Place {
     pub at: usize,
     pub reader: Reader,
@@ -40,14 +40,14 @@ pub struct Place {
 }
 
 // After two records: the check goes on, the reader is content and the log at its end, or a record is at fault, so many records on.
-#[derive(Drop)]
+#[derive(Clone, Copy)]
 pub enum Says {
     Goes,
     Content,
     Faults { on: u8, refusal: Refusal },
 }
 
-#[derive(Drop)]
+#[derive(Clone, Copy)]
 pub struct Stepped {
     pub place: Place,
     pub says: Says,
@@ -55,7 +55,7 @@ pub struct Stepped {
 
 // Two records of the sweep over the listed cards, held to those of the log: both are there, with the place behind them, or the first of the two
 // is not, or the second.
-#[derive(Drop)]
+#[derive(Clone, Copy)]
 pub enum Compared {
     Same(usize),
     First,

@@ -11,7 +11,7 @@ use refusal::Refusal;
 pub mod within;
 
 // "A UID has 4, 7 or 10 bytes".
-#[derive(Drop)]
+#[derive(Clone, Copy)]
 pub enum UidSize {
     Single,
     Double,
@@ -19,7 +19,7 @@ pub enum UidSize {
 }
 
 // A cascade level.
-#[derive(Drop)]
+#[derive(Clone, Copy)]
 pub enum Level {
     One,
     Two,
@@ -27,28 +27,28 @@ pub enum Level {
 }
 
 // A UID of 4, 7 or 10 bytes. Bytes past its size do not count.
-#[derive(Drop)]
+#[derive(Clone, Copy)]
 pub struct Uid {
     pub size: UidSize,
     pub bytes: [u8; 10],
 }
 
 // Whether something could be made of what was handed in.
-#[derive(Drop)]
+#[derive(Clone, Copy)]
 pub enum Made {
     Good,
     NotMade(Refusal),
 }
 
 // A UID from bytes; where it is refused the UID is four zeros.
-#[derive(Drop)]
+#[derive(Clone, Copy)]
 pub struct NewUid {
     pub uid: Uid,
     pub made: Made,
 }
 
 // Bits of the on-air row that were written at the front of the lent row; or why not, and the row is unchanged.
-#[derive(Drop)]
+#[derive(Clone, Copy)]
 pub enum AirRow {
     Bits(usize),
     NoRoom(Refusal),

@@ -6,7 +6,7 @@ use frame::Written;
 use reader_link::{LinkAnswer, LinkReader, LinkTurn};
 
 // A row: so many bits at the front.
-#[derive(Drop)]
+#[derive(Clone, Copy)]
 struct Row {
     bits: [u8; 2304],
     count: usize,

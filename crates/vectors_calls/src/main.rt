@@ -11,21 +11,21 @@ use card_link::LinkCard;
 use reader_link::LinkReader;
 
 // A card and a reader, on which each line tries its call. No call changes them.
-#[derive(Drop)]
+#[derive(Clone, Copy)]
 pub struct Bench {
     pub reader: LinkReader,
     pub card: LinkCard,
 }
 
 // The bench after a line, and the answer to it.
-#[derive(Drop)]
+#[derive(Clone, Copy)]
 pub struct Reply {
     pub bench: Bench,
     pub answer: Answer,
 }
 
 // A line's numbers; 0 where one is left out.
-#[derive(Drop)]
+#[derive(Clone, Copy)]
 pub struct Given {
     pub a: usize,
     pub b: usize,

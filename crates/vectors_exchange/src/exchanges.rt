@@ -3,7 +3,7 @@ use crate::{Bench, Reply, answers};
 use exchange::Outcome;
 
 // The bytes of the message and of the answer and their seeds, the rounds, and the bytes of both message buffers.
-#[derive(Drop)]
+#[derive(Clone, Copy)]
 pub struct Given {
     pub message: usize,
     pub message_seed: usize,

@@ -6,7 +6,7 @@ use crate::{Bench, Reply, answers, exchanges};
 const MOST: usize = 2718;
 
 // The elements of a word; more than there are places where it is none of its kind, or too long.
-#[derive(Drop)]
+#[derive(Clone, Copy)]
 struct Word {
     all: [u8; 2718],
     count: usize,

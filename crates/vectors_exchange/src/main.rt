@@ -11,7 +11,7 @@ use card_link::LinkCard;
 use reader_link::LinkReader;
 
 // The two ends, if there are any; and how many bytes the card's host's last answer has, with their seed.
-#[derive(Drop)]
+#[derive(Clone, Copy)]
 pub struct Bench {
     pub has_ends: bool,
     pub reader: LinkReader,
@@ -21,7 +21,7 @@ pub struct Bench {
 }
 
 // The bench after a line, and the answer to it.
-#[derive(Drop)]
+#[derive(Clone, Copy)]
 pub struct Reply {
     pub bench: Bench,
     pub answer: Answer,

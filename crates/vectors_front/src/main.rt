@@ -7,14 +7,14 @@ use bench_talk::{Answer, Talk};
 use front::Profile;
 use reader::Reader;
 
-#[derive(Drop)]
+#[derive(Clone, Copy)]
 pub struct Bench {
     pub profile: Profile,
     pub reader: Reader,
 }
 
 // The bench after a line, and the answer to it.
-#[derive(Drop)]
+#[derive(Clone, Copy)]
 pub struct Reply {
     pub bench: Bench,
     pub answer: Answer,

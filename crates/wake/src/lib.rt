@@ -14,7 +14,7 @@ use uid::Made;
 pub mod within;
 
 // After the call: the reader and its last answer, Selects or why it was declined; the cards; how many frames the reader sent.
-#[derive(Drop)]
+#[derive(Clone, Copy)]
 pub struct Woken {
     pub reader: Reader,
     pub answer: Answer,

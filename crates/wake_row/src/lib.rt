@@ -13,7 +13,7 @@ use uid::Uid;
 mod pass;
 
 // After the call: the reader and its last answer, Selects or why it was declined; how many frames the reader sent.
-#[derive(Drop)]
+#[derive(Clone, Copy)]
 pub struct RowWoken {
     pub reader: Reader,
     pub answer: Answer,

@@ -17,7 +17,7 @@ use wake::Woken;
 
 // going: the card at a place is asked for; at: its place. First the cards are fetched, then they are stored; held: the cards that were fetched, or are
 // to be stored.
-#[derive(Drop)]
+#[derive(Clone, Copy)]
 pub struct Progress {
     pub going: bool,
     pub at: usize,
@@ -30,7 +30,7 @@ pub struct Progress {
 }
 
 // A card after its turn, and how far the call is.
-#[derive(Drop)]
+#[derive(Clone, Copy)]
 pub struct Turned {
     pub card: Card,
     pub next: Progress,

@@ -1,0 +1,13 @@
+-- `bench::front` meets its contract. Assumes nothing.
+use mathlib.Core.Path.{sym}
+use native.Mathlib.Omega.{arith}
+use lib.Seq.{take_all, length-take-le}
+use borrow.Author.Rules.{rules}
+use Rattle.bench.proofs.front.Goals as goal
+
+pub returns-then-s-n : goal.returns-then-s-n
+returns-then-s-n c = sym (take_all _ _ c.if-s-n.true)
+
+pub slice_bounds-result-end : goal.slice_bounds-result-end
+slice_bounds-result-end c = let a = c.args in
+    sym (length-take-le a.n a.s.now (omega arith))

@@ -1,0 +1,22 @@
+-- `frame::read_short` meets its contract: the definition has the same tests. Assumes nothing.
+use mathlib.Core.Path.{sym, ◌∙◌}
+use borrow.Author.Tests.{eq-eqb, ne_eqb, not-true, not-false}
+use native.Mathlib.Omega.{arith}
+use Rattle.frame.specs.Calls.{read_short}
+use borrow.Author.Rules.{rules}
+use Rattle.frame.proofs.read_short.Goals as goal
+
+pub returns-then-row-ne7 : goal.returns-then-row-ne7
+unfolding read_short
+returns-then-row-ne7 c = simp (ne_eqb _ _ c.if-row-ne7.true)
+
+pub returns-then-not-is_clean : goal.returns-then-not-is_clean
+unfolding read_short
+returns-then-not-is_clean c = simp (eq-eqb _ _ c.if-row-ne7.false, sym c.is_clean.ensures ∙ c.if-not-is_clean.true)
+
+pub number_of-requires : goal.number_of-requires
+number_of-requires c = (omega arith, sym c.is_clean.ensures ∙ c.if-not-is_clean.false)
+
+pub returns : goal.returns
+unfolding read_short
+returns c = simp (eq-eqb _ _ c.if-row-ne7.false, sym c.is_clean.ensures ∙ c.if-not-is_clean.false, c.number_of_lem.ensures)
