@@ -1,5 +1,6 @@
 // The script language's words as values: bytes, rows and numbers.
 #![tactic(auto)]
+
 ghost use Rattle.std.specs.Prelude.{◌≡◌, length};
 ghost use Rattle.bench_values.specs.Values.{hex_word, row_word, read_answer, read_after, number_word};
 

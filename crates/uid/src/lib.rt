@@ -1,5 +1,6 @@
 // Document 01, "UIDs and their levels": a UID from bytes, its levels with their B bytes, and its on-air row.
 #![tactic(auto)]
+
 ghost use Rattle.std.specs.Prelude.{◌≡◌, [], ◌∷◌, length};
 ghost use Rattle.rows.specs.Rows.{same};
 ghost use Rattle.uid.specs.Uid.{level_count, byte_count, uid_bytes, check, three_levels, valid};

@@ -19,4 +19,4 @@ number_of-requires c = (omega arith, sym c.is_clean.ensures ∙ c.if-not-is_clea
 
 pub returns : goal.returns
 unfolding read_short
-returns c = simp (eq-eqb _ _ c.if-row-ne7.false, sym c.is_clean.ensures ∙ c.if-not-is_clean.false, c.number_of_lem.ensures)
+returns c = simp (eq-eqb _ _ c.if-row-ne7.false, sym c.is_clean.ensures ∙ c.if-not-is_clean.false, c.number_of.ensures)

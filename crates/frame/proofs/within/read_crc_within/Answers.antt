@@ -28,4 +28,4 @@ pub returns-in-Bytes : goal.returns-in-Bytes
 unfolding read_crc
 returns-in-Bytes c = let a = c.args in
     let v = read_verdict 256 _ _ _ _ _ c.read_within-got.ensures.value c.in-Bytes.is c.read_within-got.ensures.out_after in
-    let w = c.without_crc.ensures in record { value = rw (read_room _ (read_crc 3 a.most a.row.now) c.if-out-lt-MOST_BYTES.false, v.0) w.0; out_after = rw v.0 w.1 }
+    let w = c.without_crc.ensures in record { value = rw (read_room _ (read_crc 3 a.most a.row.now) c.if-out-lt-MOST_BYTES.false, v.0) w.value; out_after = rw v.0 w.out_after }

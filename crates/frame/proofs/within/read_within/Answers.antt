@@ -59,4 +59,4 @@ unfolding read_answer
 returns c = let a = c.args in
     let p = c.sound_bytes-p.ensures in
     let g = read_good a.least a.most a.row.now (sym c.is_whole.ensures ∙ c.if-not-is_whole.false)
-    (sym c.is_clean.ensures ∙ c.if-not-is_clean.false) (found_none _ _ _ p.0 c.if-p-n.false) in record { value = simp (le-ltb _ _ c.if-out-lt-MOST_BYTES.false, g, length_bytes); out_after = rw g (c.put.ensures ∙ ap (overlay a.out.now 0) (held_sound _ _ a.row.now _ _ p.0 c.if-p-n.false p.1)) }
+    (sym c.is_clean.ensures ∙ c.if-not-is_clean.false) (found_none _ _ _ p.value c.if-p-n.false) in record { value = simp (le-ltb _ _ c.if-out-lt-MOST_BYTES.false, g, length_bytes); out_after = rw g (c.put.ensures ∙ ap (overlay a.out.now 0) (held_sound _ _ a.row.now _ _ p.value c.if-p-n.false p.out_after)) }

@@ -1,0 +1,13 @@
+-- `uid::within::checked` meets its contract. Assumes nothing.
+use borrow.Author.Rules.{rules}
+use mathlib.Core.Path.{sym, ◌∙◌}
+use Rattle.uid.specs.Calls.{checked}
+use Rattle.uid.proofs.within.checked.Goals as goal
+
+pub returns-then-is_valid : goal.returns-then-is_valid
+unfolding checked
+returns-then-is_valid c = rw (sym c.is_valid.ensures ∙ c.if-is_valid.true)
+
+pub returns : goal.returns
+unfolding checked
+returns c = rw (sym c.is_valid.ensures ∙ c.if-is_valid.false, c.refused_uid.ensures)

@@ -1,0 +1,33 @@
+use borrow.Author.Rules.{rules}
+use Prim.Native.Nat.{◌≤◌, ◌-◌}
+use mathlib.Core.Path.{◌≡◌, refl, sym, ap, ◌∙◌}
+use native.Mathlib.Omega.{arith}
+use lib.ListN.{length, take}
+use lib.Seq.{take_all}
+use Rattle.rows.specs.Rows.{overlay}
+use Rattle.rows.proofs.RowLaws.{overlay_nil}
+use Rattle.parity.specs.BitLaws.{length_bits}
+use Rattle.frame.specs.Frame.{air_bits}
+use Rattle.uid.specs.AirLaws.{bits_turn}
+use Rattle.uid.proofs.within.put_level.Goals as goal
+
+pub loop-i-init : goal.loop-i-init
+unfolding air_bits
+loop-i-init c = (omega arith, search rules, refl, sym (overlay_nil _ _))
+
+pub put-requires : goal.put-requires
+put-requires c = omega (arith, ap length c.bits_of-bits.ensures ∙ length_bits 8 _)
+
+pub loop-i-preserved : goal.loop-i-preserved
+loop-i-preserved c = let p = c.put in
+    let l = c.loop-i in
+    let a = c.args in (
+      omega arith,
+      omega arith,
+      omega (arith, p.auto.out),
+      rw (p.ensures, c.bits_of-bits.ensures, l.invariant.3) (bits_turn a.out.now a.at a.five l.i (omega arith) (omega arith)),
+    )
+
+pub returns : goal.returns
+returns c = let l = c.loop-i in
+    let a = c.args in record { out_after = l.invariant.3 ∙ ap (λ s. overlay a.out.now a.at (air_bits s)) (take_all l.i a.five (omega arith)); five_len = l.invariant.1 }

@@ -1,0 +1,7 @@
+-- `uid::within::sized` meets its contract: bytes written over ten zeros. Assumes nothing.
+use borrow.Author.Rules.{rules}
+use Rattle.uid.specs.FillLaws.{sized_made}
+use Rattle.uid.proofs.within.sized.Goals as goal
+
+pub returns : goal.returns
+returns c = sized_made c.args.size _ _ c.put.ensures
