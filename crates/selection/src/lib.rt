@@ -1,6 +1,7 @@
 // Document 01, "Frames on the air", and RATS and ATS of "RATS, ATS and blocks": the frames of a selection, written, and read where the
 // reader reads them.
 #![tactic(auto)]
+
 pub mod ats;
 pub mod heard;
 mod level;

@@ -1,0 +1,17 @@
+use Prim.Native.Nat.{◌≤◌, ◌-◌, ◌+◌}
+use mathlib.Core.Path.{◌≡◌, refl, sym, ap, ◌∙◌}
+use borrow.Author.Rules.{rules}
+use native.Mathlib.Omega.{arith}
+use lib.ListN.{length, take, replicate, length-set}
+use lib.Seq.{take_all}
+use Rattle.rows.specs.Rows.{overlay}
+use Rattle.rows.proofs.RowLaws.{overlay_nil, overlay_all}
+use Rattle.frame.specs.Frame.{data_of}
+use Rattle.selection.specs.LevelLaws.{length_data, data_turn}
+use Rattle.selection.proofs.level.data_bits.Given as goal
+
+abbrev pub invariant-loop-i : goal.invariant-loop-i
+invariant-loop-i l = (l.i ≤ 40) × (length l.d ≡ 40) × (length l.w ≡ 45) × (l.d ≡ overlay l.initial.d 0 (take l.i (data_of 5 l.w))) × (length l.initial.d ≡ 40)
+
+abbrev pub decreases-loop-i : goal.decreases-loop-i
+decreases-loop-i l = 40 - l.i

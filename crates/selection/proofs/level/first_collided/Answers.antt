@@ -1,0 +1,25 @@
+use Prim.Native.Nat.{◌≤◌, ◌-◌, ◌+◌}
+use mathlib.Core.Path.{◌≡◌, refl, sym, ap, ◌∙◌}
+use native.Mathlib.Omega.{arith}
+use lib.ListN.{length, drop}
+use Rattle.selection.specs.Level.{first_collided}
+use Rattle.selection.specs.LevelLaws.{first_next, first_here, first_done}
+use Rattle.selection.proofs.level.first_collided.Goals as goal
+
+pub loop-i-init : goal.loop-i-init
+loop-i-init c = (omega arith, omega arith)
+
+pub returns-then-h-i-gt1 : goal.returns-then-h-i-gt1
+returns-then-h-i-gt1 c = let l = c.loop-i in
+    let h = c.args.h.now in
+    omega (arith, first_here h l.i (omega arith) (omega arith), l.invariant.1)
+
+pub loop-i-preserved : goal.loop-i-preserved
+loop-i-preserved c = let l = c.loop-i in
+    let h = c.args.h.now in
+    (omega arith, sym (first_next h l.i (omega arith) (omega arith)) ∙ l.invariant.1)
+
+pub returns : goal.returns
+returns c = let l = c.loop-i in
+    let h = c.args.h.now in
+    omega (arith, first_done h l.i (omega arith), l.invariant.1)

@@ -1,0 +1,21 @@
+use lib.ListN.{replicate}
+use Prim.Native.Nat.{◌≤◌, ◌-◌, ◌+◌, ◌*◌}
+use mathlib.Core.Path.{◌≡◌, refl, sym, ap, ◌∙◌}
+use mathlib.Core.Bool.{true}
+use borrow.Author.Rules.{rules}
+use native.Mathlib.Omega.{arith}
+use lib.ListN.{length, take, drop, length-set}
+use lib.Seq.{take_all}
+use Rattle.rows.specs.Rows.{overlay, clean}
+use Rattle.rows.proofs.RowLaws.{overlay_nil, overlay_all}
+use Rattle.rows.specs.HeardLaws.{clean_take, clean_drop}
+use Rattle.frame.specs.Frame.{bytes_of}
+use Rattle.frame.specs.ByteLaws.{length_bytes}
+use Rattle.selection.specs.LevelLaws.{bytes_turn}
+use Rattle.selection.proofs.level.five_bytes.Given as goal
+
+abbrev pub invariant-loop-i : goal.invariant-loop-i
+invariant-loop-i l = (l.i ≤ 5) × (length l.five ≡ 5) × (length l.e ≡ 40) × (clean l.e ≡ true) × (l.five ≡ overlay l.initial.five 0 (take l.i (bytes_of 5 l.e))) × (length l.initial.five ≡ 5)
+
+abbrev pub decreases-loop-i : goal.decreases-loop-i
+decreases-loop-i l = 5 - l.i
