@@ -1,5 +1,6 @@
 // Document 01, "The log (house format, fields most significant bit first)": its records and the found list's entries, written and read.
 #![tactic(auto)]
+
 ghost use Rattle.std.specs.Prelude.{◌≡◌, get_or};
 ghost use Rattle.uid.specs.Uid.{uid_bytes};
 ghost use Rattle.air_log.specs.Log.{entry_bytes};

@@ -1,5 +1,6 @@
 // The script language's lines and words.
 #![tactic(auto)]
+
 ghost use Rattle.std.specs.Prelude.{◌≡◌, ℕ, length, take};
 ghost use Rattle.bench.specs.Lines.{no_line, fed, fed_bytes};
 ghost use Rattle.bench.specs.Words.{word_at, without_return, kind_of};

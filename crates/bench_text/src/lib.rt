@@ -1,6 +1,7 @@
 // The script language's text: what the programs write. Each function writes its text into lent bytes from index `at` on and answers the
 // index behind it, so that the next text goes there. What does not fit is cut off.
 #![tactic(auto)]
+
 ghost use Rattle.bench_text.specs.Text.{Wrote, hex_text, bits_text, row_text, decimal_text};
 
 // Functions with conditions on what they are called with, and parts. Only the crates of this repository call them.

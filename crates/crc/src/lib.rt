@@ -7,6 +7,7 @@
 // function, without a loop or a branch. Eight bytes are taken from a register of 0, so that they do not wait for those before them; the last table
 // brings the register over them.
 #![tactic(auto)]
+
 ghost use Rattle.std.specs.Prelude.{◌≡◌, get_or};
 ghost use Rattle.crc.specs.Crc.{shifts, crc_byte, crc_from, crc_a, crc_bytes, crc_good};
 ghost use Rattle.crc.specs.CrcOf.{crc_of, sent_of, good_of, crc_b, crc_bytes_b, crc_good_b};

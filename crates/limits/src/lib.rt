@@ -1,5 +1,6 @@
 // The core's limits, each once, in code and in definitions (specs/Limits.antt). `all` holds the two together.
 #![tactic(auto)]
+
 ghost use Rattle.std.specs.Prelude.{◌≡◌, [], ◌∷◌};
 ghost use Rattle.limits.specs.Limits.{most_cards, log_room, list_room, most_frames, most_bytes, row_room, frame_room, answer_room, message_max};
 

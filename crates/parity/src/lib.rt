@@ -1,6 +1,7 @@
 // Bytes and their bits. Document 01, "Frames on the air": "Air order is least significant bit first within a byte", and each byte of a
 // standard frame is "followed by odd parity".
 #![tactic(auto)]
+
 ghost use Rattle.std.specs.Prelude.{◌≡◌};
 ghost use Rattle.parity.specs.Bits.{bits_of, odd};
 

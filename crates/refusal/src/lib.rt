@@ -1,5 +1,6 @@
 // Why the core declines: one case for each row of document 01's table, "When the core declines".
 #![tactic(auto)]
+
 ghost use Rattle.std.specs.Prelude.{◌≡◌};
 ghost use Rattle.refusal.specs.Refusal.{number_of, place_of};
 

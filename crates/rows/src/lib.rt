@@ -1,6 +1,7 @@
 // Rows of air bits, one byte of the row for each bit, and rows of bytes.
 // Document 01, "Frames on the air": "A received row gives each bit as 0, 1 or collided". A value over 1 is a collided bit.
 #![tactic(auto)]
+
 ghost use Rattle.std.specs.Prelude.{◌≡◌, max};
 ghost use Rattle.rows.specs.Rows.{clean, same};
 

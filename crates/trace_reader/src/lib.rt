@@ -1,7 +1,7 @@
-// Document 01's form for T-12: "The trace reader keeps hold of the log it reads and its place". The borrow checker covers no function over a
-// struct that holds a reference, so each is thin and proved by hand; the work is done by `record_at`, which takes a plain slice. `read_at` is what
-// the trace checker calls.
+// Document 01's form for T-12: "The trace reader keeps hold of the log it reads and its place". Each function over the struct is thin; the work
+// is done by `record_at`, which takes a plain slice. `read_at` is what the trace checker calls.
 #![tactic(auto)]
+
 ghost use Rattle.std.specs.Prelude.{◌≡◌};
 ghost use Rattle.air_log.specs.Reading.{record_at};
 

@@ -13,9 +13,9 @@ pub loop-i-init : goal.loop-i-init
 loop-i-init c = (omega arith, refl)
 
 pub loop-i-preserved : goal.loop-i-preserved
-loop-i-preserved c =    let l = c.loop-i in
+loop-i-preserved c = let l = c.loop-i in
     (omega arith, rw c.larger-most.ensures (sym (clean_next c.args.row.now l.i l.most (omega arith)) ∙ l.invariant.1))
 
 pub returns : goal.returns
-returns c =    let l = c.loop-i in
+returns c = let l = c.loop-i in
     sym (clean_done c.args.row.now l.i l.most (omega arith)) ∙ l.invariant.1
