@@ -1,5 +1,6 @@
 // Document 01, "The reader and the sweep": one reader's selection, alone and in a sweep, by value.
 #![tactic(auto)]
+
 pub mod known;
 pub mod within;
 

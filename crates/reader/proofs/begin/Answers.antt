@@ -1,0 +1,24 @@
+use Rattle.reader.specs.Reader.{sends}
+use Rattle.reader.specs.Calls.{begin_call, row_after}
+use Rattle.reader.specs.StepLaws.{call_not_due, call_room, call_due, call_says_law, row_declined}
+use mathlib.Core.Path.{◌≡◌, sym, ap, ◌∙◌}
+use borrow.Author.Tests.{not-true, not-false}
+use native.Mathlib.Omega.{arith}
+use borrow.Author.Rules.{rules}
+use Rattle.reader.proofs.begin.Goals as goal
+
+pub returns-then-not-is_new : goal.returns-then-not-is_new
+unfolding begin_call
+returns-then-not-is_new c = let a = c.args in
+    let e = c.declines.ensures ∙ sym (call_not_due _ a.r _ _ (sym c.is_new.ensures ∙ c.if-not-is_new.true)) in record { value = e; out_after = row_declined _ a.r _ a.out.now c.declines.ensures; result_value = call_says_law _ a.r _ _ _ e }
+
+pub returns-then-out-lt-FRAME_ROOM : goal.returns-then-out-lt-FRAME_ROOM
+unfolding begin_call
+returns-then-out-lt-FRAME_ROOM c = let a = c.args in
+    let e = c.declines-then-out-lt-FRAME_ROOM.ensures ∙ sym (call_room _ a.r _ _ (sym c.is_new.ensures ∙ c.if-not-is_new.false) c.if-out-lt-FRAME_ROOM.true) in record { value = e; out_after = row_declined _ a.r _ a.out.now c.declines-then-out-lt-FRAME_ROOM.ensures; result_value = call_says_law _ a.r _ _ _ e }
+
+pub returns : goal.returns
+unfolding begin_call row_after
+returns c = let a = c.args in
+    let n = sym c.is_new.ensures ∙ c.if-not-is_new.false in
+    let e = c.sends-t.ensures ∙ ap sends c.blank.ensures ∙ sym (call_due _ a.r _ _ n c.if-out-lt-FRAME_ROOM.false) in record { value = e; out_after = c.put_sent.ensures; result_value = call_says_law _ a.r _ _ _ e }

@@ -1,0 +1,9 @@
+use mathlib.Core.Path.{ap}
+use Rattle.reader.specs.Reader.{turn, finds}
+use Rattle.reader.specs.declared.Answer.TheVariants.{Finds}
+use borrow.Author.Rules.{rules}
+use Rattle.reader.proofs.within.finds.Goals as goal
+
+pub returns : goal.returns
+unfolding finds
+returns c = ap (λ n. turn c.args.r (Finds n)) c.frame_bits-n.ensures

@@ -1,0 +1,21 @@
+use mathlib.Core.Path.{◌≡◌, sym, ap, ◌∙◌}
+use mathlib.Core.Bool.{true, false}
+use Rattle.uid.specs.declared.Level.TheVariants.{One}
+use Rattle.reader.specs.Reader.{hear_atqa, turn, opens}
+use Rattle.reader.specs.StepLaws.{atqa_at}
+use Rattle.reader.specs.declared.Answer.TheVariants.{Finishes}
+use borrow.Author.Rules.{rules}
+use Rattle.reader.proofs.within.hear_atqa.Goals as goal
+
+pub returns-then-is_over : goal.returns-then-is_over
+unfolding hear_atqa
+returns-then-is_over c = rw (sym c.is_over.ensures ∙ c.if-is_over.true) (ap (λ r. turn r Finishes) c.blank-over.ensures)
+
+pub returns-in-Atqa : goal.returns-in-Atqa
+returns-in-Atqa c = let a = c.args in
+    c.opens.ensures ∙ ap (opens One a.r.sweeps) c.no_uid.ensures
+    ∙ sym (atqa_at a.r a.row.now _ (sym c.is_over.ensures ∙ c.if-is_over.false) (sym c.read_atqa-a.ensures.value ∙ c.in-Atqa.is))
+
+pub returns-in-NotAtqa : goal.returns-in-NotAtqa
+returns-in-NotAtqa c = let a = c.args in
+    c.stop.ensures ∙ sym (atqa_at a.r a.row.now _ (sym c.is_over.ensures ∙ c.if-is_over.false) (sym c.read_atqa-a.ensures.value ∙ c.in-NotAtqa.is))

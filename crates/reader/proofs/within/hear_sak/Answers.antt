@@ -1,0 +1,17 @@
+use mathlib.Core.Path.{sym, ◌∙◌}
+use Rattle.reader.specs.StepLaws.{sak_at}
+use borrow.Author.Rules.{rules}
+use Rattle.reader.proofs.within.hear_sak.Reads as reads
+use Rattle.reader.proofs.within.hear_sak.Lts as lts
+use Rattle.reader.proofs.within.sak_heard.Reads as sak-heard-reads
+use Rattle.reader.proofs.within.stop.Reads as stop-reads
+use Rattle.selection.proofs.heard.read_sak.Reads as read-sak-reads
+use Rattle.reader.proofs.within.hear_sak.Goals as goal
+
+-- src/within.rt:330:1
+pub returns-in-Sak : goal.returns-in-Sak
+returns-in-Sak c = let a = c.args in c.sak_heard.ensures ∙ sym (sak_at a.l a.r a.row.now _ (sym c.read_sak-a.ensures.value ∙ c.in-Sak.is))
+
+-- src/within.rt:330:1
+pub returns-in-NotSak : goal.returns-in-NotSak
+returns-in-NotSak c = let a = c.args in c.stop.ensures ∙ sym (sak_at a.l a.r a.row.now _ (sym c.read_sak-a.ensures.value ∙ c.in-NotSak.is))
