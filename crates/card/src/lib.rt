@@ -1,6 +1,7 @@
 // Document 01, "The card": one card's states, by value, without blocks. The card for firmware, which takes frames in every state, is that of
 // crate card_link; a field of cards that only select takes them by `within::take_rules`.
 #![tactic(auto)]
+
 mod answer;
 mod rats;
 mod ready;

@@ -1,0 +1,17 @@
+-- `card::ready::sak_of` meets its contract: the definition has the same tests. Assumes nothing.
+use mathlib.Core.Path.{sym, ◌∙◌}
+use borrow.Author.Rules.{rules}
+use Rattle.card.specs.Card.{sak}
+use Rattle.card.proofs.ready.sak_of.Goals as goal
+
+pub returns-then-remains : goal.returns-then-remains
+unfolding sak
+returns-then-remains c = rw (sym c.remains.ensures ∙ c.if-remains.true)
+
+pub returns-then-c : goal.returns-then-c
+unfolding sak
+returns-then-c c = rw (sym c.remains.ensures ∙ c.if-remains.false, c.if-c.true)
+
+pub returns : goal.returns
+unfolding sak
+returns c = rw (sym c.remains.ensures ∙ c.if-remains.false, c.if-c.false)
