@@ -2,7 +2,7 @@
 -- Assumes nothing.
 use Rattle.std.specs.Prelude.{◌≡◌, refl, ℕ, suc, ◌≤◌, Bool, true, false, cond, length, eqb, ltb}
 use Rattle.std.proofs.Math.Path.{sym, ap, ap₂}
-use Rattle.std.proofs.Common.{◌∙◌, not-suc-le-zero, eqb-true, arith}
+use Rattle.std.proofs.Common.{subst, ◌∙◌, not-suc-le-zero, eqb-true, arith}
 use Rattle.std.proofs.lemmas.Bool.{false≢true}
 use mathlib.Core.List.{map-id, List, [], ◌∷◌, ◌++◌, map}
 use Rattle.rows.specs.CleanLaws.{eqb_same}
@@ -84,4 +84,5 @@ clean_merge m (r ∷ s ∷ T) h a e =
     let U : List ℕ = merge (s ∷ T) in
     let p : r ≡ U = join_clean r U (a.0 ∙ sym (length_rows m (s ∷ T) (omega arith) a.1)) e in
     let q : join r U ≡ U = ap (λ l. join l U) p ∙ join_self U in
-    rw q (p, clean_merge m (s ∷ T) (omega arith) a.1 (rw q at e))
+    let P : List ℕ → Type 0 = λ u. All (λ v. v ≡ u) (r ∷ s ∷ T) in
+    subst P (sym q) (p, clean_merge m (s ∷ T) (omega arith) a.1 (rw q at e))

@@ -1,8 +1,0 @@
-pub mod AnewLaws
-pub mod BranchLaws
-pub mod CallLaws
-pub mod LearnLaws
-pub mod MemoryLaws
-pub mod RefusalLaws
-pub mod StoredLaws
-pub mod StraightLaws
