@@ -1,6 +1,7 @@
 // Document 02, T-14: the reader of a sweep that remembers, by value. It stands over the plain reader (crate reader): what is heard, the refusals and
 // the frames are that reader's; beside it stands a path, which has the branches not yet taken.
 #![tactic(auto)]
+
 mod level;
 mod paths;
 pub mod within;
