@@ -1,6 +1,7 @@
 // T-09, "the judge of delay": how far the answer of a card was from due, in carrier periods. The reader's last pause ended at one tick, the card's
 // answer began at another.
 #![tactic(auto)]
+
 ghost use Rattle.std.specs.Prelude.{◌≡◌, ◌<◌, pos, ◌-ℤ◌};
 ghost use Rattle.delay.specs.Delay.{grid, point, nearest, fixed, due};
 ghost use Rattle.delay.specs.Kind.{kind_of, after_one};
