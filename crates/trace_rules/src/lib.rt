@@ -1,6 +1,7 @@
 // T-12, the trace checker: what a check of a log is, over the rules of the reader and of the sweep. This crate has types, definitions and
 // proofs; the code stands in crate trace.
 #![tactic(auto)]
+
 use card::Card;
 use limits::MOST_CARDS;
 use reader::Reader;
