@@ -1,6 +1,7 @@
 // Document 02, T-14: the sweep that remembers, over values. It takes and gives what the plain sweep does (crate sweep), in fewer frames; the call and its
 // loop are the plain one's, with a reader that has a path.
 #![tactic(auto)]
+
 ghost use Rattle.std.specs.Prelude.{◌≡◌};
 ghost use Rattle.sweep.specs.Sweep.{call};
 ghost use Rattle.memory_sweep.specs.Recalled.{recall_of};

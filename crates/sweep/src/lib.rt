@@ -1,6 +1,7 @@
 // Document 01, "The reader and the sweep": the plain sweep, over values.
 // What it shares with the sweep that remembers (T-14).
 #![tactic(auto)]
+
 pub mod within;
 
 ghost use Rattle.std.specs.Prelude.{◌≡◌};
