@@ -1,6 +1,7 @@
 // T-12, the trace checker: a log is read record by record against the reader's own rules, and then held to the plain sweep over the cards
 // that it lists.
 #![tactic(auto)]
+
 mod reading;
 mod replay;
 mod walk;

@@ -46,7 +46,10 @@ fn put_marked(log: &[u8], start: usize, marks: usize, n: usize, out: &mut [u8])
     ensures { out.new ≡ overlay out.old 0 (marked (row_at log.now start n) (row_at log.now marks n)) }
 {
     for i in 0..n {
-        out[i] = heard_bit(air_log::bit_at(log, start, i), air_log::bit_at(log, marks, i));
+        out[i] = heard_bit(
+            air_log::bit_at(log, start, i),
+            air_log::bit_at(log, marks, i),
+        );
     }
 }
 

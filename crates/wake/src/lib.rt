@@ -1,5 +1,6 @@
 // T-03: one known card of a field is woken and selected, and no other is disturbed; over values.
 #![tactic(auto)]
+
 ghost use Rattle.std.specs.Prelude.{◌≡◌};
 ghost use Rattle.wake.specs.Wake.{refused, wake_of};
 ghost use Rattle.wake.specs.Promise.{Wakens};

@@ -1,0 +1,5 @@
+use borrow.Author.Rules.{rules}
+use Rattle.trace.proofs.judged.Goals as goal
+
+pub returns : goal.returns
+returns c = rw c.replay-v.ensures

@@ -1,0 +1,8 @@
+use borrow.Author.Tests.{eq-eqb, ne_eqb}
+use Rattle.trace.proofs.reading.heard_bit.Goals as goal
+
+pub returns-then-mark-eq0 : goal.returns-then-mark-eq0
+returns-then-mark-eq0 c = simp (eq-eqb _ _ c.if-mark-eq0.true)
+
+pub returns : goal.returns
+returns c = simp (ne_eqb _ _ c.if-mark-eq0.false)

@@ -1,0 +1,17 @@
+-- The loop's invariant: the first i bits are written.
+use Prim.Native.Nat.{◌≤◌, ◌-◌}
+use mathlib.Core.Path.{◌≡◌, sym, ap, ◌∙◌}
+use native.Mathlib.Omega.{arith}
+use borrow.Author.Rules.{rules}
+use lib.ListN.{length, take, length-set}
+use Rattle.rows.specs.Rows.{overlay}
+use Rattle.rows.proofs.RowLaws.{overlay_nil}
+use Rattle.trace.specs.ReadLaws.{row_turn}
+use Rattle.air_log.specs.Reading.{bits_from}
+use Rattle.trace.proofs.reading.put_bits.Given as goal
+
+abbrev pub invariant-loop-i : goal.invariant-loop-i
+invariant-loop-i l = (l.i ≤ l.n) × (length l.out ≡ length l.initial.out) × (l.out ≡ overlay l.initial.out 0 (take l.i (bits_from l.log l.start)))
+
+abbrev pub decreases-loop-i : goal.decreases-loop-i
+decreases-loop-i l = l.n - l.i

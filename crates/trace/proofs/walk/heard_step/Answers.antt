@@ -1,0 +1,23 @@
+use mathlib.Core.Path.{◌≡◌, refl, sym, ap, ◌∙◌}
+use native.Mathlib.Omega.{arith}
+use lib.ListN.{length-take}
+use Rattle.sweep_steps.specs.ExchangeLaws.{front_of_law}
+use Rattle.reader.specs.Reader.{hear}
+use Rattle.trace_rules.specs.Trace.{turned, heard_then}
+use borrow.Author.Rules.{rules}
+use Rattle.trace.proofs.walk.heard_step.Goals as goal
+
+pub slice_bounds-row-end : goal.slice_bounds-row-end
+slice_bounds-row-end c = (front_of_law _ _ _ _ (ap (λ y. y.bits) c.heard_at-h.ensures.value) c.heard_at-h.ensures.row_after).fits
+
+pub slice_bounds-hear_rules-end : goal.slice_bounds-hear_rules-end
+slice_bounds-hear_rules-end c = rw length-take (omega (arith, (front_of_law _ _ _ _ (ap (λ y. y.bits) c.heard_at-h.ensures.value) c.heard_at-h.ensures.row_after).fits))
+
+pub returns-in-Behind : goal.returns-in-Behind
+returns-in-Behind c = let a = c.args in
+    let u = front_of_law _ _ _ _ (ap (λ y. y.bits) c.heard_at-h.ensures.value) c.heard_at-h.ensures.row_after in
+    rw (sym (ap (λ y. y.passed) c.heard_at-h.ensures.value) ∙ c.in-Behind.is)
+    (c.turned.ensures ∙ ap (turned a.log.now a.p _) (c.hear_rules.ensures ∙ ap (hear a.p.reader) u.bits))
+
+pub returns-in-Not : goal.returns-in-Not
+returns-in-Not c = rw (sym (ap (λ y. y.passed) c.heard_at-h.ensures.value) ∙ c.in-Not.is) c.faults.ensures

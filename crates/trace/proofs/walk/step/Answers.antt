@@ -1,0 +1,23 @@
+use mathlib.Core.Path.{◌≡◌, refl, sym, ap, ◌∙◌}
+use native.Mathlib.Omega.{arith}
+use lib.ListN.{length-take}
+use Rattle.sweep_steps.specs.ExchangeLaws.{front_of_law}
+use Rattle.trace_rules.specs.Trace.{step}
+use borrow.Author.Rules.{rules}
+use Rattle.trace.proofs.walk.step.Goals as goal
+
+pub slice_bounds-frame-end : goal.slice_bounds-frame-end
+slice_bounds-frame-end c = (front_of_law _ _ _ _ c.frame_bits-bits.ensures c.put_frame.ensures).fits
+
+pub slice_bounds-sent_at-end : goal.slice_bounds-sent_at-end
+slice_bounds-sent_at-end c = rw length-take (omega (arith, (front_of_law _ _ _ _ c.frame_bits-bits.ensures c.put_frame.ensures).fits))
+
+pub returns-in-Behind : goal.returns-in-Behind
+unfolding step
+returns-in-Behind c = let u = front_of_law _ _ _ _ c.frame_bits-bits.ensures c.put_frame.ensures in
+    rw (rw u.bits at (sym c.sent_at-passed.ensures ∙ c.in-Behind.is)) c.heard_step.ensures
+
+pub returns-in-Not : goal.returns-in-Not
+unfolding step
+returns-in-Not c = let u = front_of_law _ _ _ _ c.frame_bits-bits.ensures c.put_frame.ensures in
+    rw (rw u.bits at (sym c.sent_at-passed.ensures ∙ c.in-Not.is)) c.faults.ensures

@@ -1,0 +1,11 @@
+use borrow.Author.Rules.{rules}
+use Rattle.trace.proofs.walk.verdict.Goals as goal
+
+pub returns-in-Goes : goal.returns-in-Goes
+returns-in-Goes c = rw c.in-Goes.is c.checked.ensures
+
+pub returns-in-Content : goal.returns-in-Content
+returns-in-Content c = rw c.in-Content.is c.checked-in-Content.ensures
+
+pub returns-in-Faults : goal.returns-in-Faults
+returns-in-Faults c = rw c.in-Faults.is c.checked-in-Faults.ensures
