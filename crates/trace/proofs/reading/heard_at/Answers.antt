@@ -17,28 +17,49 @@ put_marked-requires c = let h = collided_held _ _ _ _ _ _ c.shared_slice_known-1
     (h.0.0, h.1.0, omega (arith, h.0.1))
 
 pub returns-in-Sent : goal.returns-in-Sent
-returns-in-Sent c = rw (← c.read_at-x.ensures, c.in-Sent.is) (c.heard_of.ensures, sym (overlay_nil _ _))
+returns-in-Sent c = record {
+  value = rw (← c.read_at-x.ensures, c.in-Sent.is) c.heard_of.ensures;
+  row_after = rw (← c.read_at-x.ensures, c.in-Sent.is) (sym (overlay_nil _ _));
+}
 
 pub returns-in-Clean : goal.returns-in-Clean
-returns-in-Clean c = let x = c.x-1.given.0 in
-    let h = clean_held _ _ _ _ _ _ c.shared_slice_known-1.given (sym c.read_at-x.ensures ∙ c.in-Clean.is) in
-    rw (← c.read_at-x.ensures, c.in-Clean.is)
-    (c.heard_of-in-Clean.ensures ∙ ap (λ n. heard_bits n (Behind x.1.1.0)) (sym (length_row c.args.log.now x.0 x.1.0 h.0)), c.put_bits.ensures)
+returns-in-Clean c =
+    let x = c.in-Clean in
+    let h = clean_held _ _ _ _ _ _ c.shared_slice_known-1.given (sym c.read_at-x.ensures ∙ x.is) in
+    record {
+      value = rw (← c.read_at-x.ensures, x.is) (c.heard_of-in-Clean.ensures ∙ ap (λ n. heard_bits n (Behind x.next)) (sym (length_row c.args.log.now x.start x.bits h.0)));
+      row_after = rw (← c.read_at-x.ensures, x.is) c.put_bits.ensures;
+    }
 
 pub returns-in-Collided : goal.returns-in-Collided
-returns-in-Collided c = let x = c.x-in-Collided-1.given.0 in
-    let h = collided_held _ _ _ _ _ _ c.shared_slice_known-1.given _ (sym c.read_at-x.ensures ∙ c.in-Collided.is) in
-    rw (← c.read_at-x.ensures, c.in-Collided.is)
-    (c.heard_of-in-Collided.ensures ∙ ap (λ n. heard_bits n (Behind x.1.1.1.0)) (sym (length_marked (row_at c.args.log.now x.0 x.1.1.0) _ ∙ length_row c.args.log.now x.0 x.1.1.0 h.0.0)), c.put_marked.ensures)
+returns-in-Collided c =
+    let x = c.in-Collided in
+    let h = collided_held _ _ _ _ _ _ c.shared_slice_known-1.given _ (sym c.read_at-x.ensures ∙ x.is) in
+    record {
+      value = rw (← c.read_at-x.ensures, x.is) (c.heard_of-in-Collided.ensures ∙ ap (λ n. heard_bits n (Behind x.next)) (sym (length_marked (row_at c.args.log.now x.start x.bits) _ ∙ length_row c.args.log.now x.start x.bits h.0.0)));
+      row_after = rw (← c.read_at-x.ensures, x.is) c.put_marked.ensures;
+    }
 
 pub returns-in-Silence : goal.returns-in-Silence
-returns-in-Silence c = rw (← c.read_at-x.ensures, c.in-Silence.is) (c.heard_of-in-Silence.ensures, sym (overlay_nil _ _))
+returns-in-Silence c = record {
+  value = rw (← c.read_at-x.ensures, c.in-Silence.is) c.heard_of-in-Silence.ensures;
+  row_after = rw (← c.read_at-x.ensures, c.in-Silence.is) (sym (overlay_nil _ _));
+}
 
 pub returns-in-End : goal.returns-in-End
-returns-in-End c = rw (← c.read_at-x.ensures, c.in-End.is) (c.heard_of-in-End.ensures, sym (overlay_nil _ _))
+returns-in-End c = record {
+  value = rw (← c.read_at-x.ensures, c.in-End.is) c.heard_of-in-End.ensures;
+  row_after = rw (← c.read_at-x.ensures, c.in-End.is) (sym (overlay_nil _ _));
+}
 
 pub returns-in-Cut : goal.returns-in-Cut
-returns-in-Cut c = rw (← c.read_at-x.ensures, c.in-Cut.is) (c.heard_of-in-Cut.ensures, sym (overlay_nil _ _))
+returns-in-Cut c = record {
+  value = rw (← c.read_at-x.ensures, c.in-Cut.is) c.heard_of-in-Cut.ensures;
+  row_after = rw (← c.read_at-x.ensures, c.in-Cut.is) (sym (overlay_nil _ _));
+}
 
 pub returns-in-Malformed : goal.returns-in-Malformed
-returns-in-Malformed c = rw (← c.read_at-x.ensures, c.in-Malformed.is) (c.heard_of-in-Malformed.ensures, sym (overlay_nil _ _))
+returns-in-Malformed c = record {
+  value = rw (← c.read_at-x.ensures, c.in-Malformed.is) c.heard_of-in-Malformed.ensures;
+  row_after = rw (← c.read_at-x.ensures, c.in-Malformed.is) (sym (overlay_nil _ _));
+}
