@@ -3,5 +3,3 @@ pub mod Taking
 pub mod Looking
 pub mod Turning
 pub mod Opening
-pub mod Lent
-pub mod Parted

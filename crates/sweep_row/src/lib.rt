@@ -1,5 +1,6 @@
 // Document 01, "The reader and the sweep": the sweep over a lent row of cards, each changed in place. The row is not copied.
 #![tactic(auto)]
+
 ghost use Rattle.std.specs.Prelude.{◌≡◌, length};
 ghost use Rattle.sweep.specs.Sweep.{call, sweep_of};
 ghost use Rattle.sweep.specs.Promise.{Sweeps};

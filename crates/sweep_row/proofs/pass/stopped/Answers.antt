@@ -1,0 +1,5 @@
+use borrow.Author.Rules.{rules}
+use Rattle.sweep_row.proofs.pass.stopped.Goals as goal
+
+pub returns : goal.returns
+returns c = rw (c.no_path-w.ensures, c.silence-a.ensures, c.none-n.ensures)
