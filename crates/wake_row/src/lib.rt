@@ -1,5 +1,6 @@
 // T-03: one known card of a lent row of cards is woken and selected, and no other is disturbed; the row's cards are changed in place.
 #![tactic(auto)]
+
 ghost use Rattle.std.specs.Prelude.{◌≡◌, length};
 ghost use Rattle.uid.specs.Uid.{uid_bytes};
 ghost use Rattle.wake.specs.Wake.{wake_of};
