@@ -1,6 +1,7 @@
 // Document 02, T-14: the sweep that remembers, over a lent row of cards, each changed in place. It is the plain one's pass over the row (crate
 // sweep_row), with a reader that has a path.
 #![tactic(auto)]
+
 ghost use Rattle.std.specs.Prelude.{◌≡◌, length};
 ghost use Rattle.sweep.specs.Sweep.{call};
 ghost use Rattle.sweep_row.specs.Row.{swept_row};

@@ -3,3 +3,4 @@ pub mod Taking
 pub mod Looking
 pub mod Turning
 pub mod Opening
+pub mod RowTurn
