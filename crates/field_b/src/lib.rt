@@ -1,5 +1,6 @@
 // Document 02, T-05: the cards of a field, by value, each with the slot number that the host hands in.
 #![tactic(auto)]
+
 use card_b::CardB;
 
 // One frame taken by every card of a field. Only the crates of this repository call it.

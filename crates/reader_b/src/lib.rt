@@ -1,6 +1,7 @@
 // Document 02, T-05: one Type B reader, stepped by what it hears, by value. Each frame that goes out stands at the front of a lent row, which has
 // room for 88 bits.
 #![tactic(auto)]
+
 pub mod within;
 
 ghost use Rattle.std.specs.Prelude.{◌≡◌, length};

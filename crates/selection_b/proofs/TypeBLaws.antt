@@ -1,5 +1,5 @@
 -- Laws of Type B's frames: how long they are, which of them are told apart, and that a card takes each for what it is. Assumes nothing.
-use Rattle.std.specs.Prelude.{◌≡◌, refl, ◌≢◌, ℕ, ◌+◌, ◌-◌, ◌*◌, ◌%◌, ◌≤◌, ◌<◌, Bool, true, false, ◌&&◌, List, [], ◌∷◌, ◌++◌, length, drop, leb, ltb}
+use Rattle.std.specs.Prelude.{◌≡◌, refl, ◌≢◌, ℕ, ◌-◌, ◌*◌, ◌%◌, ◌≤◌, ◌<◌, Bool, true, false, ◌&&◌, List, [], ◌∷◌, ◌++◌, length, drop, leb, ltb}
 use Rattle.std.proofs.Common.{sym, ap, ◌∙◌, length-append, lt-ltb, le-leb, arith}
 use Rattle.std.proofs.Math.Bool.{and-false}
 use Rattle.rows.specs.EachLaws.{parts_equal}

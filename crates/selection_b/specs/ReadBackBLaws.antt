@@ -1,6 +1,6 @@
 -- Each answer of a card that is written is read back by the reader as what was written. Assumes nothing.
 use Rattle.std.specs.Prelude.{◌≡◌, refl, false}
-use Prim.Native.Nat.{ℕ, ◌+◌, ◌*◌, ◌/◌, ◌%◌, ◌<◌}
+use Prim.Native.Nat.{ℕ, ◌*◌, ◌/◌, ◌%◌, ◌<◌}
 use mathlib.Core.List.{List, [], ◌∷◌, ◌++◌}
 use Rattle.std.proofs.Math.ListN.{length}
 use Rattle.std.proofs.Common.{length-append, eq-eqb}

@@ -1,5 +1,6 @@
 // Document 02, T-05: one request with all its markers over a field of Type B cards, over values.
 #![tactic(auto)]
+
 mod terms;
 pub mod within;
 

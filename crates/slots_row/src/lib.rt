@@ -1,5 +1,6 @@
 // Document 02, T-05: one request with all its markers over a lent row of Type B cards; the row's cards are changed in place.
 #![tactic(auto)]
+
 ghost use Rattle.std.specs.Prelude.{◌≡◌, length};
 ghost use Rattle.slots.specs.Inquiry.{call, inquiry_of};
 ghost use Rattle.slots.specs.Promise.{Inquires};
