@@ -1,6 +1,6 @@
 -- Document 02, T-10: what the reader makes of a received row. "rows are heard as in T-05": in a slot silence and collisions are no refusal, where another
 -- answer is due 7 and 8. A received frame is tested 7, 2, 8, 4, 9 (document 01): the first test that applies wins.
-use Rattle.std.specs.Prelude.{ℕ, ◌+◌, ◌-◌, ◌*◌, ◌/◌, ◌%◌, Bool, true, false, cond, not, ◌&&◌, ◌||◌, List, length, take, drop, replicate, eqb, leb}
+use Rattle.std.specs.Prelude.{ℕ, ◌+◌, ◌-◌, ◌/◌, ◌%◌, Bool, cond, not, ◌&&◌, ◌||◌, List, length, take, drop, replicate, eqb, leb}
 use Rattle.rows.specs.Rows.{is_nil, clean}
 use Rattle.parity.specs.Bits.{unbits}
 use Rattle.crc.specs.CrcOf.{crc_good_b}

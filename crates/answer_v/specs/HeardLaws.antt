@@ -1,5 +1,5 @@
 -- Laws for the code that reads what the reader hears. Assumes nothing.
-use Rattle.std.specs.Prelude.{◌≡◌, refl, ◌≢◌, ℕ, ◌+◌, ◌-◌, ◌*◌, ◌/◌, ◌%◌, ◌≤◌, ◌<◌, Bool, true, false, cond, not, ◌&&◌, ◌||◌, List, length, take, drop, replicate, eqb, leb}
+use Rattle.std.specs.Prelude.{◌≡◌, refl, ℕ, ◌-◌, ◌/◌, ◌%◌, ◌≤◌, Bool, true, false, ◌&&◌, ◌||◌, List, length, take, drop, replicate, eqb, leb}
 use Rattle.std.proofs.Common.{sym, ap, ◌∙◌, arith, length-drop, take_all, eqb-true, leb-true}
 use Rattle.rows.specs.ListLaws.{both, is_nil_law}
 use Rattle.rows.specs.Rows.{is_nil, overlay}

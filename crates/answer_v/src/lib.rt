@@ -1,5 +1,6 @@
 // Document 02, T-10: what the reader of vicinity cards makes of a row, by what it awaits.
 #![tactic(auto)]
+
 pub mod within;
 
 ghost use Rattle.std.specs.Prelude.{◌≡◌};

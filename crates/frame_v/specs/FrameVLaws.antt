@@ -1,7 +1,7 @@
 -- Laws of rows of whole bytes: the loops over them, their CRC_B, and that what is written is sound. Assumes nothing.
-use Rattle.std.specs.Prelude.{◌≡◌, ℕ, zero, suc, ◌+◌, ◌-◌, ◌*◌, ◌/◌, ◌%◌, ◌≤◌, ◌<◌, Bool, true, false, ◌&&◌, List, [], ◌∷◌, ◌++◌, length, get_or, eqb, leb}
+use Rattle.std.specs.Prelude.{◌≡◌, ℕ, zero, suc, ◌+◌, ◌-◌, ◌*◌, ◌/◌, ◌%◌, ◌≤◌, ◌<◌, true, ◌&&◌, List, [], ◌∷◌, ◌++◌, length, get_or, eqb, leb}
 use Rattle.std.proofs.Math.Path.{refl}
-use Rattle.std.proofs.Common.{sym, ap, ◌∙◌, not-suc-le-zero, zero-add, add-one, arith, append_assoc, drop-drop, take-take, take_at, drop_at, eq-eqb, le-leb, eqb-true, leb-true}
+use Rattle.std.proofs.Common.{ap, ◌∙◌, not-suc-le-zero, zero-add, arith, append_assoc, drop-drop, take-take, take_at, drop_at, eq-eqb, le-leb, eqb-true, leb-true}
 use Rattle.std.proofs.Math.ListN.{take, drop, length-drop}
 use Rattle.std.proofs.Math.Seq.{take_all}
 use Rattle.rows.specs.Rows.{overlay, clean, same, Bytes}
@@ -10,9 +10,9 @@ use Rattle.rows.specs.CleanLaws.{bits_clean}
 use Rattle.rows.specs.HeardLaws.{clean_take, clean_drop}
 use Rattle.rows.proofs.RowLaws.{overlay_front}
 use Rattle.parity.specs.Bits.{unbits}
-use Rattle.crc.specs.Crc.{shift, shifts, crc_byte, crc_from}
-use Rattle.crc.specs.CrcOf.{sent_of, good_of, with_of, with_crc_b, crc_bytes_b, crc_good_b}
-use Rattle.crc.specs.CrcOfLaws.{good_last_of, length_with_of, good_with_of}
+use Rattle.crc.specs.Crc.{shift, shifts}
+use Rattle.crc.specs.CrcOf.{crc_bytes_b, crc_good_b}
+use Rattle.crc.specs.CrcOfLaws.{good_last_of, good_with_of}
 use Rattle.frame.specs.Frame.{air_bits, bytes_of}
 use Rattle.frame.specs.ByteLaws.{length_air_bits, length_bytes, bits_air_bits}
 use Rattle.parity.specs.Bits.{bits_of}

@@ -1,6 +1,7 @@
 // Document 02, T-10: frames of vicinity cards as rows: whole bytes of any number with CRC_B behind them, "rows are heard as in T-05", data bits
 // only. A row of 8,000 bytes is tested and closed where it stands: nothing here holds a copy of it.
 #![tactic(auto)]
+
 pub mod within;
 
 ghost use Rattle.std.specs.Prelude.{◌≡◌};

@@ -1,22 +1,21 @@
 -- A round and a sweep over a field within the terms do what the claim says. Assumes nothing.
-use Rattle.std.specs.Prelude.{◌≡◌, ℕ, zero, suc, ◌+◌, ◌≤◌, ◌<◌, Bool, true, cond, not, ◌&&◌, ◌||◌, List, [], ◌∷◌, ◌++◌, map, length, replicate, ltb}
+use Rattle.std.specs.Prelude.{◌≡◌, ℕ, ◌+◌, ◌≤◌, Bool, true, cond, not, ◌||◌, List, [], ◌∷◌, ◌++◌, length, replicate}
 use Rattle.std.proofs.Math.Path.{refl}
-use Rattle.std.proofs.Common.{sym, ap, ◌∙◌, arith, true≢false, append-nil, le-ltb}
+use Rattle.std.proofs.Common.{ap, ◌∙◌, arith, true≢false, append-nil, le-ltb}
 use Rattle.std.proofs.Math.Bool.{false}
 use Rattle.std.proofs.lemmas.List.{length-replicate, get_or-replicate}
 use Rattle.std.proofs.lemmas.Bool.{not-true}
-use Rattle.rows.specs.Rows.{All, fill, any, same}
+use Rattle.rows.specs.Rows.{fill, any, same}
 use Rattle.parity.specs.Bits.{unbits}
-use Rattle.frame.specs.Frame.{air_bits, bytes_of}
+use Rattle.frame.specs.Frame.{bytes_of}
 use Rattle.reader_v.specs.Met.{flags, first_met}
 use Rattle.reader_v.specs.ReaderV.{blank}
 use Rattle.reader_v.specs.CallsV.{first_round, round_for}
 use Rattle.sent_v.specs.declared.Round.{Round}
 use Rattle.request_v.specs.declared.Tag.{Tag}
-use Rattle.request_v.specs.declared.StateV.TheVariants.{Ready, Quiet}
 use Rattle.reader_v.specs.declared.PhaseV.TheVariants as phases
 use Rattle.inventory_rules.specs.RunV.{Told, Out, before, ended, run}
-use Rattle.inventory_rules.specs.Claim.{apart, takes_part, in_slot, told_of, slots_from, round_at, sweep_told}
+use Rattle.inventory_rules.specs.Claim.{apart, takes_part, round_at, sweep_told}
 use Rattle.inventory_rules.specs.Rounds.{reader_at, tags_at, befores, met_from, after}
 use Rattle.inventory_rules.proofs.SlotLaws.{hears_slot}
 use Rattle.inventory_rules.proofs.RoundLaws.{round_run, tags_over}

@@ -9,9 +9,9 @@ use mathlib.Core.List.{List, [], ◌∷◌, ◌++◌, append_assoc, map}
 use Rattle.std.proofs.Math.ListN.{length, take, length-append}
 use Rattle.std.proofs.Math.Seq.{take-append_seam}
 use Rattle.std.proofs.Math.Dec.{eqb}
-use borrow.Author.Tests.{eq-eqb, ne_eqb, eqb-true, eqb-false}
-use Rattle.rows.specs.Rows.{All, Bits, Bytes, fill, same}
-use Rattle.rows.specs.ListLaws.{all_append, all_take_law, all_drop, same_refl, same_ne, same_sound}
+use borrow.Author.Tests.{ne_eqb, eqb-true, eqb-false}
+use Rattle.rows.specs.Rows.{All, Bits, fill, same}
+use Rattle.rows.specs.ListLaws.{all_append, all_take_law, all_drop, same_refl, same_ne}
 use Rattle.parity.specs.Bits.{bits_of, unbits}
 use Rattle.parity.specs.BitLaws.{length_bits, bits_bits, unbits_bits}
 use Rattle.frame.specs.Frame.{air_bits, bytes_of}

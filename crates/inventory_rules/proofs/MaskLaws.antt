@@ -1,20 +1,19 @@
 -- Masks of rounds: how they are held as bytes, how they grow, and that two tags that both fit 64 bits are one. Assumes nothing.
-use Rattle.std.specs.Prelude.{◌≡◌, refl, ◌≢◌, Bool, cond, ◌&&◌, List, [], ◌∷◌, ◌++◌, map, drop, replicate, eqb, ltb, leb}
+use Rattle.std.specs.Prelude.{◌≡◌, refl, Bool, List, [], ◌∷◌, ◌++◌, map, drop, replicate, leb}
 use Rattle.std.proofs.Math.Path.{sym}
-use Rattle.std.proofs.Common.{ap, ap₂, ◌∙◌, append-nil, length-append, length-take, length-drop, take-append-drop, take-take, take_all, take_at, ltb-true, le-leb, leb-true, leb-false}
-use Prim.Native.Nat.{ℕ, zero, suc, ◌+◌, ◌-◌, ◌*◌, ◌/◌, ◌%◌, ◌≤◌, ◌<◌}
+use Rattle.std.proofs.Common.{ap, ap₂, ◌∙◌, append-nil, length-append, length-take, length-drop, take-append-drop, take_all, leb-true}
+use Prim.Native.Nat.{ℕ, ◌+◌, ◌-◌, ◌*◌, ◌≤◌, ◌<◌}
 use native.Mathlib.Omega.{arith}
 use Rattle.std.proofs.Math.Bool.{true, false}
 use Rattle.std.proofs.Math.ListN.{length, take}
 use Rattle.std.proofs.Math.Seq.{take-append-le}
-use Rattle.std.proofs.lemmas.Bool.{lt-leb}
-use Rattle.rows.specs.Rows.{All, Bits, Bytes, fill, same}
+use Rattle.rows.specs.Rows.{All, Bits, Bytes, fill}
 use Rattle.rows.specs.ListLaws.{same_sound, all_take_law, all_drop}
 use Rattle.parity.specs.Bits.{bits_of, unbits}
 use Rattle.parity.specs.BitLaws.{length_bits, bits_unbits}
 use Rattle.frame.specs.Frame.{air_bits, bytes_of}
 use Rattle.frame.specs.ByteLaws.{length_air_bits, bits_air_bits, bits_bytes_all, bytes_bits}
-use Rattle.field.specs.Merge.{merge, join}
+use Rattle.field.specs.Merge.{merge}
 use Rattle.field.specs.MergeLaws.{join_nil}
 use Rattle.rows.specs.Rows.{is_nil}
 use Rattle.request_v.specs.Inventory.{slot_of}
@@ -22,7 +21,7 @@ use Rattle.sent_v.specs.Sent.{grown_mask}
 use Rattle.answer_v.specs.Heard.{read_slot}
 use Rattle.reader_v.specs.Met.{flags, length_of, first_met}
 use Rattle.reader_v.specs.Met as met
-use Rattle.reader_v.specs.ReaderV.{round_of, is_deep, is_more}
+use Rattle.reader_v.specs.ReaderV.{round_of, is_more}
 use Rattle.reader_v.specs.CallsV.{round_for}
 use Rattle.sent_v.specs.declared.Round.{Round}
 use Rattle.request_v.specs.declared.Tag.{Tag}

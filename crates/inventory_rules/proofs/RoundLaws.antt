@@ -1,34 +1,29 @@
 -- A whole round over a field: each slot is told as its tags make it, and every tag is what it was. Assumes nothing.
-use Rattle.std.specs.Prelude.{◌≡◌, Bool, not, ◌&&◌, length, set, replicate, eqb}
+use Rattle.std.specs.Prelude.{◌≡◌, Bool, ◌&&◌, length, set, eqb}
 use Rattle.std.proofs.Math.Path.{refl, ap}
-use Rattle.std.proofs.Common.{sym, ◌∙◌, zero-add, add-one, lt-ltb, le-ltb, ne_eqb}
-use Prim.Native.Nat.{ℕ, zero, suc, ◌+◌, ◌-◌, ◌≤◌, ◌<◌}
+use Rattle.std.proofs.Common.{◌∙◌, zero-add, add-one, lt-ltb, ne_eqb}
+use Prim.Native.Nat.{ℕ, zero, suc, ◌+◌, ◌≤◌, ◌<◌}
 use native.Mathlib.Omega.{arith}
 use Rattle.std.proofs.Math.Bool.{true, false, cond}
 use mathlib.Core.List.{List, [], ◌∷◌, map}
 use Rattle.std.proofs.Math.Dec.{ltb}
-use Rattle.rows.specs.Rows.{All, Bytes}
-use Rattle.rows.specs.ListLaws.{map_all}
-use Rattle.rows.specs.EachLaws.{all_weaken}
+use Rattle.rows.specs.Rows.{All}
 use Rattle.field.specs.Merge.{merge}
 use Rattle.frame_b.specs.FrameB.{frame_b}
 use Rattle.tag.specs.Tag.{told, takes, answers, takes_eof, answers_eof}
 use Rattle.answer_v.specs.Heard.{read_slot}
-use Rattle.answer_v.specs.declared.SlotV.{SlotV}
 use Rattle.reader_v.specs.Met.{flags, first_met}
 use Rattle.reader_v.specs.ReaderV as rules
 use Rattle.reader_v.specs.ReaderV.{hear, hear_slot, slot_turn, met_after, telling, next_slot, finished, is_deep, turn_of}
 use Rattle.reader_v.specs.CallsV.{round_for, round_frame}
 use Rattle.sent_v.specs.declared.Round.{Round}
 use Rattle.request_v.specs.declared.Tag.{Tag}
-use Rattle.selection_b.specs.declared.Held.{Held}
-use Rattle.selection_b.specs.declared.SlotSays.TheVariants.{Holds}
 use Rattle.reader_v.specs.declared.PhaseV.TheVariants.{Ready, InSweep}
 use Rattle.reader_v.specs.declared.ReaderV.{ReaderV}
 use Rattle.reader_v.specs.declared.AnswerR.TheVariants.{NextSlot, NextRound, Ends}
 use Rattle.reader_v.specs.declared.TurnV.{TurnV}
-use Rattle.inventory_rules.specs.RunV.{Told, Out, before, ended, tells, heard_of, tags_after, follow, run}
-use Rattle.inventory_rules.specs.Claim.{Typed, rests, in_slot, told_of, slots_from, place}
+use Rattle.inventory_rules.specs.RunV.{Told, before, ended, heard_of, tags_after, follow, run}
+use Rattle.inventory_rules.specs.Claim.{rests, in_slot, told_of, slots_from, place}
 use Rattle.inventory_rules.specs.InRound.{in_round}
 use Rattle.inventory_rules.specs.TagLaws.{takes_request, answers_request, takes_eof_law, answers_eof_law, round_over_law}
 use Rattle.inventory_rules.proofs.SlotLaws.{row, sent, slot_v, awaited}

@@ -1,9 +1,9 @@
 -- What is heard in a slot: nothing of no tag, its UID of one, and a collision of more, since two UIDs that differ collide in some bit. Assumes nothing.
-use Rattle.std.specs.Prelude.{◌≡◌, ◌≢◌, ℕ, ◌+◌, ◌-◌, ◌*◌, ◌/◌, ◌≤◌, ◌<◌, Bool, not, ◌&&◌, ◌||◌, take, drop, eqb, leb}
+use Rattle.std.specs.Prelude.{◌≡◌, ◌≢◌, ℕ, ◌+◌, ◌/◌, ◌≤◌, ◌<◌, Bool, not, ◌&&◌, ◌||◌, take, drop, eqb}
 use Rattle.std.proofs.Math.Path.{refl, ap}
-use Rattle.std.proofs.Common.{sym, ◌∙◌, arith, true≢false, length-append, length-drop, drop-drop, drop_at}
+use Rattle.std.proofs.Common.{sym, ◌∙◌, arith, true≢false, length-drop, drop-drop, drop_at}
 use Rattle.std.proofs.Math.Bool.{true, false, cond}
-use mathlib.Core.List.{List, [], ◌∷◌, ◌++◌, append_assoc, map}
+use mathlib.Core.List.{List, [], ◌∷◌, ◌++◌, map}
 use Rattle.std.proofs.Math.ListN.{length}
 use Rattle.std.proofs.lemmas.List.{take-append-le, drop-append-le}
 use borrow.Author.Tests.{eq-eqb, le-leb, not-true, eqb-true}
@@ -24,10 +24,10 @@ use Rattle.request_v.specs.Inventory.{matching, slot_of}
 use Rattle.request_v.specs.Flags.{listens}
 use Rattle.selection_b.specs.TakenB.{admits}
 use Rattle.tag.specs.Tag.{told}
-use Rattle.answer_v.specs.Heard.{nobody, collided, fits, slot_in, read_slot}
+use Rattle.answer_v.specs.Heard.{nobody, fits, slot_in, read_slot}
 use Rattle.answer_v.specs.declared.SlotV.{SlotV}
 use Rattle.answer_v.specs.declared.Turn.{Turn}
-use Rattle.selection_b.specs.declared.Held.TheVariants.{None, One, More}
+use Rattle.selection_b.specs.declared.Held.TheVariants.{One, More}
 use Rattle.selection_b.specs.declared.SlotSays.TheVariants.{Holds}
 use Rattle.sent_v.specs.declared.Round.{Round}
 use Rattle.request_v.specs.declared.Tag.{Tag}

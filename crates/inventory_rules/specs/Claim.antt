@@ -1,7 +1,7 @@
 -- Document 02, T-10, of the claim: one round of 16 slots "over tags with different 64-bit UIDs, none selected, and a channel that only merges bits". Which tags
 -- are to be heard, and in which slot.
-use Rattle.std.specs.Prelude.{◌≡◌, ℕ, zero, suc, ◌+◌, ◌≤◌, ◌<◌, Bool, true, false, cond, not, ◌&&◌, List, [], ◌∷◌, ◌++◌, map, length, take, replicate, eqb}
-use Rattle.rows.specs.Rows.{All, Bytes, any, same, fill}
+use Rattle.std.specs.Prelude.{◌≡◌, ℕ, zero, suc, ◌+◌, ◌<◌, Bool, true, false, cond, not, ◌&&◌, List, [], ◌∷◌, ◌++◌, map, length, take, replicate, eqb}
+use Rattle.rows.specs.Rows.{Bytes, any, same, fill}
 use Rattle.parity.specs.Bits.{bits_of}
 use Rattle.frame.specs.Frame.{air_bits, bytes_of}
 use Rattle.selection_b.specs.TakenB.{admits}

@@ -1,5 +1,5 @@
 -- The claim's terms can be met, and what comes of it by value: three tags, of which two share their lowest half byte, and one that is quiet. Assumes nothing.
-use Rattle.std.specs.Prelude.{◌≡◌, refl, ℕ, ◌<◌, true, false, not, ◌&&◌, List, [], ◌∷◌, ◌++◌, map, length, take, drop}
+use Rattle.std.specs.Prelude.{refl, ℕ, ◌<◌, false, List, [], ◌∷◌}
 use Rattle.std.proofs.Common.{arith}
 use Rattle.rows.specs.Rows.{any, same}
 use Rattle.request_v.specs.declared.Tag.{Tag}

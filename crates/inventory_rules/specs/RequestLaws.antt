@@ -1,8 +1,8 @@
 -- What a round's request makes a tag do: the reader's writing read back by the tag. Assumes nothing.
-use Rattle.std.specs.Prelude.{◌≡◌, refl, Bool, cond, not, ◌&&◌, drop, replicate, eqb, leb}
-use Rattle.std.proofs.Common.{sym, ap₂, ◌∙◌, length-append, length-take, drop_at, take_all}
+use Rattle.std.specs.Prelude.{◌≡◌, refl, Bool, cond, not, ◌&&◌, drop, replicate}
+use Rattle.std.proofs.Common.{sym, ◌∙◌, length-append, length-take, drop_at}
 use Rattle.std.proofs.Math.Path.{ap}
-use Prim.Native.Nat.{ℕ, zero, suc, ◌+◌, ◌-◌, ◌*◌, ◌/◌, ◌≤◌, ◌<◌, min}
+use Prim.Native.Nat.{ℕ, zero, suc, ◌+◌, ◌-◌, ◌*◌, ◌/◌, ◌≤◌, ◌<◌}
 use native.Mathlib.Omega.{arith}
 use Rattle.std.proofs.Math.Bool.{true, false}
 use mathlib.Core.List.{List, [], ◌∷◌, ◌++◌, append_assoc}
@@ -15,16 +15,16 @@ use Rattle.rows.specs.ListLaws.{all_take_law, all_append}
 use Rattle.parity.specs.Bits.{bits_of}
 use Rattle.parity.specs.BitLaws.{length_bits}
 use Rattle.crc.specs.CrcOf.{with_of, crc_bytes_b}
-use Rattle.frame.specs.Frame.{air_bits, bytes_of}
+use Rattle.frame.specs.Frame.{air_bits}
 use Rattle.frame.specs.ByteLaws.{length_air_bits, air_bits_append, bits_bytes_all, bytes_fit, length_bytes}
 use Rattle.frame_b.specs.FrameB.{frame_b, byte_at}
 use Rattle.frame_b.specs.FrameBLaws.{length_frame, byte_behind}
 use Rattle.frame_v.specs.FrameV.{bytes_in, sound}
 use Rattle.frame_v.specs.FrameVLaws.{sound_frame}
 use Rattle.selection_b.specs.TakenB.{admits}
-use Rattle.request_v.specs.Flags.{flags_of, formed, is_off, listens}
-use Rattle.request_v.specs.Inventory.{length_at, most_mask, is_inventory, admitted, matching, slot_of, turn_in, inventory_deed}
-use Rattle.request_v.specs.Request.{request_deed, deed_by, deed_of}
+use Rattle.request_v.specs.Flags.{formed, is_off, listens}
+use Rattle.request_v.specs.Inventory.{is_inventory, admitted, matching, slot_of, turn_in, inventory_deed}
+use Rattle.request_v.specs.Request.{deed_by, deed_of}
 use Rattle.request_v.specs.declared.Tag.{Tag}
 use Rattle.request_v.specs.declared.StateV.{StateV}
 use Rattle.request_v.specs.declared.StateV.TheVariants.{Off, Ready, Quiet, Selected}

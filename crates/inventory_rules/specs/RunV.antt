@@ -1,6 +1,6 @@
 -- Document 02, T-10: a round of an inventory over the rules: each frame follows by the reader's rules from what was heard before it, every tag takes it by the
 -- tag's rules, and the reader hears their merged bits. No tag's memory or locks are looked at by an inventory, so that none are named.
-use Rattle.std.specs.Prelude.{ℕ, zero, suc, Bool, cond, List, [], ◌∷◌, map, eqb}
+use Rattle.std.specs.Prelude.{ℕ, zero, suc, cond, List, [], ◌∷◌, map, eqb}
 use Rattle.field.specs.Merge.{merge}
 use Rattle.tag.specs.Tag.{takes, answers, takes_eof, answers_eof}
 use Rattle.reader_v.specs.ReaderV.{hear}

@@ -1,27 +1,24 @@
 -- One tag through a round: the request, 15 EOFs, and it is what it was. Assumes nothing.
-use Rattle.std.specs.Prelude.{◌≡◌, ℕ, zero, suc, ◌+◌, ◌-◌, ◌≤◌, ◌<◌, Bool, ◌&&◌, length, take, drop}
+use Rattle.std.specs.Prelude.{◌≡◌, ℕ, ◌+◌, ◌-◌, ◌≤◌, ◌<◌, Bool, length, take, drop}
 use Rattle.std.proofs.Math.Path.{refl, ap}
-use Rattle.std.proofs.Common.{sym, ◌∙◌, true≢false, length-take}
+use Rattle.std.proofs.Common.{sym, length-take}
 use native.Mathlib.Omega.{arith}
 use Rattle.std.proofs.Math.Bool.{true, false, cond}
 use Rattle.std.proofs.lemmas.Bool.{false≢true}
 use mathlib.Core.List.{List, []}
 use Rattle.std.proofs.Math.Dec.{eqb}
 use borrow.Author.Tests.{eq-eqb, ne_eqb, eqb-true, eqb-false}
-use Rattle.rows.specs.Rows.{Bits, same}
-use Rattle.rows.specs.ListLaws.{both, all_take_law, all_drop}
+use Rattle.rows.specs.ListLaws.{all_take_law, all_drop}
 use Rattle.parity.specs.BitLaws.{unbits_lt}
 use Rattle.frame.specs.Frame.{air_bits}
 use Rattle.frame.specs.ByteLaws.{bits_air_bits}
 use Rattle.frame_b.specs.FrameB.{frame_b}
 use Rattle.request_v.specs.Flags.{listens}
 use Rattle.request_v.specs.Inventory.{slot_of, turn_in}
-use Rattle.request_v.specs.Request.{deed_of}
 use Rattle.tag.specs.Tag.{with_state, waiting, waits, state_after, told, row_of, takes, answers, takes_eof, answers_eof}
 use Rattle.request_v.specs.declared.Tag.{Tag}
 use Rattle.request_v.specs.declared.StateV.{StateV}
 use Rattle.request_v.specs.declared.StateV.TheVariants.{Off, Ready, Quiet, Selected}
-use Rattle.request_v.specs.declared.Deed.{Deed}
 use Rattle.request_v.specs.declared.Deed.TheVariants.{Nothing}
 use Rattle.sent_v.specs.declared.Round.{Round}
 use Rattle.reader_v.specs.CallsV.{round_for, round_frame}

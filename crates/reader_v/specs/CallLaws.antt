@@ -1,5 +1,5 @@
 -- Laws for the reader's calls. Assumes nothing.
-use Rattle.std.specs.Prelude.{◌≡◌, refl, ℕ, ◌+◌, ◌-◌, ◌*◌, ◌/◌, ◌≤◌, ◌<◌, true, false, not, ◌||◌, List, [], ◌∷◌, ltb, leb, eqb}
+use Rattle.std.specs.Prelude.{◌≡◌, refl, ℕ, ◌-◌, ◌/◌, ◌≤◌, true, false, not, ◌||◌, List, [], ◌∷◌, ltb, leb, eqb}
 use Rattle.std.proofs.Common.{sym, ap, ◌∙◌, arith, lt-ltb, le-ltb, ltb-true, ltb-false, leb-true}
 use Rattle.std.proofs.Math.Bool.{Bool, cond}
 use Rattle.std.proofs.Math.ListN.{length, replicate}
@@ -7,7 +7,7 @@ use Rattle.request_v.specs.Inventory.{most_mask}
 use Rattle.request_v.proofs.RequestLaws.{mask_64}
 use Rattle.rows.specs.ListLaws.{both}
 use Rattle.rows.specs.Rows.{overlay}
-use Rattle.refusal.specs.Refusal.{Said, giving, declining}
+use Rattle.refusal.specs.Refusal.{giving, declining}
 use Rattle.refusal.specs.declared.Refusal.TheVariants.{Room, Argument, NotDue}
 use Rattle.reader_v.specs.ReaderV.{turn, is_ready}
 use Rattle.reader_v.specs.CallsV.{asked_for, is_count, is_round, Calling, call_of, call_row, sent_in, call_says, Called}

@@ -1,6 +1,6 @@
 -- Laws for the reader's code: what it does with a row. Assumes nothing.
-use Rattle.std.specs.Prelude.{◌≡◌, refl, ℕ, ◌+◌, ◌-◌, ◌*◌, ◌/◌, ◌%◌, ◌≤◌, ◌<◌, Bool, true, false, not, ◌&&◌, List, length, ltb}
-use Rattle.std.proofs.Common.{sym, ap, ap₂, ◌∙◌, arith, lt-ltb, le-ltb}
+use Rattle.std.specs.Prelude.{◌≡◌, refl, ℕ, ◌≤◌, ◌<◌, Bool, true, false, not, ◌&&◌, List, ltb}
+use Rattle.std.proofs.Common.{sym, ap, ap₂, ◌∙◌, lt-ltb, le-ltb}
 use Rattle.std.proofs.Math.Bool.{cond}
 use Rattle.answer_v.specs.Heard.{read_slot, read_answer}
 use Rattle.answer_v.specs.declared.SlotV.{SlotV}
@@ -13,7 +13,6 @@ use Rattle.reader_v.specs.ReaderV.{stop, telling, next_slot, met_after, finished
 use Rattle.reader_v.specs.declared.PhaseV.{PhaseV}
 use Rattle.reader_v.specs.declared.ReaderV.{ReaderV}
 use Rattle.reader_v.specs.declared.AnswerR.TheVariants.{NextSlot}
-use Rattle.reader_v.specs.declared.TurnV.{TurnV}
 
 -- ---- a slot
 

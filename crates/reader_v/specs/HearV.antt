@@ -1,5 +1,5 @@
 -- Document 02, T-10: the call with which the reader hears a row, with lent room for a read's data and for the frame that goes out.
-use Rattle.std.specs.Prelude.{ℕ, ◌+◌, ◌*◌, Bool, true, false, cond, not, ◌||◌, List, [], ◌∷◌, length, drop, replicate, ltb}
+use Rattle.std.specs.Prelude.{ℕ, ◌+◌, ◌*◌, Bool, cond, not, ◌||◌, List, [], ◌∷◌, length, drop, ltb}
 use Rattle.rows.specs.Rows.{overlay}
 use Rattle.frame.specs.Frame.{bytes_of}
 use Rattle.selection_b.specs.HeardB.{held_number}

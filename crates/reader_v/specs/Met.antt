@@ -1,7 +1,7 @@
 -- Document 02, T-10: the slots of a sweep in which two tags met and whose rounds are not taken yet. A flag for each slot of each depth of the mask, 0 to 56
 -- bits: the deepest first, and of one depth in rising order. So the first flag that is set names the next round: "a round is finished, then its met slots
 -- are taken in rising order, each to its end".
-use Rattle.std.specs.Prelude.{ℕ, suc, ◌+◌, ◌-◌, ◌*◌, ◌/◌, ◌%◌, cond, List, [], ◌∷◌, set, eqb}
+use Rattle.std.specs.Prelude.{ℕ, suc, ◌+◌, ◌-◌, ◌*◌, ◌/◌, ◌%◌, cond, List, [], ◌∷◌, eqb}
 
 -- fifteen depths of sixteen slots
 abbrev pub flags : ℕ

@@ -1,6 +1,6 @@
 -- Laws of the slots that are still to come. Assumes nothing.
-use Rattle.std.specs.Prelude.{◌≡◌, refl, ◌≢◌, ℕ, zero, suc, ◌+◌, ◌≤◌, ◌<◌, Bool, true, false, cond, List, [], ◌∷◌, length, drop, get_or}
-use Rattle.std.proofs.Common.{sym, ap, ◌∙◌, add-zero, add-one, arith, drop_of_length-le, drop-cons, eq-eqb, ne_eqb}
+use Rattle.std.specs.Prelude.{◌≡◌, ◌≢◌, ℕ, ◌+◌, ◌≤◌, ◌<◌, List, length, drop, get_or}
+use Rattle.std.proofs.Common.{add-one, arith, drop_of_length-le, drop-cons, ne_eqb}
 use Rattle.reader_v.specs.Met.{first_met}
 
 -- ---- the loop

@@ -1,8 +1,7 @@
 -- Document 02, T-10: the reader of vicinity cards: its phases, and what it does with a row. What the row says is the matter of crate answer_v.
-use Rattle.std.specs.Prelude.{ℕ, ◌+◌, ◌*◌, ◌<◌, Bool, true, false, cond, not, ◌&&◌, List, [], length, replicate, set, ltb, leb}
+use Rattle.std.specs.Prelude.{ℕ, ◌+◌, Bool, true, false, cond, not, ◌&&◌, List, replicate, set, ltb, leb}
 use Rattle.rows.specs.Rows.{is_nil}
-use Rattle.frame_b.specs.FrameB.{frame_b}
-use Rattle.sent_v.specs.Sent.{grown_mask, round_bytes}
+use Rattle.sent_v.specs.Sent.{grown_mask}
 use Rattle.sent_v.specs.declared.Round.{Round}
 use Rattle.answer_v.specs.Heard.{read_slot, read_answer}
 use Rattle.answer_v.specs.declared.SlotV.{SlotV}
@@ -20,7 +19,7 @@ use Rattle.reader_v.specs.declared.PhaseV.{PhaseV}
 use Rattle.reader_v.specs.declared.PhaseV.TheVariants.{Ready, InRound, InSweep, QuietSent, ReadSent, OtherSent, Stopped}
 use Rattle.reader_v.specs.declared.ReaderV.{ReaderV}
 use Rattle.reader_v.specs.declared.AnswerR.{AnswerR}
-use Rattle.reader_v.specs.declared.AnswerR.TheVariants.{Sends, NextSlot, NextRound, Ends, Quieted, Data, Done, TagError, Declines}
+use Rattle.reader_v.specs.declared.AnswerR.TheVariants.{NextSlot, NextRound, Ends, Quieted, Data, Done, TagError, Declines}
 use Rattle.reader_v.specs.declared.TurnV.{TurnV}
 
 -- ---- readers and turns: what a phase does not need is zero

@@ -1,6 +1,6 @@
 -- Every turn of the reader is safe. Assumes nothing.
-use Rattle.std.specs.Prelude.{◌≡◌, refl, ℕ, ◌+◌, ◌-◌, ◌*◌, ◌/◌, ◌%◌, ◌≤◌, ◌<◌, Bool, true, false, cond, not, ◌&&◌, ◌||◌, List, length, set, take, drop, eqb, leb}
-use Rattle.std.proofs.Common.{sym, ap, ◌∙◌, div-add-mod', mul-le-mul_right, mul_comm, arith, true≢false, length-drop, take_all, eqb-true, leb-true, ltb-true, ltb-false}
+use Rattle.std.specs.Prelude.{◌≡◌, refl, ℕ, ◌+◌, ◌-◌, ◌*◌, ◌/◌, ◌%◌, ◌≤◌, Bool, true, false, cond, not, ◌&&◌, ◌||◌, List, length, take, drop, eqb, leb}
+use Rattle.std.proofs.Common.{ap, ◌∙◌, div-add-mod', mul-le-mul_right, mul_comm, arith, true≢false, length-drop, take_all, eqb-true, leb-true, ltb-false}
 use Rattle.std.proofs.Math.Dec.{ltb}
 use Rattle.std.proofs.lemmas.Bool.{not-false}
 use Rattle.rows.specs.ListLaws.{both}
@@ -20,7 +20,7 @@ use Rattle.selection_b.specs.declared.Held.{Held}
 use Rattle.selection_b.specs.declared.SlotSays.{SlotSays}
 use Rattle.selection_b.specs.declared.SlotSays.TheVariants.{Holds, NotSlot}
 use Rattle.reader_v.specs.Met.{flags, first_met}
-use Rattle.reader_v.specs.ReaderV.{blank, turn, awaits, at_round, telling, next_slot, round_of, finished, told, turn_of, met_after, slot_turn, hear_slot, hear_quiet, answer_turn, hear_in, hear}
+use Rattle.reader_v.specs.ReaderV.{turn, awaits, round_of, finished, told, turn_of, met_after, slot_turn, hear_slot, hear_quiet, answer_turn, hear_in, hear}
 use Rattle.reader_v.specs.HearV.{data_room, is_short, sized, hear_call, turn_says, hear_says}
 use Rattle.reader_v.specs.SafeV.{Safe}
 use Rattle.reader_v.specs.declared.PhaseV.{PhaseV}

@@ -1,5 +1,6 @@
 // Document 02, T-10: one reader of vicinity cards, stepped by what it hears, by value. Each frame that goes out stands at the front of a lent row.
 #![tactic(auto)]
+
 pub mod calls;
 pub mod within;
 

@@ -1,11 +1,11 @@
 -- Laws for the code that reads a request. Assumes nothing.
-use Rattle.std.specs.Prelude.{◌≡◌, refl, ◌≢◌, Bool, true, false, cond, not, ◌&&◌, ◌||◌, List, ◌∷◌, length, take, eqb, leb, ltb}
-use Rattle.std.proofs.Common.{sym, ap, ◌∙◌, add-zero, le_trans, mul-le-mul_left, add-one}
+use Rattle.std.specs.Prelude.{◌≡◌, ◌≢◌, Bool, true, false, cond, not, ◌&&◌, List, ◌∷◌, length, take, eqb, leb}
+use Rattle.std.proofs.Common.{sym, ap, ◌∙◌, add-zero, le_trans, mul-le-mul_left}
 use Prim.Native.Nat.{ℕ, suc, ◌+◌, ◌-◌, ◌*◌, ◌/◌, ◌≤◌, ◌<◌}
 use native.Mathlib.Omega.{arith}
 use Rattle.std.proofs.Math.ListN.{drop, get_or}
 use Rattle.std.proofs.Math.Seq.{drop-cons}
-use borrow.Author.Tests.{eq-eqb, ne_eqb, eqb-true, leb-true, ltb-false}
+use borrow.Author.Tests.{ne_eqb, eqb-true, leb-true, ltb-false}
 use Rattle.rows.specs.Rows.{any}
 use Rattle.rows.specs.ListLaws.{both}
 use Rattle.frame_b.specs.FrameB.{byte_at}

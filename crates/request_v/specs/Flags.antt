@@ -1,5 +1,5 @@
 -- Document 02, T-10: a request's flags, and the four states of a tag.
-use Rattle.std.specs.Prelude.{ℕ, ◌/◌, ◌%◌, Bool, true, false, not, ◌&&◌, ◌||◌, eqb}
+use Rattle.std.specs.Prelude.{ℕ, ◌/◌, ◌%◌, Bool, true, false, not, ◌&&◌, eqb}
 use Rattle.request_v.specs.declared.Flags.{Flags}
 use Rattle.request_v.specs.declared.StateV.{StateV}
 use Rattle.request_v.specs.declared.StateV.TheVariants.{Off, Ready, Quiet, Selected}

@@ -1,7 +1,7 @@
 -- Document 02, T-10: "stay quiet, select, reset to ready, read and write of single and several blocks, lock, and the error codes in its table 7".
 -- What a request other than an inventory makes a tag do. Codes: 02 stay quiet, 20 and 23 read, 21 and 24 write, 22 lock, 25 select, 26 reset to ready;
 -- 23 and 24 name several blocks, with their count less one.
-use Rattle.std.specs.Prelude.{ℕ, ◌+◌, ◌-◌, ◌*◌, Bool, true, false, cond, not, ◌&&◌, ◌||◌, List, take, drop, eqb, leb, ltb}
+use Rattle.std.specs.Prelude.{ℕ, ◌+◌, ◌-◌, ◌*◌, Bool, cond, not, ◌&&◌, ◌||◌, List, take, drop, eqb, leb, ltb}
 use Rattle.rows.specs.Rows.{any}
 use Rattle.frame_b.specs.FrameB.{byte_at}
 use Rattle.frame_v.specs.FrameV.{bytes_in, sound}

@@ -1,5 +1,6 @@
 // Document 02, T-10: what a request asks of one vicinity tag. Nothing is done here: a request is read, with the tag and its locks, into one value.
 #![tactic(auto)]
+
 pub mod within;
 
 ghost use Rattle.std.specs.Prelude.{◌≡◌};

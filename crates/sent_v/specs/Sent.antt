@@ -1,5 +1,5 @@
 -- Document 02, T-10: the requests that our reader sends, as bytes without CRC_B. It works with one sub-carrier and at the high rate: b1 clear, b2 set.
-use Rattle.std.specs.Prelude.{ℕ, ◌+◌, ◌-◌, ◌/◌, Bool, cond, List, [], ◌∷◌, ◌++◌, take}
+use Rattle.std.specs.Prelude.{ℕ, ◌+◌, ◌/◌, Bool, cond, List, [], ◌∷◌, ◌++◌, take}
 use Rattle.rows.specs.Rows.{fill}
 use Rattle.parity.specs.Bits.{bits_of}
 use Rattle.frame.specs.Frame.{air_bits, bytes_of}

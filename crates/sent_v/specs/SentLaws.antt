@@ -8,7 +8,7 @@ use Rattle.rows.proofs.RowLaws.{overlay_next, overlay_all}
 use Rattle.rows.specs.ListLaws.{all_append, all_take_law}
 use Rattle.rows.specs.CleanLaws.{bits_clean}
 use Rattle.parity.specs.Bits.{bits_of}
-use Rattle.parity.specs.BitLaws.{length_bits, bits_bits}
+use Rattle.parity.specs.BitLaws.{bits_bits}
 use Rattle.frame.specs.Frame.{air_bits, bytes_of}
 use Rattle.frame.specs.ByteLaws.{length_air_bits, air_bits_append, bits_air_bits, length_bytes}
 

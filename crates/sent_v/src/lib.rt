@@ -1,5 +1,6 @@
 // Document 02, T-10: the requests of the reader of vicinity cards, written as rows.
 #![tactic(auto)]
+
 pub mod within;
 
 // Whom a request is for: the tag with a UID, every tag that is not quiet, or the selected one.

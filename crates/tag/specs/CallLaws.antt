@@ -1,10 +1,8 @@
 -- Laws for the tag's calls: rooms, and what a write leaves. Assumes nothing.
-use Rattle.std.specs.Prelude.{◌≡◌, refl, ℕ, ◌+◌, ◌-◌, ◌*◌, ◌≤◌, ◌<◌, max, Bool, true, false, cond, not, ◌||◌, List, length, take, drop, ltb}
-use Rattle.std.proofs.Common.{sym, ap, ◌∙◌, mul-le-mul_right, mul_comm, mul-add, mul-le-mul, le_trans, arith, true≢false, length-take, length-drop, take_all, ltb-false}
-use Rattle.rows.specs.Rows.{overlay, clean}
-use Rattle.rows.proofs.RowLaws.{overlay_part}
+use Rattle.std.specs.Prelude.{◌≡◌, refl, ℕ, ◌+◌, ◌-◌, ◌*◌, ◌≤◌, ◌<◌, Bool, true, false, cond, not, ◌||◌, List, length, take, drop, ltb}
+use Rattle.std.proofs.Common.{ap, ◌∙◌, mul-le-mul_right, mul_comm, mul-add, mul-le-mul, le_trans, arith, true≢false, length-take, length-drop, take_all, ltb-false}
+use Rattle.rows.specs.Rows.{clean}
 use Rattle.rows.specs.HeardLaws.{clean_take, clean_drop}
-use Rattle.frame.specs.Frame.{bytes_of}
 use Rattle.frame_v.specs.FrameV.{bytes_in, sound}
 use Rattle.frame_v.specs.FrameVLaws.{sound_is}
 use Rattle.refusal.specs.Refusal.{declining}

@@ -1,7 +1,7 @@
 -- Laws of a tag's memory: what a read shows, block by block. Assumes nothing.
-use Rattle.std.specs.Prelude.{◌≡◌, refl, Bool, cond, List, [], ◌∷◌, ◌++◌, length, drop, get_or, eqb}
+use Rattle.std.specs.Prelude.{◌≡◌, Bool, cond, List, [], ◌∷◌, ◌++◌, length, drop, get_or, eqb}
 use Rattle.std.proofs.Math.Path.{sym, ap}
-use Rattle.std.proofs.Common.{◌∙◌, add-zero, zero-add, add-mul, mul-le-mul_right, mul-le-mul_left, le_trans, mul-add, mul_comm, add-one, append_assoc, append-nil, length-append, length-take, length-drop}
+use Rattle.std.proofs.Common.{◌∙◌, add-zero, add-mul, mul-le-mul_right, mul_comm, add-one, append_assoc, append-nil, length-append, length-take, length-drop}
 use Prim.Native.Nat.{ℕ, zero, suc, ◌+◌, ◌-◌, ◌*◌, ◌≤◌, ◌<◌}
 use native.Mathlib.Omega.{arith}
 use Rattle.std.proofs.Math.Bool.{true, false}
@@ -9,10 +9,9 @@ use Rattle.std.proofs.Math.ListN.{take}
 use Rattle.rows.specs.Rows.{overlay, Bytes}
 use Rattle.rows.proofs.RowLaws.{overlay_next}
 use Rattle.rows.specs.ListLaws.{all_take_law, all_drop, all_append}
-use Rattle.parity.specs.BitLaws.{length_bits}
 use Rattle.frame.specs.Frame.{air_bits}
-use Rattle.frame.specs.ByteLaws.{length_air_bits, air_bits_append, air_bits_one}
-use Rattle.tag.specs.Memory.{block_of, status_of, shown, shown_from}
+use Rattle.frame.specs.ByteLaws.{length_air_bits, air_bits_append}
+use Rattle.tag.specs.Memory.{block_of, shown, shown_from}
 
 -- ---- one block
 

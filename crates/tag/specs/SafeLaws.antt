@@ -1,22 +1,22 @@
 -- Every deed of a request is safe: it names only blocks that are there. Assumes nothing.
 use Rattle.std.proofs.Math.Path.{◌≡◌, refl}
-use Rattle.std.proofs.Common.{sym, ap, ◌∙◌, arith}
+use Rattle.std.proofs.Common.{ap, ◌∙◌, arith}
 use Prim.Native.Nat.{ℕ, ◌+◌, ◌-◌, ◌*◌, ◌≤◌, ◌<◌}
-use Rattle.std.specs.Prelude.{Bool, cond, ◌&&◌, ◌||◌, List, length, eqb, leb}
+use Rattle.std.specs.Prelude.{Bool, cond, ◌&&◌, ◌||◌, List, eqb, leb}
 use Rattle.std.proofs.Math.Bool.{true, false, not}
-use borrow.Author.Tests.{eqb-true, not-false, not-true}
+use borrow.Author.Tests.{eqb-true, not-false}
 use Rattle.rows.specs.ListLaws.{both}
 use Rattle.frame_b.specs.FrameB.{byte_at}
 use Rattle.frame_v.specs.FrameV.{bytes_in, sound}
-use Rattle.frame_v.specs.FrameVLaws.{Sound, sound_is}
+use Rattle.frame_v.specs.FrameVLaws.{sound_is}
 use Rattle.request_v.specs.Flags.{flags_of, formed, is_off, listens, is_selected}
 use Rattle.request_v.specs.Inventory.{length_at, is_inventory, admitted, matching, slot_of, turn_in, inventory_deed}
-use Rattle.request_v.specs.Request.{is_command, is_read, count_of, length_due, absent, any_locked, lock_error, option_error, error_of, fails_with, done_of, command_deed, meant, is_bare, parameters_at, quiet_deed, lone_select, asked_deed, own_deed, other_deed, request_deed, deed_by, deed_of}
+use Rattle.request_v.specs.Request.{is_command, is_read, count_of, length_due, absent, any_locked, lock_error, option_error, error_of, fails_with, done_of, command_deed, meant, is_bare, parameters_at, lone_select, asked_deed, own_deed, other_deed, request_deed, deed_by, deed_of}
 use Rattle.request_v.proofs.RequestLaws.{not_absent, meant_long}
 use Rattle.request_v.specs.declared.Tag.{Tag}
 use Rattle.request_v.specs.declared.Flags.{Flags}
 use Rattle.request_v.specs.declared.Deed.{Deed}
-use Rattle.request_v.specs.declared.Deed.TheVariants.{Nothing, Quiets, Drops, Tells, Waits, Fails, Reads, Writes, Locks, Selects, Resets}
+use Rattle.request_v.specs.declared.Deed.TheVariants.{Nothing, Quiets, Drops, Tells, Waits, Fails}
 use Rattle.tag.specs.Safe.{Safe}
 
 -- ---- no error

@@ -1,5 +1,5 @@
 -- Document 02, T-10: a tag's rules: its next state, the row that it sends, its memory and its locks, by what a request makes it do.
-use Rattle.std.specs.Prelude.{ℕ, ◌-◌, ◌*◌, Bool, true, false, cond, List, [], ◌∷◌, drop, eqb, leb}
+use Rattle.std.specs.Prelude.{ℕ, ◌-◌, ◌*◌, cond, List, [], ◌∷◌, drop, eqb}
 use Rattle.rows.specs.Rows.{overlay}
 use Rattle.frame.specs.Frame.{bytes_of}
 use Rattle.frame_b.specs.FrameB.{frame_b}

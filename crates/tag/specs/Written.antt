@@ -1,5 +1,5 @@
 -- Document 02, T-10, of the claim: "a write without error makes the named blocks those sent and changes no other".
-use Rattle.std.specs.Prelude.{◌≡◌, ℕ, ◌+◌, ◌-◌, ◌*◌, ◌≤◌, ◌<◌, List, length, drop}
+use Rattle.std.specs.Prelude.{◌≡◌, ℕ, ◌+◌, ◌*◌, ◌≤◌, ◌<◌, List, length, drop}
 use Rattle.frame.specs.Frame.{bytes_of}
 use Rattle.tag.specs.Memory.{block_of}
 

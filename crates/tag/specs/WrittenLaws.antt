@@ -1,6 +1,6 @@
 -- A write without error makes the named blocks those sent and changes no other. Assumes nothing.
 use Rattle.std.specs.Prelude.{◌≡◌, refl, List, [], ◌∷◌, ◌++◌, take}
-use Rattle.std.proofs.Common.{sym, ◌∙◌, mul-add, mul_comm, mul-le-mul_left, length-take, take-take, length-take-le}
+use Rattle.std.proofs.Common.{sym, ◌∙◌, mul-add, mul-le-mul_left, take-take, length-take-le}
 use Rattle.std.proofs.Math.Path.{ap}
 use Prim.Native.Nat.{ℕ, zero, suc, ◌+◌, ◌-◌, ◌*◌, ◌≤◌, ◌<◌}
 use native.Mathlib.Omega.{arith}

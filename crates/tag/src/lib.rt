@@ -1,5 +1,6 @@
 // Document 02, T-10: one vicinity tag, by value. Its memory and its locks are lent at each call.
 #![tactic(auto)]
+
 pub mod within;
 
 ghost use Rattle.std.specs.Prelude.{◌≡◌, length};
