@@ -1,6 +1,7 @@
 // Document 01, "RATS, ATS and blocks": the card's end of the block protocol. No type holds bytes: payloads stay in the lent frame and in
 // the lent messages, and a link holds places and counts. Crate card_link puts it on the air.
 #![tactic(auto)]
+
 ghost use Rattle.std.specs.Prelude.{◌≡◌, cond, length, ◌<◌, ◌^◌};
 ghost use Rattle.rows.specs.Rows.{overlay};
 ghost use Rattle.block.specs.Cut.{part};

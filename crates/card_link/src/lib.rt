@@ -1,5 +1,6 @@
 // Document 01, "The card" and "RATS, ATS and blocks": the whole card, every state. `whole` has its calls.
 #![tactic(auto)]
+
 pub mod whole;
 
 use block::Told;

@@ -6,6 +6,7 @@
 // specs/Lossy.antt: the run on rows where frames may be lost or damaged, of which `rowTalk` is the case without errors; `lossy` is that run.
 // What holds of it is in crate lost_blocks.
 #![tactic(auto)]
+
 ghost use Rattle.std.specs.Prelude.{◌≡◌, true, false, cond, ℕ, ◌-◌, ◌^◌, ◌≤◌, ◌<◌, length, take, get_or};
 ghost use Rattle.limits.specs.Limits.{row_room};
 ghost use Rattle.rows.specs.Rows.{overlay};

@@ -1,5 +1,6 @@
 // A card kept in lent bytes. `whole` has the whole card, with its end of the block protocol.
 #![tactic(auto)]
+
 mod link;
 pub mod whole;
 pub mod within;

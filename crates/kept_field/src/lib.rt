@@ -1,5 +1,6 @@
 // A row of cards kept in lent bytes, and what a sweep over them leaves.
 #![tactic(auto)]
+
 pub mod within;
 
 ghost use Rattle.std.specs.Prelude.{◌≡◌, ◌<◌};

@@ -1,5 +1,6 @@
 // A reader that remembers (T-14, crate memory) kept in lent bytes: the reader of a sweep, and its path.
 #![tactic(auto)]
+
 pub mod within;
 
 ghost use Rattle.std.specs.Prelude.{◌≡◌, ◌&&◌, ◌<◌, length};

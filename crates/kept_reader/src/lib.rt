@@ -1,5 +1,6 @@
 // A whole reader kept in lent bytes: its selection (`select`), its link (`link`), and what it answered last.
 #![tactic(auto)]
+
 pub mod link;
 pub mod select;
 pub mod within;

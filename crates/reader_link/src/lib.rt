@@ -1,5 +1,6 @@
 // Document 01, "The reader and the sweep" and "RATS, ATS and blocks": the whole reader, every phase. `whole` has its calls.
 #![tactic(auto)]
+
 pub mod whole;
 
 use block::Told;

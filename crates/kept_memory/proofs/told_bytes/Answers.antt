@@ -1,0 +1,7 @@
+-- `kept_memory::told_bytes` meets its contract, by the law `told-put`. Assumes nothing.
+use Rattle.kept_memory.specs.KeptMemoryLaws.{told_put}
+use borrow.Author.Rules.{rules}
+use Rattle.kept_memory.proofs.told_bytes.Goals as goal
+
+pub returns : goal.returns
+returns c = record { value = told_put c.args.a _ _ _ _ c.event-e.ensures c.place.ensures c.word-w.ensures c.put.ensures; a_bound = rw (← c.place.ensures) (search rules) }

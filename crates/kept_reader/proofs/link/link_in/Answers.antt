@@ -1,0 +1,12 @@
+-- `kept_reader::link::link_in` meets its contract, number by number. Assumes nothing.
+use borrow.Author.Tests.{eq-eqb, ne_eqb}
+use Rattle.kept_reader.proofs.link.link_in.Goals as goal
+
+pub returns-then-t-eq0 : goal.returns-then-t-eq0
+returns-then-t-eq0 c = simp (eq-eqb _ _ c.if-t-eq0.true)
+
+pub returns-then-t-eq1 : goal.returns-then-t-eq1
+returns-then-t-eq1 c = simp (ne_eqb _ _ c.if-t-eq0.false, eq-eqb _ _ c.if-t-eq1.true)
+
+pub returns : goal.returns
+returns c = simp (ne_eqb _ _ c.if-t-eq0.false, ne_eqb _ _ c.if-t-eq1.false)

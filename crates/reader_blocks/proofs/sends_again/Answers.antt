@@ -1,0 +1,12 @@
+use borrow.Author.Tests.{le-ltb, lt-ltb}
+use borrow.Author.Rules.{rules}
+use Rattle.reader_blocks.specs.ReaderRules.{reader_again}
+use Rattle.reader_blocks.proofs.sends_again.Goals as goal
+
+pub returns-then-l-lt2 : goal.returns-then-l-lt2
+unfolding reader_again
+returns-then-l-lt2 c = rw (c.sends.ensures, c.reader_at-next.ensures, lt-ltb c.args.l.again 2 c.if-l-lt2.true)
+
+pub returns : goal.returns
+unfolding reader_again
+returns c = rw (c.stop.ensures, le-ltb c.args.l.again 2 c.if-l-lt2.false)
