@@ -1,5 +1,6 @@
 // A Type B reader kept in lent bytes, with what the last call answered. `card` has the Type B card.
 #![tactic(auto)]
+
 pub mod card;
 pub mod within;
 
