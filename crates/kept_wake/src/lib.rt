@@ -1,5 +1,6 @@
 // What waking one known card of a row of cards in lent bytes leaves (T-03).
 #![tactic(auto)]
+
 pub mod within;
 
 ghost use Rattle.std.specs.Prelude.{◌≡◌};
