@@ -1,5 +1,6 @@
 // A row of Type B cards kept in lent bytes, each with the slot number that its host drew, and what a request with all its markers leaves (T-05).
 #![tactic(auto)]
+
 pub mod within;
 
 ghost use Rattle.std.specs.Prelude.{◌≡◌};

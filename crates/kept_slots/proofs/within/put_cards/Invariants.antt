@@ -1,0 +1,17 @@
+-- `kept_slots::within::put_cards` meets its contract. The loop's invariant: the cards before i are written. Assumes nothing.
+use Prim.Native.Nat.{◌≤◌, ◌-◌}
+use mathlib.Core.Path.{◌≡◌, refl, ◌∙◌}
+use native.Mathlib.Omega.{arith}
+use borrow.Author.Rules.{rules}
+use lib.ListN.{length, take}
+use Rattle.rows.specs.Rows.{All}
+use Rattle.kept.specs.States.{states_left}
+use Rattle.kept_slots.specs.KeptSlots.{cards_left}
+use Rattle.kept_slots.specs.SlotsLaws.{Whole, put_turn, put_done}
+use Rattle.kept_slots.proofs.within.put_cards.Given as goal
+
+abbrev pub invariant-loop-i : goal.invariant-loop-i
+invariant-loop-i l = (l.i ≤ l.m) × (l.m ≤ l.n) × (l.m ≤ 32) × (length l.cards ≡ 32) × (length l.b ≡ length l.initial.b) × (l.b ≡ cards_left l.initial.b (take l.i l.cards)) × All Whole (take l.i l.cards)
+
+abbrev pub decreases-loop-i : goal.decreases-loop-i
+decreases-loop-i l = l.m - l.i
