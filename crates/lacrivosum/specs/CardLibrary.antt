@@ -1,4 +1,4 @@
--- The whole card for C: the calls of crate card_link on the card that the lent bytes say, by `cardTurnLeft` and `keptCardAfter` of crate kept_card.
+-- The whole card for C: the calls of crate card_link on the card that the lent bytes say, by `card_turn_left` and `kept_card_after` of crate kept_card.
 use Rattle.std.specs.Prelude.{ℕ, Bool, true, false, cond, List, [], length, eqb, ltb}
 use Rattle.refusal.specs.declared.Refusal.TheVariants.{Room}
 use Rattle.rows.specs.Rows.{overlay}

@@ -48,7 +48,7 @@ unfolding left
 card_left s b b' f x h e w = rw (le-ltb _ _ h, ← e) w
 
 -- a card's call that gives t, on the card x with the buffer b lent: refused, it leaves state, row and buffer (every call is of such a t, by the
--- laws `take-declines` and those beside it)
+-- laws `take_declines` and those beside it)
 pub card_refused : (s o b : List ℕ) (x : LinkCard) (t : Out LinkCard) → Declines x b t → told_refuses t.told ≡ true
     → ((card_done s o t).state ≡ s) × (((card_done s o t).out ≡ o) × (t.buffer ≡ b))
 unfolding card_done card_turn_left

@@ -1,5 +1,5 @@
 -- Both sweeps for C, over a row of n cards' states: the reader's state and the cards are decoded, the sweep is made by value, and what it leaves
--- is encoded, by `stateLeft` and `rowLeft` of crate kept_field.
+-- is encoded, by `state_left` and `row_left` of crate kept_field.
 use Rattle.std.specs.Prelude.{ℕ, ◌/◌, ◌≤◌, ◌≡◌, Bool, true, cond, ◌||◌, List, length, ltb}
 use Rattle.limits.specs.Limits.{most_cards, log_room, list_room}
 use Rattle.refusal.specs.declared.Refusal.TheVariants.{Room}

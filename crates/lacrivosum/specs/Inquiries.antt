@@ -1,6 +1,6 @@
 -- T-05 for C: one request with all its markers over a row of Type B cards' states, one for each slot number that the host hands in. The reader's
--- state and the cards are decoded, the call of crate slots is made by value, and what it leaves is encoded, by `turnLeft` of crate kept_b and
--- `rowLeft` of crate kept_slots.
+-- state and the cards are decoded, the call of crate slots is made by value, and what it leaves is encoded, by `turn_left` of crate kept_b and
+-- `row_left` of crate kept_slots.
 use Rattle.std.specs.Prelude.{ℕ, ◌/◌, ◌≤◌, ◌≡◌, true, cond, List, map, length}
 use Rattle.limits.specs.Limits.{most_cards}
 use Rattle.refusal.specs.declared.Refusal.{Refusal}

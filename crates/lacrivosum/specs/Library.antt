@@ -1,5 +1,5 @@
 -- The core as a library for C: state in bytes that the caller lends. A call decodes them, makes the call by value and encodes what it leaves, by
--- `turnLeft` and `keptAfter` of crate kept_reader.
+-- `turn_left` and `kept_after` of crate kept_reader.
 use Rattle.std.specs.Prelude.{ℕ, ◌-◌, cond, List, length, eqb, ltb}
 use Rattle.refusal.specs.declared.Refusal.TheVariants.{Room}
 use Rattle.rows.specs.Rows.{overlay}
@@ -38,6 +38,6 @@ uid_done s o =
     cond (ltb (length s) state_size) (done (refused Room) s o)
     (cond (ltb (length o) uid_room) (done (refused Room) s o) (uid_given (uid_in s) s o))
 
--- what an answer is to C, that has the number n in the table's terms (0: not refused) and so many bits to send (law `number-says`)
+-- what an answer is to C, that has the number n in the table's terms (0: not refused) and so many bits to send (law `number_says`)
 abbrev pub coded : ℕ → ℕ → ℕ
 coded n bits = cond (eqb n 0) bits (18446744073709551616 - n)

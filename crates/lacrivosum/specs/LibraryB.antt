@@ -1,5 +1,5 @@
--- Type B for C: the calls of crates reader_b and card_b on the reader and the card that the lent bytes say, by `turnLeft`, `keptAfter` and
--- `takenLeft` of crate kept_b.
+-- Type B for C: the calls of crates reader_b and card_b on the reader and the card that the lent bytes say, by `turn_left`, `kept_after` and
+-- `taken_left` of crate kept_b.
 use Rattle.std.specs.Prelude.{ℕ, Bool, cond, ◌&&◌, List, length, eqb, ltb}
 use Rattle.refusal.specs.declared.Refusal.TheVariants.{Room, Argument}
 use Rattle.rows.specs.Rows.{overlay}

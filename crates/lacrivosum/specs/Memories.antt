@@ -1,4 +1,4 @@
--- The reader that remembers for C: state in bytes that the caller lends, by `memoryLeft` and `memoryAfter` of crate kept_memory.
+-- The reader that remembers for C: state in bytes that the caller lends, by `memory_left` and `memory_after` of crate kept_memory.
 use Rattle.std.specs.Prelude.{ℕ, cond, List, length, ltb}
 use Rattle.refusal.specs.declared.Refusal.TheVariants.{Room}
 use Rattle.reader.specs.Calls.{row_after}

@@ -1,4 +1,4 @@
--- The number that a call gives is the one of the shared definition of answers (a reader's by `linkTurnSays`, a card's by `toldSays`); and a refusal
+-- The number that a call gives is the one of the shared definition of answers (a reader's by `link_turn_says`, a card's by `told_says`); and a refusal
 -- that leaves the reader what it was leaves every byte. Assumes nothing.
 use Rattle.std.specs.Prelude.{◌≡◌, refl, true, List, ℕ}
 use Rattle.std.proofs.Common.{arith, ne_eqb}

@@ -1,5 +1,5 @@
 -- T-03 for C: one known card of a row of n cards' states is woken and selected. The reader's state and the cards are decoded, the call of crate
--- wake is made by value, and what it leaves is encoded, by `turnLeft` of crate kept_reader and `rowLeft` of crate kept_wake.
+-- wake is made by value, and what it leaves is encoded, by `turn_left` of crate kept_reader and `row_left` of crate kept_wake.
 use Rattle.std.specs.Prelude.{ℕ, ◌/◌, ◌≤◌, ◌≡◌, true, cond, List, length}
 use Rattle.limits.specs.Limits.{most_cards}
 use Rattle.refusal.specs.declared.Refusal.{Refusal}
