@@ -3,6 +3,7 @@
 // reader stays what it was. Every call is 1 on a state that is too short. `card_calls` has the card's, `sweeps` both sweeps, `type_b` those of
 // Type B, `frames` what needs no state.
 #![tactic(auto)]
+
 pub mod card_calls;
 pub mod delays;
 pub mod frames;

@@ -1,0 +1,7 @@
+-- `lacrivosum::frames::lac_frame_write_crc` meets its contract, by that of crate frame's call. Assumes nothing.
+use Rattle.lacrivosum.specs.FrameLaws.{written_said}
+use borrow.Author.Rules.{rules}
+use Rattle.lacrivosum.proofs.frames.lac_frame_write_crc.Goals as goal
+
+pub returns : goal.returns
+returns c = let w = c.write_crc-w in let both = written_said w.result _ _ _ _ _ w.ensures.result_value w.ensures.out_after c.written_number.ensures in record { value = both.0; out_after = both.1 }

@@ -1,0 +1,6 @@
+-- `lacrivosum::type_b::lac_b_card_state` meets its contract, by those of its parts. Assumes nothing.
+use borrow.Author.Rules.{rules}
+use Rattle.lacrivosum.proofs.type_b.lac_b_card_state.Goals as goal
+
+pub returns : goal.returns
+returns c = rw (c.state_tag.ensures, c.card_of-c.ensures)
