@@ -5,52 +5,63 @@
 # `make lib` proves the library for C and archives it, `make examples` compiles the programs of examples/ with it and runs them,
 # `make fuzz CALLS=.. SEED=..` holds it to the independent model through its boundary.
 # `make vectors` writes the programs' scripts and expected output anew, from the independent model.
-.PHONY: run sweep remember frames card reader front type_b trace speed lib examples fuzz test toolchain vectors vectors-check model-check pages impostors
+.PHONY: run sweep remember frames card reader front type_b trace speed lib examples fuzz test behind toolchain vectors vectors-check model-check pages impostors
 
 CARGO = --quiet --release --offline --locked --manifest-path model/Cargo.toml
 MODEL = cargo run $(CARGO) --
 FIELD = samples/lockers.txt
 MAKER = samples/maker.txt
 TRACE = samples/trace.log
-LINKED = rustc --edition 2021 -D warnings -C opt-level=3 -L target/staticlib -l static=lacrivosum
+SWEEP = crates/bench_sweep/out/bench_sweep
+ARCHIVE = crates/lacrivosum/out/liblacrivosum.a
+LINKED = rustc --edition 2021 -D warnings -C opt-level=3 -L $(dir $(ARCHIVE)) -l static=lacrivosum
 CALLS = 20000
 SEED = 1
+JOBS = 4
 
 toolchain:
 	@command -v rt >/dev/null 2>&1 || { echo "the Rattle toolchain is missing: no command 'rt' on the PATH"; exit 1; }
+	@mkdir -p target
 
-# rt try runs the program four ways, proves nothing, and holds each run to the stored output. So what is shown is what the program wrote.
+# rt try compiles the program with checks, runs it and proves nothing. What it wrote is held to the stored output.
 run: toolchain
-	@said=$$(rt try bench_sweep 2>&1) || { printf '%s\n' "$$said"; exit 1; }
-	@cat crates/bench_sweep/stdin crates/bench_sweep/stdout
+	@cd crates/bench_sweep && rt try <stdin >$(CURDIR)/target/run.txt 2>$(CURDIR)/target/said.txt || { cat $(CURDIR)/target/said.txt; exit 1; }
+	@cmp target/run.txt crates/bench_sweep/stdout
+	@cat crates/bench_sweep/stdin target/run.txt
 	@echo
-	@echo "The program was run, on the interpreter and compiled three ways; each run wrote just this. That proves nothing yet."
+	@echo "The program was compiled with checks and run, and wrote just this, which is what is stored. That proves nothing yet."
 	@echo "'make sweep' proves the program and what it stands on, then sweeps $(FIELD). 'make test' proves everything."
 
-# Proves the program $(1) and what it stands on, a line for each crate with its number of all; then runs it on the file $(2).
+# Proves the program $(1) and what it stands on and builds it, a line for each crate that is proved anew; then shows by the command $(3) the file $(2) and
+# what the program wrote on it.
 define proved-run
 	@[ -f "$(2)" ] || { echo "there is no file $(2)"; exit 1; }
-	@all=1; for c in $$(sed -n 's/^$(1)://p' crates.txt); do [ ! -d "crates/$$c" ] || all=$$((all + 1)); done; \
-	echo "proving $(1) and what it stands on, $$all crates; the first time this takes some minutes"; \
-	{ rt check $(1) 2>&1; echo "ended $$?"; } | { n=0; while IFS= read -r line; do case $$line in \
-	    "rt: "*" proved ("*) n=$$((n + 1)); echo "$$n of $$all: $${line#rt: }" ;; \
-	    "rt: "*) printf '%s\n' "$$line" ;; \
+	@echo "proving $(1) and what it stands on; the first time this takes some minutes"
+	@{ cd crates/$(1) && rt run <"$(abspath $(2))" 2>&1 >$(CURDIR)/target/run.txt; echo "ended $$?"; } | { while IFS= read -r line; do \
+	    printf '%s\n' "$$line" >&3; case $$line in \
+	    "crate "*) name=$${line#crate }; name=$${name%%:*} ;; \
+	    "logic=proved "*) echo "$$name proved: $$line" | sed 's/ \(sum\|target\)=.*//' ;; \
 	    "ended 0") exit 0 ;; \
-	    "ended "*) echo "target/log/ has what the prover said"; exit 1 ;; \
-	esac; done; }
-	@cat $(2)
-	@target/bin/$(1) <$(2)
+	    "ended "*) echo "target/said.txt has what the prover said"; exit 1 ;; \
+	esac; done; } 3>target/said.txt
+	@$(3) "$(2)"
+	@cat target/run.txt
 endef
 
 sweep: toolchain
-	$(call proved-run,bench_sweep,$(FIELD))
+	$(call proved-run,bench_sweep,$(FIELD),cat)
+
+# The program bench_sweep, proved and built.
+define proved-sweep
+	@echo "proving bench_sweep and what it stands on; the first time this takes some minutes"
+	@cd crates/bench_sweep && rt run </dev/null >$(CURDIR)/target/said.txt 2>&1 || { echo "bench_sweep is not proved: target/said.txt has what the prover said"; exit 1; }
+endef
 
 # Both sweeps of one field, side by side: the plain one on the left, the one that remembers on the right.
 remember: toolchain
-	@echo "proving bench_sweep and what it stands on; the first time this takes some minutes"
-	@rt check bench_sweep >/dev/null 2>&1 || { echo "bench_sweep is not proved: 'make sweep' says more"; exit 1; }
-	@target/bin/bench_sweep <$(MAKER) >target/plain.txt
-	@{ cat $(MAKER); echo remember; } | target/bin/bench_sweep >target/remembers.txt
+	$(proved-sweep)
+	@$(SWEEP) <$(MAKER) >target/plain.txt
+	@{ cat $(MAKER); echo remember; } | $(SWEEP) >target/remembers.txt
 	@cat $(MAKER)
 	@printf '%-76s%s\n' "the plain sweep" "the sweep that remembers"
 	@for lines in '^[<>]' '^[fc]'; do \
@@ -60,29 +71,24 @@ remember: toolchain
 
 # Frames of both sweeps over fields drawn by a fixed generator: README's table.
 frames: toolchain
-	@echo "proving bench_sweep and what it stands on; the first time this takes some minutes"
-	@rt check bench_sweep >/dev/null 2>&1 || { echo "bench_sweep is not proved: 'make sweep' says more"; exit 1; }
-	@tools/frames target/bin/bench_sweep
+	$(proved-sweep)
+	@tools/frames $(SWEEP)
 
 card: toolchain
-	$(call proved-run,bench_card,samples/card.txt)
+	$(call proved-run,bench_card,samples/card.txt,cat)
 
 reader: toolchain
-	$(call proved-run,bench_reader,samples/reader.txt)
+	$(call proved-run,bench_reader,samples/reader.txt,cat)
 
 front: toolchain
-	$(call proved-run,bench_front,samples/front.txt)
+	$(call proved-run,bench_front,samples/front.txt,cat)
 
 type_b: toolchain
-	$(call proved-run,bench_type_b,samples/type_b.txt)
+	$(call proved-run,bench_type_b,samples/type_b.txt,cat)
 
 # A log is bytes, so it is shown in hexadecimal.
 trace: toolchain
-	@[ -f "$(TRACE)" ] || { echo "there is no file $(TRACE)"; exit 1; }
-	@echo "proving trace_check and what it stands on; the first time this takes some minutes"
-	@rt check trace_check >/dev/null 2>&1 || { echo "trace_check is not proved: target/log/ has what the prover said"; exit 1; }
-	@od -An -v -tx1 "$(TRACE)"
-	@target/bin/trace_check <"$(TRACE)"
+	$(call proved-run,trace_check,$(TRACE),od -An -v -tx1)
 
 # No part of the gate: a time is the machine's, and what else it does at that moment.
 speed: toolchain
@@ -90,19 +96,21 @@ speed: toolchain
 	@$(MAKE) --no-print-directory lib
 	$(LINKED) speed/main.rs -o target/speed
 	@target/speed
-	@if command -v size >/dev/null 2>&1; then echo && echo "the archive, in bytes" && size target/staticlib/liblacrivosum.a; fi
+	@if command -v size >/dev/null 2>&1; then echo && echo "the archive, in bytes" && size $(ARCHIVE); fi
 
-# The core's reader and card for C: target/staticlib/liblacrivosum.a, to be linked with include/lacrivosum.h. rt staticlib would prove what it stands on one
-# crate after the other; rt check does it side by side.
+# The core's reader and card for C: $(ARCHIVE), to be linked with include/lacrivosum.h. rt lib would prove what it stands on one crate after the other;
+# here some are proved side by side, the lowest first, each once.
 lib: toolchain
-	RT_JOBS=$${RT_JOBS:-4} rt check $$(sed -n 's/^lacrivosum://p' crates.txt)
-	rt staticlib lacrivosum
+	@echo "proving lacrivosum and what it stands on; the first time this takes some minutes"
+	@for c in $$(sed -n 's/^lacrivosum staticlib://p' crates.txt) lacrivosum; do echo $$c; done | \
+	    xargs -n 1 -P $(JOBS) sh -c 'cd crates/$$0 && { said=$$(rt lib 2>&1) || { printf "%s\n" "$$said"; exit 1; }; }'
+	@ls -l $(ARCHIVE)
 
 # The programs of examples/, in C and in Rust, compiled with all warnings as errors and run with the library.
 examples: lib
 	@if command -v gcc >/dev/null 2>&1; then for c in examples/*.c; do \
 	    p=target/example-$$(basename $$c .c); \
-	    gcc -std=c99 -Wall -Wextra -Werror -pedantic -Iinclude $$c target/staticlib/liblacrivosum.a -o $$p && echo "$$c:" && $$p || exit 1; done; \
+	    gcc -std=c99 -Wall -Wextra -Werror -pedantic -Iinclude $$c $(ARCHIVE) -o $$p && echo "$$c:" && $$p || exit 1; done; \
 	else echo "no gcc: the programs of examples/ in C are not compiled"; fi
 	@if command -v rustc >/dev/null 2>&1; then \
 	    $(LINKED) examples/talk.rs -o target/example-talk && echo "examples/talk.rs:" && target/example-talk || exit 1; \
@@ -134,15 +142,15 @@ pages:
 	@tools/contract-check
 	@tools/header-check
 
-# Every must-fail edit, those of crates/*/impostors too, in a copy of the repository. This takes an hour or two.
+# Every must-fail edit, those of crates/*/impostors too, in a copy of the repository apart from it. This takes hours.
 impostors: toolchain
-	@rm -rf target-impostors && git clone --quiet . target-impostors
-	@cd target-impostors && for d in crates/*/impostors; do mkdir -p "$${d%impostors}must-fail" && cp "$$d"/*.edit "$${d%impostors}must-fail/"; done
-	@cd target-impostors && rt must-fail
-	@rm -rf target-impostors
+	@copy=$$(mktemp -d) && git clone --quiet . "$$copy" && cd "$$copy" && \
+	for d in crates/*/impostors; do mkdir -p "$${d%impostors}must-fail" && cp "$$d"/*.edit "$${d%impostors}must-fail/" || exit 1; done && \
+	rt must-fail; status=$$?; rm -rf "$$copy"; exit $$status
 
-# The library is proved and built before rt ci, which begins with nothing: so its crates are proved twice, some minutes, and rt ci has the last word.
-# rt runs crates and edits in batches, and a batch waits for its slowest: four at a time keep two cores busy.
-test: toolchain pages vectors-check model-check examples fuzz
-	rt fmt --check
-	RT_JOBS=$${RT_JOBS:-4} rt ci
+# What the gate runs behind rt ci. The library is proved once more, from what rt check kept, since rt ci keeps no archive.
+behind: pages vectors-check model-check examples fuzz
+
+# The gate.
+test: toolchain
+	@.ci/run

@@ -1,10 +1,12 @@
 // One card played from text: BENCH.md's language, one answer for each line.
 #![tactic(auto)]
+
 mod answers;
 mod lines;
 
 use bench_talk::{Answer, Talk};
 use card_link::LinkCard;
+use std::io;
 
 // The card, if there is one; the message buffer and its room; and the host's answer, so many bytes at the front. A line holds fewer than
 // 8,192 bytes: a host's answer that is too long for the core reaches it all the same.
@@ -27,18 +29,19 @@ pub struct Reply {
 
 // Answers every line. A proved loop has to end, and nothing says that the input does: it counts its turns down from a number that no run
 // uses up.
-fn main() {
+fn main(rt: HostRuntime) -> io::Result<()> {
     let mut bench = start();
     let mut talk = bench_talk::start();
     let mut turns = u64::MAX;
     while turns > 0 {
         turns -= 1;
-        talk = bench_talk::next(talk);
+        talk = bench_talk::next(&rt, talk)?;
         if !bench_talk::has_line(talk) {
-            return;
+            return Ok(());
         }
-        bench = answer_line(bench, talk);
+        bench = answer_line(&rt, bench, talk)?;
     }
+    Ok(())
 }
 
 // No card yet, and a message buffer of 4,096 bytes.
@@ -55,14 +58,14 @@ fn start() -> Bench {
     }
 }
 
-fn answer_line(bench: Bench, talk: Talk) -> Bench {
-    if !bench_talk::is_script(talk) {
-        return bench;
+fn answer_line(rt: &impl Print, bench: Bench, talk: Talk) -> io::Result<Bench> {
+    if !bench_talk::is_script(rt, talk)? {
+        return Ok(bench);
     }
     let line = talk.line;
     let bytes = talk.bytes;
     let r = lines::script(bench, bench_talk::text(line, &bytes));
     let a = r.answer;
-    bench_talk::say(talk, a);
-    r.bench
+    bench_talk::say(rt, talk, a)?;
+    Ok(r.bench)
 }

@@ -1,5 +1,6 @@
 // A card and a reader that speak to each other, frame by frame: from new ends to open ones.
 #![tactic(auto)]
+
 use block::Told;
 use card_link::LinkCard;
 use reader::Answer;

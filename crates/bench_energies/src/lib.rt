@@ -1,5 +1,6 @@
 // T-01: the front end's numbers as text, and the lines that set a profile.
 #![tactic(auto)]
+
 mod numbers;
 mod profiles;
 

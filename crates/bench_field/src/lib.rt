@@ -1,6 +1,7 @@
 // A field of cards from text, its sweep or one card of it woken, and what came of it as lines: BENCH.md's `UID [STATE [SAK [INDEX]]]` and `wake UID`,
 // and the answers.
 #![tactic(auto)]
+
 mod cards;
 mod directives;
 mod report;
@@ -9,6 +10,7 @@ mod woken;
 use bench_talk::Talk;
 use card::Card;
 use limits::MOST_CARDS;
+use std::io;
 
 // The cards so far, in the order given: their number, and as many of them as a sweep takes; whether a card was not to be made; how many bytes of
 // log and list are lent to the sweep; the tick of its first record; whether it remembers (T-14); and the UID to wake, so many bytes, none where the field is to be swept.
@@ -60,14 +62,14 @@ pub struct Collecting {
 }
 
 // The cards after a line of words, which is a directive or a card's; a line that is not understood is answered.
-pub fn collect(c: Collected, talk: Talk) -> Collected {
+pub fn collect(rt: &impl Print, c: Collected, talk: Talk) -> io::Result<Collected> {
     let line = talk.line;
     let bytes = talk.bytes;
     let l = line_taken(c, bench_talk::text(line, &bytes));
     if !l.is_understood {
-        bench_talk::say(talk, bench_talk::none());
+        bench_talk::say(rt, talk, bench_talk::none())?;
     }
-    l.collected
+    Ok(l.collected)
 }
 
 // By the line's first word.
@@ -82,14 +84,12 @@ fn line_taken(c: Collected, text: &[u8]) -> Collecting {
 }
 
 // Sweeps the cards, or wakes one of them, on a new reader, and says what came of it, with or without the trace for people.
-pub fn answer(c: Collected, way: Way, has_trace: bool) {
+pub fn answer(rt: &impl Print, c: Collected, way: Way, has_trace: bool) -> io::Result<()> {
     if c.is_refused {
-        bench_talk::put_line(bench_talk::refused(6));
-        return;
+        return bench_talk::put_line(rt, bench_talk::refused(6));
     }
     if c.length > 0 {
-        woken::answer(c);
-        return;
+        return woken::answer(rt, c);
     }
     let mut log = [0u8; MOST_ROOM];
     let mut list = [0u8; MOST_ROOM];
@@ -99,5 +99,5 @@ pub fn answer(c: Collected, way: Way, has_trace: bool) {
         bench_talk::room(&mut log, c.log),
         bench_talk::room(&mut list, c.list),
     );
-    report::say(s, c.count, has_trace, &log, &list);
+    report::say(rt, s, c.count, has_trace, &log, &list)
 }

@@ -3,6 +3,7 @@ use crate::{Collected, Way};
 use bench_talk::Answer;
 use card::{Card, CardState};
 use limits::MOST_CARDS;
+use std::io;
 use sweep::{Start, Swept};
 use uid::Level;
 
@@ -57,65 +58,80 @@ fn remembered(
 }
 
 // `refused N`, or the lines of a sweep.
-pub fn say(s: Swept, count: usize, has_trace: bool, log: &[u8], list: &[u8]) {
+pub fn say(
+    rt: &impl Print,
+    s: Swept,
+    count: usize,
+    has_trace: bool,
+    log: &[u8],
+    list: &[u8],
+) -> io::Result<()> {
     let last = s.answer;
     let reader::Answer::Declines(e) = last else {
-        say_swept(s, count, has_trace, log, list);
-        return;
+        return say_swept(rt, s, count, has_trace, log, list);
     };
-    bench_talk::put_line(bench_lines::refused(e));
+    bench_talk::put_line(rt, bench_lines::refused(e))
 }
 
-fn say_swept(s: Swept, count: usize, has_trace: bool, log: &[u8], list: &[u8]) {
+fn say_swept(
+    rt: &impl Print,
+    s: Swept,
+    count: usize,
+    has_trace: bool,
+    log: &[u8],
+    list: &[u8],
+) -> io::Result<()> {
     let cards = s.cards;
     let written = bench::front(log, s.logged);
-    say_trace(has_trace, written);
-    bench_talk::put_line(bench_talk::number(said(FRAMES), s.frames));
-    say_found(list, s.found);
-    say_cards(cards, count);
-    say_log(written);
+    say_trace(rt, has_trace, written)?;
+    bench_talk::put_line(rt, bench_talk::number(said(FRAMES), s.frames))?;
+    say_found(rt, list, s.found)?;
+    say_cards(rt, cards, count)?;
+    say_log(rt, written)
 }
 
 // `log HEX`, in pieces: an answer does not hold all of it.
-fn say_log(log: &[u8]) {
-    bench_talk::put_piece(bench_talk::raw(said(LOG), b" "));
+fn say_log(rt: &impl Print, log: &[u8]) -> io::Result<()> {
+    bench_talk::put_piece(rt, bench_talk::raw(said(LOG), b" "))?;
     for i in 0..PIECES {
-        say_piece(bench::front(behind(log, PIECE * i), PIECE));
+        say_piece(rt, bench::front(behind(log, PIECE * i), PIECE))?;
     }
-    bench_talk::put_line(bench_talk::none());
+    bench_talk::put_line(rt, bench_talk::none())
 }
 
 // No bytes are no text here: `-` stands for them only where they are all that is said.
-fn say_piece(bytes: &[u8]) {
+fn say_piece(rt: &impl Print, bytes: &[u8]) -> io::Result<()> {
     if bytes.len() == 0 {
-        return;
+        return Ok(());
     }
-    bench_talk::put_piece(bench_talk::hex(bench_talk::none(), bytes));
+    bench_talk::put_piece(rt, bench_talk::hex(bench_talk::none(), bytes))
 }
 
 // A line for each record, where the trace is wanted.
-fn say_trace(has_trace: bool, log: &[u8]) {
+fn say_trace(rt: &impl Print, has_trace: bool, log: &[u8]) -> io::Result<()> {
     if !has_trace {
-        return;
+        return Ok(());
     }
     let mut t = bench_trace::start();
     for i in 0..log.len() {
         t = bench_trace::next(log, t);
         if t.is_end {
-            return;
+            return Ok(());
         }
-        bench_talk::put_line(t.line);
+        bench_talk::put_line(rt, t.line)?;
     }
+    Ok(())
 }
 
 // `found UID` for each entry of the list.
-fn say_found(list: &[u8], found: usize) {
+fn say_found(rt: &impl Print, list: &[u8], found: usize) -> io::Result<()> {
     for i in 0..found {
         if i >= MOST_CARDS {
-            return;
+            return Ok(());
         }
-        say_entry(behind(list, 11 * i));
+        say_entry(rt, behind(list, 11 * i))?;
     }
+    Ok(())
 }
 
 fn behind(bytes: &[u8], at: usize) -> &[u8] {
@@ -126,11 +142,14 @@ fn behind(bytes: &[u8], at: usize) -> &[u8] {
 }
 
 // An entry of the list: its length, and its bytes.
-fn say_entry(entry: &[u8]) {
+fn say_entry(rt: &impl Print, entry: &[u8]) -> io::Result<()> {
     if entry.len() == 0 {
-        return;
+        return Ok(());
     }
-    bench_talk::put_line(bench_talk::hex(said(FOUND), bench::front(&entry[1..], wide(entry[0]))));
+    bench_talk::put_line(
+        rt,
+        bench_talk::hex(said(FOUND), bench::front(&entry[1..], wide(entry[0]))),
+    )
 }
 
 fn wide(n: u8) -> usize {
@@ -138,16 +157,17 @@ fn wide(n: u8) -> usize {
 }
 
 // `card UID STATE SAK INDEX` for each card.
-pub fn say_cards(cards: [Card; MOST_CARDS], count: usize) {
+pub fn say_cards(rt: &impl Print, cards: [Card; MOST_CARDS], count: usize) -> io::Result<()> {
     for i in 0..count {
         if i >= MOST_CARDS {
-            return;
+            return Ok(());
         }
-        say_card(cards[i]);
+        say_card(rt, cards[i])?;
     }
+    Ok(())
 }
 
-fn say_card(c: Card) {
+fn say_card(rt: &impl Print, c: Card) -> io::Result<()> {
     let u = c.uid;
     let size = u.size;
     let bytes = u.bytes;
@@ -159,7 +179,7 @@ fn say_card(c: Card) {
         state_number(s),
     );
     let d = bench_talk::word(at_level(b, s), b"00 20", flag(c.blocks));
-    bench_talk::put_line(bench_talk::number(d, c.index as usize));
+    bench_talk::put_line(rt, bench_talk::number(d, c.index as usize))
 }
 
 fn flag(b: bool) -> usize {

@@ -3,6 +3,7 @@ use crate::{Collected, report};
 use bench_talk::Answer;
 use reader::Reader;
 use reader_link::{Link, LinkAnswer, LinkReader};
+use std::io;
 
 // The words of the lines, by their numbers in the list of said.
 const SELECTED: usize = 0;
@@ -18,7 +19,7 @@ fn said(a: Answer, k: usize) -> Answer {
 }
 
 // `refused 6` alone; else how it ended, what the reader answers to RATS now, and the cards.
-pub fn answer(c: Collected) {
+pub fn answer(rt: &impl Print, c: Collected) -> io::Result<()> {
     let cards = c.cards;
     let uid = c.uid;
     let w = wake::wake(
@@ -29,13 +30,13 @@ pub fn answer(c: Collected) {
     );
     let r = w.reader;
     let a = w.answer;
-    say_end(r, a, w.frames);
+    say_end(rt, r, a, w.frames)?;
     if is_declined(a) {
-        return;
+        return Ok(());
     }
-    bench_talk::put_line(rats(r));
+    bench_talk::put_line(rt, rats(r))?;
     let after = w.cards;
-    report::say_cards(after, c.count);
+    report::say_cards(rt, after, c.count)
 }
 
 // Declined before a frame was sent?
@@ -47,13 +48,15 @@ fn is_declined(a: reader::Answer) -> bool {
 }
 
 // `selected UID SAK` and `frames N`, or `refused N`.
-fn say_end(r: Reader, a: reader::Answer, frames: usize) {
+fn say_end(rt: &impl Print, r: Reader, a: reader::Answer, frames: usize) -> io::Result<()> {
     let reader::Answer::Declines(e) = a else {
-        bench_talk::put_line(selected(r));
-        bench_talk::put_line(bench_talk::number(said(bench_talk::none(), FRAMES), frames));
-        return;
+        bench_talk::put_line(rt, selected(r))?;
+        return bench_talk::put_line(
+            rt,
+            bench_talk::number(said(bench_talk::none(), FRAMES), frames),
+        );
     };
-    bench_talk::put_line(bench_lines::refused(e));
+    bench_talk::put_line(rt, bench_lines::refused(e))
 }
 
 fn selected(r: Reader) -> Answer {

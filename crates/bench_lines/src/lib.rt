@@ -1,6 +1,7 @@
 // Words that several programs share: numbers and bytes with their bounds, the lines by which a row is handed to either end, a card's words, and a
 // refusal.
 #![tactic(auto)]
+
 use bench_talk::Answer;
 use bench_values::{Number, ReadWord};
 use frame::Written;

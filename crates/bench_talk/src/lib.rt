@@ -1,10 +1,12 @@
 // A program's talk: lines from standard input and answers to standard output, all by value, so that no function of a program lends memory on.
 #![tactic(auto)]
+
 mod answers;
 
 pub use answers::{Answer, digits, hex, none, number, raw, refused, row, word};
 use bench::{Line, LineKind};
-use libc::{STDIN_FILENO, STDOUT_FILENO};
+use std::io;
+use std::io::Read;
 
 // The line that was handed over last: its number, from 1, and its bytes, so many at the front.
 #[derive(Clone, Copy)]
@@ -31,31 +33,46 @@ pub fn start() -> Talk {
 }
 
 // The next line, as soon as its line feed has come. It is read byte by byte: nothing behind it is taken, and there is no buffer to carry.
-pub fn next(talk: Talk) -> Talk {
+pub fn next(rt: &impl Input, talk: Talk) -> io::Result<Talk> {
+    let mut input = rt.reader();
     let mut bytes = talk.bytes;
     let mut line = bench::new_line();
     let mut turns = u64::MAX;
     while turns > 0 {
         turns -= 1;
-        let b = next_byte();
+        let b = next_byte(&mut input)?;
         if b.is_end {
-            return collected(talk.number, line, bytes);
+            return Ok(collected(talk.number, line, bytes));
         }
         line = bench::feed(&mut bytes, line, b.value);
         if line.complete {
-            return collected(talk.number, line, bytes);
+            return Ok(collected(talk.number, line, bytes));
         }
     }
-    collected(talk.number, line, bytes)
+    Ok(collected(talk.number, line, bytes))
 }
 
-fn next_byte() -> Byte {
+fn next_byte(input: &mut impl Read) -> io::Result<Byte> {
     let mut one = [0u8; 1];
-    let got = libc::read(STDIN_FILENO, &mut one);
-    Byte {
-        is_end: io::count(got, &one) == 0,
+    let got = input.read(&mut one)?;
+    Ok(Byte {
+        is_end: got == 0,
         value: one[0],
+    })
+}
+
+// Fills memory from standard input, as far as the input goes: how many bytes stand at its front.
+pub fn fill(rt: &impl Input, memory: &mut [u8]) -> io::Result<usize> {
+    let mut input = rt.reader();
+    let mut done = 0;
+    while done < memory.len() {
+        let n = input.read(&mut memory[done..])?;
+        if n == 0 {
+            return Ok(done);
+        }
+        done += n;
     }
+    Ok(done)
 }
 
 fn collected(number: usize, line: Line, bytes: [u8; 16385]) -> Talk {
@@ -89,27 +106,26 @@ pub fn text(line: Line, bytes: &[u8; 16385]) -> &[u8] {
 }
 
 // Are the words of the line to be read? A line that is too long is answered.
-pub fn is_script(talk: Talk) -> bool {
+pub fn is_script(rt: &impl Print, talk: Talk) -> io::Result<bool> {
     let line = talk.line;
     let bytes = talk.bytes;
     let k = bench::kind(line.overlong, text(line, &bytes));
     match k {
-        LineKind::PassedOver => false,
+        LineKind::PassedOver => Ok(false),
         LineKind::TooLong => {
-            say(talk, none());
-            false
+            say(rt, talk, none())?;
+            Ok(false)
         }
-        LineKind::Script => true,
+        LineKind::Script => Ok(true),
     }
 }
 
 // Says the answer to the line.
-pub fn say(talk: Talk, a: Answer) {
+pub fn say(rt: &impl Print, talk: Talk, a: Answer) -> io::Result<()> {
     if a.length == 0 {
-        put_line(not_understood(talk.number));
-        return;
+        return put_line(rt, not_understood(talk.number));
     }
-    put_line(a);
+    put_line(rt, a)
 }
 
 fn not_understood(number: usize) -> Answer {
@@ -120,14 +136,14 @@ fn not_understood(number: usize) -> Answer {
 }
 
 // Writes a text and a line feed to standard output.
-pub fn put_line(a: Answer) {
-    put_piece(raw(a, b"\n"));
+pub fn put_line(rt: &impl Print, a: Answer) -> io::Result<()> {
+    put_piece(rt, raw(a, b"\n"))
 }
 
 // Writes a text to standard output: a piece of a line that is longer than an answer.
-pub fn put_piece(a: Answer) {
+pub fn put_piece(rt: &impl Print, a: Answer) -> io::Result<()> {
     let text = a.text;
-    io::write_all(STDOUT_FILENO, bench::front(&text, a.length));
+    rt.write_all(bench::front(&text, a.length))
 }
 
 // Which of the first n words of a list is this one? n where none is.

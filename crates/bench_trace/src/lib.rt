@@ -1,11 +1,12 @@
 // A log for people: a line for each record. `> ` and the reader's frame, `< ` and what was heard; its name; and its bytes and left-over
 // bits, collided bits as `x`, parity bits left out.
 #![tactic(auto)]
+
 mod groups;
 mod names;
 
-use bench_talk::Answer;
 use air_log::Record;
+use bench_talk::Answer;
 use names::Name;
 
 // The line of a record, the place of the next record, and the frame that was sent last. Where there is no record is_end is true.
@@ -136,7 +137,10 @@ fn unpack(log: &[u8], start: usize, marks: usize, bits: usize) -> [u8; 8192] {
         if bits <= i {
             return row;
         }
-        row[i] = shown(air_log::bit_at(log, start, i), air_log::bit_at(log, marks, i));
+        row[i] = shown(
+            air_log::bit_at(log, start, i),
+            air_log::bit_at(log, marks, i),
+        );
     }
     row
 }

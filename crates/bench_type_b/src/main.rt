@@ -1,6 +1,7 @@
 // Type B played from text, T-05: a field of cards, a reader and a list. BENCH.md's language, one answer for each line, and several lines for `cards`
 // and `field`.
 #![tactic(auto)]
+
 mod answers;
 mod frames;
 mod lines;
@@ -14,6 +15,7 @@ use bench_talk::{Answer, Talk};
 use card_b::{CardB, StateB};
 use field_b::Drawn;
 use reader_b::ReaderB;
+use std::io;
 
 // The cards, in the order put in: so many at the front. More than the core's limit, so that a field over it reaches the core.
 #[derive(Clone, Copy)]
@@ -42,18 +44,19 @@ pub struct Reply {
 
 // Answers every line. A proved loop has to end, and nothing says that the input does: it counts its turns down from a number that no run
 // uses up.
-fn main() {
+fn main(rt: HostRuntime) -> io::Result<()> {
     let mut bench = start();
     let mut talk = bench_talk::start();
     let mut turns = u64::MAX;
     while turns > 0 {
         turns -= 1;
-        talk = bench_talk::next(talk);
+        talk = bench_talk::next(&rt, talk)?;
         if !bench_talk::has_line(talk) {
-            return;
+            return Ok(());
         }
-        bench = answer_line(bench, talk);
+        bench = answer_line(&rt, bench, talk)?;
     }
+    Ok(())
 }
 
 // No card, a new reader, and a list as long as the request asks for.
@@ -81,14 +84,14 @@ fn start() -> Bench {
     }
 }
 
-fn answer_line(bench: Bench, talk: Talk) -> Bench {
-    if !bench_talk::is_script(talk) {
-        return bench;
+fn answer_line(rt: &impl Print, bench: Bench, talk: Talk) -> io::Result<Bench> {
+    if !bench_talk::is_script(rt, talk)? {
+        return Ok(bench);
     }
     let line = talk.line;
     let bytes = talk.bytes;
-    let r = lines::script(bench, bench_talk::text(line, &bytes));
+    let r = lines::script(rt, bench, bench_talk::text(line, &bytes))?;
     let a = r.answer;
-    bench_talk::say(talk, a);
-    r.bench
+    bench_talk::say(rt, talk, a)?;
+    Ok(r.bench)
 }

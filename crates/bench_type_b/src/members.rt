@@ -3,6 +3,7 @@ use crate::{Bench, Field, Reply, answers, lines, places, words};
 use bench_talk::Answer;
 use card_b::{AnswerB, CardB, StateB};
 use field_b::Drawn;
+use std::io;
 
 // A card's words.
 #[derive(Clone, Copy)]
@@ -19,14 +20,14 @@ struct DrawnField {
 }
 
 // k is the name's number.
-pub fn line(bench: Bench, k: usize, text: &[u8]) -> Reply {
+pub fn line(rt: &impl Print, bench: Bench, k: usize, text: &[u8]) -> io::Result<Reply> {
     match k {
-        0 => card(bench, text),
-        1 => draw(bench, text),
-        2 => cards(bench, text),
-        3 => power(bench, text),
-        4 => take(bench, text),
-        _ => clear(bench, text),
+        0 => Ok(card(bench, text)),
+        1 => Ok(draw(bench, text)),
+        2 => cards(rt, bench, text),
+        3 => Ok(power(bench, text)),
+        4 => Ok(take(bench, text)),
+        _ => Ok(clear(bench, text)),
     }
 }
 
@@ -183,26 +184,27 @@ fn drawn(x: DrawnField, i: usize, word: &[u8]) -> DrawnField {
 }
 
 // `cards`
-fn cards(bench: Bench, text: &[u8]) -> Reply {
+fn cards(rt: &impl Print, bench: Bench, text: &[u8]) -> io::Result<Reply> {
     if !words::is_end(text, 1) {
-        return lines::none(bench);
+        return Ok(lines::none(bench));
     }
     let f = bench.field;
-    lines::said(bench, put_cards(f))
+    Ok(lines::said(bench, put_cards(rt, f)?))
 }
 
 // A line for each card; the last line is the answer.
-pub fn put_cards(f: Field) -> Answer {
+pub fn put_cards(rt: &impl Print, f: Field) -> io::Result<Answer> {
     for i in 0..40usize {
-        put_card(f, i);
+        put_card(rt, f, i)?;
     }
-    answers::numbered(answers::CARDS, f.count)
+    Ok(answers::numbered(answers::CARDS, f.count))
 }
 
-fn put_card(f: Field, i: usize) {
+fn put_card(rt: &impl Print, f: Field, i: usize) -> io::Result<()> {
     if i < f.count {
-        bench_talk::put_line(answers::card(places::at(f, i)));
+        bench_talk::put_line(rt, answers::card(places::at(f, i)))?;
     }
+    Ok(())
 }
 
 // `power I on`, `power I off`

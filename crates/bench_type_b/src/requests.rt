@@ -2,14 +2,15 @@
 use crate::{Bench, Reply, answers, lines, members, places, words};
 use bench_talk::Answer;
 use reader_b::AnswerB;
+use std::io;
 
 // k is the name's number.
-pub fn line(bench: Bench, k: usize, text: &[u8]) -> Reply {
+pub fn line(rt: &impl Print, bench: Bench, k: usize, text: &[u8]) -> io::Result<Reply> {
     match k {
-        0 => room(bench, text),
-        1 => list(bench, text),
-        2 => request(bench, text),
-        _ => lines::none(bench),
+        0 => Ok(room(bench, text)),
+        1 => Ok(list(bench, text)),
+        2 => request(rt, bench, text),
+        _ => Ok(lines::none(bench)),
     }
 }
 
@@ -45,23 +46,24 @@ fn list(bench: Bench, text: &[u8]) -> Reply {
 }
 
 // `field reqb N [AFI]`, `field wupb N [AFI]`
-fn request(bench: Bench, text: &[u8]) -> Reply {
+fn request(rt: &impl Print, bench: Bench, text: &[u8]) -> io::Result<Reply> {
     let k = bench_talk::which(b"reqb wupb", 2, bench::word(text, 1));
     let n = bench_lines::small_number(bench::word(text, 2));
     let afi = words::byte_or_zero(bench::word(text, 3));
     if k > 1 {
-        return lines::none(bench);
+        return Ok(lines::none(bench));
     }
     if n > 255 {
-        return lines::none(bench);
+        return Ok(lines::none(bench));
     }
     if afi > 255 {
-        return lines::none(bench);
+        return Ok(lines::none(bench));
     }
     if !words::is_end(text, 4) {
-        return lines::none(bench);
+        return Ok(lines::none(bench));
     }
     inquire(
+        rt,
         bench,
         k == 1,
         bench_lines::within_byte(n),
@@ -69,7 +71,7 @@ fn request(bench: Bench, text: &[u8]) -> Reply {
     )
 }
 
-fn inquire(bench: Bench, wake: bool, n: u8, afi: u8) -> Reply {
+fn inquire(rt: &impl Print, bench: Bench, wake: bool, n: u8, afi: u8) -> io::Result<Reply> {
     let f = bench.field;
     let r = bench.reader;
     let mut list = bench.list;
@@ -88,40 +90,41 @@ fn inquire(bench: Bench, wake: bool, n: u8, afi: u8) -> Reply {
     let mut after = members::with_field(bench, places::with_cards(f, cards));
     after.reader = last;
     after.list = list;
-    lines::said(after, told(after, a, s.slots))
+    Ok(lines::said(after, told(rt, after, a, s.slots)?))
 }
 
 // Why it was refused, or a line for each slot and each card, of which the last is the answer.
-fn told(bench: Bench, a: AnswerB, slots: usize) -> Answer {
+fn told(rt: &impl Print, bench: Bench, a: AnswerB, slots: usize) -> io::Result<Answer> {
     let AnswerB::Declines(e) = a else {
         let list = bench.list;
-        put_slots(slots, &list);
+        put_slots(rt, slots, &list)?;
         let f = bench.field;
-        return members::put_cards(f);
+        return members::put_cards(rt, f);
     };
-    bench_lines::refused(e)
+    Ok(bench_lines::refused(e))
 }
 
-fn put_slots(slots: usize, list: &[u8]) {
+fn put_slots(rt: &impl Print, slots: usize, list: &[u8]) -> io::Result<()> {
     for i in 0..16usize {
-        put_slot(i, slots, list);
+        put_slot(rt, i, slots, list)?;
     }
+    Ok(())
 }
 
 // A slot as the list has it.
-fn put_slot(i: usize, slots: usize, list: &[u8]) {
+fn put_slot(rt: &impl Print, i: usize, slots: usize, list: &[u8]) -> io::Result<()> {
     if i >= 16 {
-        return;
+        return Ok(());
     }
     if i >= slots {
-        return;
+        return Ok(());
     }
     let at = 13 * i;
     if list.len() < at + 13 {
-        return;
+        return Ok(());
     }
     let k = wide(list[at]);
-    bench_talk::put_line(answers::slot(i + 1, k, &list[at + 1..at + 13]));
+    bench_talk::put_line(rt, answers::slot(i + 1, k, &list[at + 1..at + 13]))
 }
 
 fn wide(x: u8) -> usize {

@@ -1,5 +1,6 @@
 // The text of a checked log (T-12).
 #![tactic(auto)]
+
 use bench_talk::Answer;
 use card::Card;
 use refusal::Refusal;

@@ -1,5 +1,6 @@
 // The public calls' refusals from text, one for each line: a call, and numbers of which one is off. model/README.md has the lines.
 #![tactic(auto)]
+
 mod ends;
 mod frames;
 mod links;
@@ -9,6 +10,7 @@ mod sweeps;
 use bench_talk::{Answer, Talk};
 use card_link::LinkCard;
 use reader_link::LinkReader;
+use std::io;
 
 // A card and a reader, on which each line tries its call. No call changes them.
 #[derive(Clone, Copy)]
@@ -34,30 +36,31 @@ pub struct Given {
 
 // Answers every line. A proved loop has to end, and nothing says that the input does: it counts its turns down from a number that no run
 // uses up.
-fn main() {
+fn main(rt: HostRuntime) -> io::Result<()> {
     let mut bench = ends::new();
     let mut talk = bench_talk::start();
     let mut turns = u64::MAX;
     while turns > 0 {
         turns -= 1;
-        talk = bench_talk::next(talk);
+        talk = bench_talk::next(&rt, talk)?;
         if !bench_talk::has_line(talk) {
-            return;
+            return Ok(());
         }
-        bench = answer_line(bench, talk);
+        bench = answer_line(&rt, bench, talk)?;
     }
+    Ok(())
 }
 
-fn answer_line(bench: Bench, talk: Talk) -> Bench {
-    if !bench_talk::is_script(talk) {
-        return bench;
+fn answer_line(rt: &impl Print, bench: Bench, talk: Talk) -> io::Result<Bench> {
+    if !bench_talk::is_script(rt, talk)? {
+        return Ok(bench);
     }
     let line = talk.line;
     let bytes = talk.bytes;
     let r = script(bench, bench_talk::text(line, &bytes));
     let a = r.answer;
-    bench_talk::say(talk, a);
-    r.bench
+    bench_talk::say(rt, talk, a)?;
+    Ok(r.bench)
 }
 
 // `NAME [A [B [C [WORD]]]]`: new ends, or a call.

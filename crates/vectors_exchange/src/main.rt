@@ -1,6 +1,7 @@
 // Demand 2 and T-11 from text: a card and a reader that speak to each other over a channel without errors, or one that loses and damages frames.
 // One answer for each line.
 #![tactic(auto)]
+
 mod answers;
 mod exchanges;
 mod lines;
@@ -9,6 +10,7 @@ mod losses;
 use bench_talk::{Answer, Talk};
 use card_link::LinkCard;
 use reader_link::LinkReader;
+use std::io;
 
 // The two ends, if there are any; and how many bytes the card's host's last answer has, with their seed.
 #[derive(Clone, Copy)]
@@ -29,18 +31,19 @@ pub struct Reply {
 
 // Answers every line. A proved loop has to end, and nothing says that the input does: it counts its turns down from a number that no run
 // uses up.
-fn main() {
+fn main(rt: HostRuntime) -> io::Result<()> {
     let mut bench = start();
     let mut talk = bench_talk::start();
     let mut turns = u64::MAX;
     while turns > 0 {
         turns -= 1;
-        talk = bench_talk::next(talk);
+        talk = bench_talk::next(&rt, talk)?;
         if !bench_talk::has_line(talk) {
-            return;
+            return Ok(());
         }
-        bench = answer_line(bench, talk);
+        bench = answer_line(&rt, bench, talk)?;
     }
+    Ok(())
 }
 
 // No ends yet.
@@ -56,14 +59,14 @@ fn start() -> Bench {
     }
 }
 
-fn answer_line(bench: Bench, talk: Talk) -> Bench {
-    if !bench_talk::is_script(talk) {
-        return bench;
+fn answer_line(rt: &impl Print, bench: Bench, talk: Talk) -> io::Result<Bench> {
+    if !bench_talk::is_script(rt, talk)? {
+        return Ok(bench);
     }
     let line = talk.line;
     let bytes = talk.bytes;
     let r = lines::script(bench, bench_talk::text(line, &bytes));
     let a = r.answer;
-    bench_talk::say(talk, a);
-    r.bench
+    bench_talk::say(rt, talk, a)?;
+    Ok(r.bench)
 }

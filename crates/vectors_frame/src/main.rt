@@ -1,31 +1,34 @@
 // Frames, CRC_A, B and levels from text: one answer for each line.
 #![tactic(auto)]
+
 mod answers;
 
 use bench_talk::{Answer, Talk};
+use std::io;
 
 // Answers every line. A proved loop has to end, and nothing says that the input does: it counts its turns down from a number that no run
 // uses up.
-fn main() {
+fn main(rt: HostRuntime) -> io::Result<()> {
     let mut talk = bench_talk::start();
     let mut turns = u64::MAX;
     while turns > 0 {
         turns -= 1;
-        talk = bench_talk::next(talk);
+        talk = bench_talk::next(&rt, talk)?;
         if !bench_talk::has_line(talk) {
-            return;
+            return Ok(());
         }
-        answer_line(talk);
+        answer_line(&rt, talk)?;
     }
+    Ok(())
 }
 
-fn answer_line(talk: Talk) {
-    if !bench_talk::is_script(talk) {
-        return;
+fn answer_line(rt: &impl Print, talk: Talk) -> io::Result<()> {
+    if !bench_talk::is_script(rt, talk)? {
+        return Ok(());
     }
     let line = talk.line;
     let bytes = talk.bytes;
-    bench_talk::say(talk, script(bench_talk::text(line, &bytes)));
+    bench_talk::say(rt, talk, script(bench_talk::text(line, &bytes)))
 }
 
 // The answer to a line of two words: the first three names take a row, the others bytes.

@@ -1,41 +1,44 @@
 // Fields of cards from text, each swept by a line `sweep`, after which the cards are forgotten. A line `row` sweeps them over a lent row, and they
 // are kept.
 #![tactic(auto)]
+
 use bench_field::{Collected, Way};
 use bench_talk::Talk;
+use std::io;
 
 // Answers every line. A proved loop has to end, and nothing says that the input does: it counts its turns down from a number that no run
 // uses up.
-fn main() {
+fn main(rt: HostRuntime) -> io::Result<()> {
     let mut field = bench_field::none();
     let mut talk = bench_talk::start();
     let mut turns = u64::MAX;
     while turns > 0 {
         turns -= 1;
-        talk = bench_talk::next(talk);
+        talk = bench_talk::next(&rt, talk)?;
         if !bench_talk::has_line(talk) {
-            return;
+            return Ok(());
         }
-        field = answer_line(field, talk);
+        field = answer_line(&rt, field, talk)?;
     }
+    Ok(())
 }
 
 // The cards after a line: a card's, `row` or `sweep`.
-fn answer_line(field: Collected, talk: Talk) -> Collected {
-    if !bench_talk::is_script(talk) {
-        return field;
+fn answer_line(rt: &impl Print, field: Collected, talk: Talk) -> io::Result<Collected> {
+    if !bench_talk::is_script(rt, talk)? {
+        return Ok(field);
     }
     let k = command(talk);
     match k {
         0 => {
-            bench_field::answer(field, Way::Row, false);
-            field
+            bench_field::answer(rt, field, Way::Row, false)?;
+            Ok(field)
         }
         1 => {
-            bench_field::answer(field, Way::Values, false);
-            bench_field::none()
+            bench_field::answer(rt, field, Way::Values, false)?;
+            Ok(bench_field::none())
         }
-        _ => bench_field::collect(field, talk),
+        _ => bench_field::collect(rt, field, talk),
     }
 }
 

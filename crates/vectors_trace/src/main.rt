@@ -1,30 +1,33 @@
 // Logs from text: one verdict for each line.
 #![tactic(auto)]
+
 use bench_talk::{Answer, Talk};
+use std::io;
 use trace::Checked;
 
 // Answers every line. A proved loop has to end, and nothing says that the input does: it counts its turns down from a number that no run
 // uses up.
-fn main() {
+fn main(rt: HostRuntime) -> io::Result<()> {
     let mut talk = bench_talk::start();
     let mut turns = u64::MAX;
     while turns > 0 {
         turns -= 1;
-        talk = bench_talk::next(talk);
+        talk = bench_talk::next(&rt, talk)?;
         if !bench_talk::has_line(talk) {
-            return;
+            return Ok(());
         }
-        answer_line(talk);
+        answer_line(&rt, talk)?;
     }
+    Ok(())
 }
 
-fn answer_line(talk: Talk) {
-    if !bench_talk::is_script(talk) {
-        return;
+fn answer_line(rt: &impl Print, talk: Talk) -> io::Result<()> {
+    if !bench_talk::is_script(rt, talk)? {
+        return Ok(());
     }
     let line = talk.line;
     let bytes = talk.bytes;
-    bench_talk::say(talk, script(bench_talk::text(line, &bytes)));
+    bench_talk::say(rt, talk, script(bench_talk::text(line, &bytes)))
 }
 
 // `check HEX`; or `filled N HEX`, the same with zeros behind it, N bytes in all.
