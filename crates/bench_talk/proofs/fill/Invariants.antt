@@ -1,4 +1,4 @@
--- `bench_talk::fill`: what is filled is never more than the lent memory, and each turn has one turn less to go. Assumes nothing.
+-- `bench_talk::fill`: what is filled is never more than the lent memory, and each read that gives anything leaves less to fill. Assumes nothing.
 use Rattle.std.proofs.Common.{◌≤◌, ◌-◌, length}
 use Rattle.bench_talk.proofs.fill.Given as goal
 
