@@ -148,7 +148,8 @@ impostors: toolchain
 	for d in crates/*/impostors; do mkdir -p "$${d%impostors}must-fail" && cp "$$d"/*.edit "$${d%impostors}must-fail/" || exit 1; done && \
 	rt must-fail; status=$$?; rm -rf "$$copy"; exit $$status
 
-# What the gate runs behind rt ci. The library is proved once more, from what rt check kept, since rt ci keeps no archive.
+# What the gate runs behind rt ci. The library is proved once more, since rt ci keeps no archive: in a fresh checkout from nothing, but for what other checkouts
+# of this machine have checked.
 behind: pages vectors-check model-check examples fuzz
 
 # The gate.
