@@ -1,6 +1,8 @@
 // A program's talk: lines from standard input and answers to standard output, all by value, so that no function of a program lends memory on.
 #![tactic(auto)]
 
+ghost use Rattle.std.specs.Prelude.{◌≤◌, IfOk, length};
+
 mod answers;
 
 pub use answers::{Answer, digits, hex, none, number, raw, refused, row, word};
@@ -62,7 +64,9 @@ fn next_byte(input: &mut impl Read) -> io::Result<Byte> {
 }
 
 // Fills memory from standard input, as far as the input goes: how many bytes stand at its front.
-pub fn fill(rt: &impl Input, memory: &mut [u8]) -> io::Result<usize> {
+pub fn fill(rt: &impl Input, memory: &mut [u8]) -> io::Result<usize>
+    ensures { IfOk result (λ n. n ≤ length memory.new) }
+{
     let mut input = rt.reader();
     let mut done = 0;
     while done < memory.len() {

@@ -1,5 +1,5 @@
 -- Document 02, T-11: the run on rows "where any block either way may be lost or damaged .. and nothing invented": the whole reader and the whole
--- card joined by their calls, with an outcome for each frame and an act of the card's host for each round. `rowTalk` is the case without errors.
+-- card joined by their calls, with an outcome for each frame and an act of the card's host for each round. `row_talk` is the case without errors.
 use Rattle.std.specs.Prelude.{ℕ, zero, suc, ◌+◌, cond, List, [], ◌∷◌, get_or, eqb}
 use Rattle.block.specs.declared.Told.{Told}
 use Rattle.block.specs.Out.{Out}

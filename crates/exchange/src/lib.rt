@@ -2,8 +2,8 @@
 // specs/Exchange.antt: the run on bytes, with a fate for each frame. specs/ExchangeLaws.antt: over a channel without errors each host gets
 // the other's message, once and whole, in the fewest blocks (`exchanged`).
 // specs/RowExchange.antt: the run on rows, through the calls of the whole card and the whole reader. specs/RowExchangeLaws.antt: it is the
-// run on bytes, and so the same holds of it (`row-exchanged`). `exchange` is this run.
-// specs/Lossy.antt: the run on rows where frames may be lost or damaged, of which `rowTalk` is the case without errors; `lossy` is that run.
+// run on bytes, and so the same holds of it (`row_exchanged`). `exchange` is this run.
+// specs/Lossy.antt: the run on rows where frames may be lost or damaged, of which `row_talk` is the case without errors; `lossy` is that run.
 // What holds of it is in crate lost_blocks.
 #![tactic(auto)]
 

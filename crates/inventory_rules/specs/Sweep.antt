@@ -1,5 +1,5 @@
 -- Document 02, T-10, of the claim: "over tags with different 64-bit UIDs, none selected, and a channel that only merges bits", what a round and a sweep tell, and
--- that every tag is what it was. Which tags are alone in a slot, and which met, is `in_slot` and `toldOf`.
+-- that every tag is what it was. Which tags are alone in a slot, and which met, is `in_slot` and `told_of`.
 use Rattle.std.specs.Prelude.{◌≡◌, ℕ, ◌≤◌, ◌<◌, Bool, true, false, List, [], map, replicate}
 use Rattle.rows.specs.Rows.{All}
 use Rattle.reader_v.specs.Met.{flags}

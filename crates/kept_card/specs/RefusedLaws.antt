@@ -121,19 +121,19 @@ outside_declines : (x : LinkCard) (f buffer : List ℕ) → Declines x buffer (t
 unfolding takes_outside
 outside_declines x f buffer = λ h. absurd (false≢true h)
 
-in-declines : (s : CardState) (x : LinkCard) (f m buffer : List ℕ) → Declines x buffer (takes_in s x f m buffer)
-in-declines (Protocol i) x f m buffer = inside_declines x f m buffer
-in-declines Off x f m buffer = outside_declines x f buffer
-in-declines Idle x f m buffer = outside_declines x f buffer
-in-declines (Ready l) x f m buffer = outside_declines x f buffer
-in-declines Active x f m buffer = outside_declines x f buffer
-in-declines Halt x f m buffer = outside_declines x f buffer
-in-declines (ReadyStar l) x f m buffer = outside_declines x f buffer
-in-declines ActiveStar x f m buffer = outside_declines x f buffer
+in_declines : (s : CardState) (x : LinkCard) (f m buffer : List ℕ) → Declines x buffer (takes_in s x f m buffer)
+in_declines (Protocol i) x f m buffer = inside_declines x f m buffer
+in_declines Off x f m buffer = outside_declines x f buffer
+in_declines Idle x f m buffer = outside_declines x f buffer
+in_declines (Ready l) x f m buffer = outside_declines x f buffer
+in_declines Active x f m buffer = outside_declines x f buffer
+in_declines Halt x f m buffer = outside_declines x f buffer
+in_declines (ReadyStar l) x f m buffer = outside_declines x f buffer
+in_declines ActiveStar x f m buffer = outside_declines x f buffer
 
 pub take_declines : (x : LinkCard) (f m buffer : List ℕ) (room : ℕ) → Declines x buffer (take_call x f m buffer room)
 unfolding take_call
-take_declines x f m buffer room = called_declines (not (owing x)) x buffer room _ (in-declines x.card.state x f m buffer)
+take_declines x f m buffer room = called_declines (not (owing x)) x buffer room _ (in_declines x.card.state x f m buffer)
 
 pub reply_declines : (x : LinkCard) (m : List ℕ) (room : ℕ) → Declines x [] (reply_call x m room)
 unfolding reply_call card_reply

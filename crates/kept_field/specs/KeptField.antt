@@ -16,7 +16,7 @@ use Rattle.kept_reader.specs.KeptReader.{selection_bytes, selection_of, link_byt
 
 -- ---- the cards
 
--- the first n cards of a row of states: card i from the bytes at 64 * i on (law `state-at` of crate kept)
+-- the first n cards of a row of states: card i from the bytes at 64 * i on (law `state_at` of crate kept)
 unfoldable pub cards_in : ℕ → List ℕ → List Card
 cards_in n b = states_from (λ i. card_in) 0 n b
 

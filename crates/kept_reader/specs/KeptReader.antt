@@ -213,7 +213,7 @@ answer_bytes a = answer_event a ∷ word 8 (answer_length a)
 abbrev pub turn_bytes : LinkTurn → List ℕ
 turn_bytes t = reader_bytes t.reader ++ answer_bytes t.answer
 
--- two readers are one: they are kept as the same bytes (law `same-reader`)
+-- two readers are one: they are kept as the same bytes (law `same_reader_law`)
 abbrev pub same_reader : LinkReader → LinkReader → Bool
 same_reader x y = same (selection_bytes x.reader) (selection_bytes y.reader) && same (link_bytes x.link) (link_bytes y.link)
 

@@ -24,7 +24,7 @@ woken_turn x s = turn_of s.reader x.link s.answer
 abbrev pub woken_number : Woken → ℕ
 woken_number s = cond (selection_refuses s.answer) (selection_number s.answer) s.frames
 
--- the row of cards' states b, of which the first n are the field. By a refusal all cards are what they were (law `refused-absent`), and nothing is
+-- the row of cards' states b, of which the first n are the field. By a refusal all cards are what they were (law `refused_absent`), and nothing is
 -- written
 unfoldable pub row_left : ℕ → List ℕ → Woken → List ℕ
 row_left n b s = cond (selection_refuses s.answer) b (cards_left b (take n s.cards))

@@ -65,7 +65,7 @@ prompt_clean zero = tt
 prompt_clean (suc g) = (refl, prompt_clean g)
 
 module _ (i j : ℕ) (m a : List ℕ) (room g : ℕ) (e : RowEnds) (t : Terms i j m a g e) where
-  -- so the terms are met wherever those of demand 2 are (`terms-met` of crate exchange)
+  -- so the terms are met wherever those of demand 2 are (`terms_met` of crate exchange)
   pub few_clean : RowFewLosses i j m a room (replicate g row_clean) e
   unfolding row_marks_of
   few_clean =

@@ -1,4 +1,4 @@
--- Document 02, T-11, on rows: the whole reader and the whole card joined by their calls (`lossyTalk` of crate exchange), "where any block either
+-- Document 02, T-11, on rows: the whole reader and the whole card joined by their calls (`lossy_talk` of crate exchange), "where any block either
 -- way may be lost or damaged, damage always being noticed by parity or CRC_A, and nothing invented".
 use Rattle.std.specs.Prelude.{ℕ, suc, ◌+◌, ◌*◌, ◌≤◌, ◌≡◌, Bool, true, false, cond, ◌||◌, List, [], ◌∷◌, length, replicate, eqb}
 use Rattle.rows.specs.Rows.{overlay, is_nil, All}
@@ -70,14 +70,14 @@ spoilt (Instead h) = 1
 abbrev pub row_mark : RowRound → Link → RowPassed → Mark
 row_mark x l p = record { number = number_in l; lost = spoilt x.down + cond (is_nil p.reply) 0 (spoilt x.up) }
 
--- the rounds that the run comes to (see `lossyExchange`)
+-- the rounds that the run comes to (see `lossy_exchange`)
 unfoldable pub row_marks : List ℕ → List ℕ → ℕ → List RowRound → RowEnds → Told → List ℕ → List Mark
 row_marks m a room [] e t f = []
 row_marks m a room (x ∷ xs) e t f =
     let p : RowPassed = lossy_passes m a room x e f in
     cond (is_quiet t) (row_mark x e.reader.link p ∷ row_marks m a room xs p.ends p.told p.next) []
 
--- .. of the whole (see `lossyTalk`)
+-- .. of the whole (see `lossy_talk`)
 unfoldable pub row_marks_of : List ℕ → List ℕ → ℕ → List RowRound → RowEnds → List Mark
 row_marks_of m a room xs e =
     let s : Called = send_call e.reader m room in

@@ -116,18 +116,18 @@ module _ (h : List ℕ) (room : ℕ) where
   quiet_safe : Safe (hear_quiet h).answer (hear_quiet h).reader h room
   quiet_safe = safe_cond (is_nil h) _ _ tt tt
 
-  in-safe : (y : PhaseV) (r : ReaderV) → data_room y r ≤ room → Safe (hear_in y r h).answer (hear_in y r h).reader h room
-  in-safe Ready r f = tt
-  in-safe InRound r f = slot_safe false r
-  in-safe InSweep r f = slot_safe true r
-  in-safe QuietSent r f = quiet_safe
-  in-safe ReadSent r f = answer_safe true r.count r.status f
-  in-safe OtherSent r f = other_safe (read_answer false 0 false h)
-  in-safe Stopped r f = tt
+  in_safe : (y : PhaseV) (r : ReaderV) → data_room y r ≤ room → Safe (hear_in y r h).answer (hear_in y r h).reader h room
+  in_safe Ready r f = tt
+  in_safe InRound r f = slot_safe false r
+  in_safe InSweep r f = slot_safe true r
+  in_safe QuietSent r f = quiet_safe
+  in_safe ReadSent r f = answer_safe true r.count r.status f
+  in_safe OtherSent r f = other_safe (read_answer false 0 false h)
+  in_safe Stopped r f = tt
 
   pub hear_safe : (r : ReaderV) → data_room r.phase r ≤ room → Safe (hear r h).answer (hear r h).reader h room
   unfolding hear
-  hear_safe r f = in-safe r.phase r f
+  hear_safe r f = in_safe r.phase r f
 
 -- the rooms that were asked for are there
 pub not_short : (r : ReaderV) (room out : ℕ) → is_short r room out ≡ false → (data_room r.phase r ≤ room) × (112 ≤ out)

@@ -46,11 +46,11 @@ ended ([] ∷ []) h e = refl
 ended ([] ∷ s ∷ S) h e = absurd h.0.0.0
 ended ((x ∷ r) ∷ S) h e = absurd (no_nil (x ∷ r) S h.0 e)
 
-open-ended : (T : List (List ℕ)) → any is_nil T ≡ false → All (λ r. 1 ≤ length r) T
+open_ended : (T : List (List ℕ)) → any is_nil T ≡ false → All (λ r. 1 ≤ length r) T
 unfolding any is_nil
-open-ended [] e = tt
-open-ended ([] ∷ S) e = absurd (true≢false e)
-open-ended ((x ∷ r) ∷ S) e = (omega arith, open-ended S e)
+open_ended [] e = tt
+open_ended ([] ∷ S) e = absurd (true≢false e)
+open_ended ((x ∷ r) ∷ S) e = (omega arith, open_ended S e)
 
 -- ---- a selection
 
@@ -84,7 +84,7 @@ levels_one Q e = rw e
 pub whole_next : (L : ℕ) (Q : List ℕ) (T : List (List ℕ)) → length Q ≡ wide → All (InLevels (suc L)) T → any is_nil (strips Q T) ≡ false → All (InLevels L) (strips Q T)
 whole_next L Q T e w o =
     all_zip (strips Q T) (λ t f h. f h) (all_strips (InLevels (suc L)) (λ t. 1 ≤ length t → InLevels L t) Q T (λ t. whole_right L Q t e) w)
-    (open-ended (strips Q T) o)
+    (open_ended (strips Q T) o)
 
 pub level_whole : (L : ℕ) (T : List (List ℕ)) → 1 ≤ length T → All (InLevels L) T → Level wide T (level wide wide T)
 level_whole L T h w = level_holds wide wide T (omega arith) h (all_weaken T (whole_wide L) w) (all_weaken T (λ r x. x.bits) w)

@@ -160,22 +160,22 @@ module _ (r : Reader) (q : Sweeping r) (h : List ℕ) where
   sak_stays l (Sak b) = either (contradicts l (b3 b) (get_or r.five 0 0)) _ _ tt (after_stays l b (b3 b))
   sak_stays l (NotSak e) = tt
 
-  in-stays : (p : Phase) → InSweep p → Stays (hear_in p r h)
+  in_stays : (p : Phase) → InSweep p → Stays (hear_in p r h)
   unfolding hear_atqa hear_rest hear_sak hear_silence
-  in-stays New x = absurd x
-  in-stays ReqaSent x = either (is_nil h && r.sweeps) _ _ tt (atqa_stays (read_atqa h))
-  in-stays (AnticollisionSent l) x = rest_stays l (read_rest r.known r.five h).says refl
-  in-stays (SelectSent l) x = sak_stays l (read_sak h)
-  in-stays HltaSent x = either (is_nil h) _ _ begin_stays tt
-  in-stays Selected x = absurd x
-  in-stays Finished x = absurd x
-  in-stays Stopped x = absurd x
-  in-stays WupaSent x = absurd x
-  in-stays (UidSelectSent l) x = absurd x
+  in_stays New x = absurd x
+  in_stays ReqaSent x = either (is_nil h && r.sweeps) _ _ tt (atqa_stays (read_atqa h))
+  in_stays (AnticollisionSent l) x = rest_stays l (read_rest r.known r.five h).says refl
+  in_stays (SelectSent l) x = sak_stays l (read_sak h)
+  in_stays HltaSent x = either (is_nil h) _ _ begin_stays tt
+  in_stays Selected x = absurd x
+  in_stays Finished x = absurd x
+  in_stays Stopped x = absurd x
+  in_stays WupaSent x = absurd x
+  in_stays (UidSelectSent l) x = absurd x
 
   pub hear_stays : Stays (hear r h)
   unfolding hear
-  hear_stays = in-stays r.phase q.phase_ok
+  hear_stays = in_stays r.phase q.phase_ok
 
 pub begin_sweeping : Sweeping (blank ReqaSent true)
 begin_sweeping = record { phase_ok = tt; sweeps = refl; five = refl; ten = none_ten; few = tt }

@@ -24,12 +24,6 @@ stop-end-requires c = c.skip-start.ensures.high
 pub slice_bounds-result-count : goal.slice_bounds-result-count
 slice_bounds-result-count c = c.stop-end.ensures.low
 
--- OLD NEED slice-bounds-result-start
--- part-result-start c = c.stop.ensures.low
-
--- OLD NEED slice-bounds-result-end
--- part-result-end c = c.stop.ensures.high
-
 pub returns : goal.returns
 unfolding word_at
 returns c = let l = c.loop-i in

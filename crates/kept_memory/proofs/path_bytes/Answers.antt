@@ -1,4 +1,4 @@
--- `kept_memory::path_bytes` meets its contract, by the law `path-put`. Assumes nothing.
+-- `kept_memory::path_bytes` meets its contract, by the law `path_put`. Assumes nothing.
 use mathlib.Core.Path.{◌≡◌}
 use lib.ListN.{length}
 use native.Mathlib.Omega.{arith}

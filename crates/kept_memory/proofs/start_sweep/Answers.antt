@@ -1,4 +1,4 @@
--- `kept_memory::start_sweep` meets its contract, by the laws `start-refused` and `start-begun`. Assumes nothing.
+-- `kept_memory::start_sweep` meets its contract, by the laws `start_refused` and `start_begun`. Assumes nothing.
 use mathlib.Core.Path.{sym, ◌∙◌}
 use Rattle.kept_memory.specs.KeptMemoryLaws.{start_refused, start_begun}
 use borrow.Author.Rules.{rules}

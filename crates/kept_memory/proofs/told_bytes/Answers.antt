@@ -1,4 +1,4 @@
--- `kept_memory::told_bytes` meets its contract, by the law `told-put`. Assumes nothing.
+-- `kept_memory::told_bytes` meets its contract, by the law `told_put`. Assumes nothing.
 use Rattle.kept_memory.specs.KeptMemoryLaws.{told_put}
 use borrow.Author.Rules.{rules}
 use Rattle.kept_memory.proofs.told_bytes.Goals as goal

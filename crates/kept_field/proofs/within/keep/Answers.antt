@@ -1,4 +1,4 @@
--- `kept_field::within::keep` meets its contract, by the law `kept-swept`. Assumes nothing.
+-- `kept_field::within::keep` meets its contract, by the law `kept_swept`. Assumes nothing.
 use Rattle.kept_field.specs.SweptLaws.{kept_swept}
 use borrow.Author.Rules.{rules}
 use Rattle.kept_field.proofs.within.keep.Goals as goal

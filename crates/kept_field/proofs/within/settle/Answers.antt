@@ -1,4 +1,4 @@
--- `kept_field::within::settle` meets its contract, by the laws `settled-refused` and `settled-swept`. Assumes nothing.
+-- `kept_field::within::settle` meets its contract, by the laws `settled_refused` and `settled_swept`. Assumes nothing.
 use mathlib.Core.Path.{sym, ap, ◌∙◌}
 use Rattle.reader_link.specs.declared.LinkReader.{LinkReader}
 use Rattle.kept_field.specs.SweptLaws.{settled_refused, settled_swept}

@@ -1,4 +1,4 @@
--- `kept_memory::within::path_of` meets its contract, by the law `path-read`. Assumes nothing.
+-- `kept_memory::within::path_of` meets its contract, by the law `path_read`. Assumes nothing.
 use Rattle.kept_memory.specs.KeptMemoryLaws.{path_read}
 use borrow.Author.Rules.{rules}
 use Rattle.kept_memory.proofs.within.path_of.Goals as goal

@@ -1,4 +1,4 @@
--- `kept_wake::within::settle` meets its contract, by the laws `woken-refused` and `woken-kept`. Assumes nothing.
+-- `kept_wake::within::settle` meets its contract, by the laws `woken_refused` and `woken_kept`. Assumes nothing.
 use mathlib.Core.Path.{sym, ◌∙◌}
 use Rattle.kept_wake.specs.WakeLaws.{woken_refused, woken_kept}
 use borrow.Author.Rules.{rules}

@@ -1,4 +1,4 @@
--- `lacrivosum::card_calls::new_turn` meets its contract, by the laws `new-made` and `new-refused`. Assumes nothing.
+-- `lacrivosum::card_calls::new_turn` meets its contract, by the laws `new_made` and `new_refused`. Assumes nothing.
 use Rattle.lacrivosum.specs.CardLibraryLaws.{new_made, new_refused}
 use borrow.Author.Rules.{rules}
 use Rattle.lacrivosum.proofs.card_calls.new_turn.Goals as goal

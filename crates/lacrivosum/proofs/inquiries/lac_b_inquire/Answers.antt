@@ -1,4 +1,4 @@
--- `lacrivosum::inquiries::lac_b_inquire` meets its contract, by the laws `refused-short` and `inquiry-made`. Assumes nothing.
+-- `lacrivosum::inquiries::lac_b_inquire` meets its contract, by the laws `refused_short` and `inquiry_made`. Assumes nothing.
 use mathlib.Core.Path.{refl, sym, ◌∙◌}
 use mathlib.Core.Bool.{false≢true}
 use native.Mathlib.Omega.{arith}

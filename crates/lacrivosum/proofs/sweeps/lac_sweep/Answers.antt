@@ -1,4 +1,4 @@
--- `lacrivosum::sweeps::lac_sweep` meets its contract, by the laws `short-state`, `short_row` and `plain-made`. Assumes nothing.
+-- `lacrivosum::sweeps::lac_sweep` meets its contract, by the laws `short_state`, `short_row` and `plain_made`. Assumes nothing.
 use mathlib.Core.Path.{refl}
 use native.Mathlib.Omega.{arith}
 use Rattle.lacrivosum.specs.FieldCallLaws.{short_state, short_row, plain_made}

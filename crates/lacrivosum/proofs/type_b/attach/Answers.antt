@@ -1,4 +1,4 @@
--- `lacrivosum::type_b::attach` meets its contract, by the laws `attach-unfit` and `attach-fit`. Assumes nothing.
+-- `lacrivosum::type_b::attach` meets its contract, by the laws `attach_unfit` and `attach_fit`. Assumes nothing.
 use Rattle.lacrivosum.specs.LibraryBLaws.{attach_unfit, attach_fit}
 use borrow.Author.Rules.{rules}
 use Rattle.lacrivosum.proofs.type_b.attach.Goals as goal

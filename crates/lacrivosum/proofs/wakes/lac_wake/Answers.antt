@@ -1,4 +1,4 @@
--- `lacrivosum::wakes::lac_wake` meets its contract, by the laws `short-state`, `short_row` and `woken-made`. Assumes nothing.
+-- `lacrivosum::wakes::lac_wake` meets its contract, by the laws `short_state`, `short_row` and `woken_made`. Assumes nothing.
 use mathlib.Core.Path.{refl, ap}
 use native.Mathlib.Omega.{arith}
 use Rattle.reader_link.specs.declared.LinkReader.{LinkReader}

@@ -18,9 +18,6 @@ slice_bounds-put-end-2 c = let n : length c.args.r.uid.bytes ≡ 10 = search rul
 pub put-requires : goal.put-requires
 put-requires c = let n : length c.args.r.uid.bytes ≡ 10 = search rules in rw length-take (omega (arith, c.place-at.ensures, place_most c.args.l))
 
--- OLD NEED slice-bounds-put-end
--- part-put-end c = let n : length c.before.before.before.before.before.before.before.before.before.before.args.r.five ≡ 5 = search rules in omega arith
-
 pub put-requires-2 : goal.put-requires-2
 put-requires-2 c = let n : length c.args.r.five ≡ 5 = search rules in rw (length-take) (omega (arith, c.place-at.ensures, place_most c.args.l))
 
