@@ -1,6 +1,6 @@
 -- Document 02, T-10: what the reader makes of a received row. "rows are heard as in T-05": in a slot silence and collisions are no refusal, where another
 -- answer is due 7 and 8. A received frame is tested 7, 2, 8, 4, 9 (document 01): the first test that applies wins.
-use Rattle.std.specs.Prelude.{ℕ, ◌+◌, ◌-◌, ◌/◌, ◌%◌, Bool, cond, not, ◌&&◌, ◌||◌, List, length, take, drop, replicate, eqb, leb}
+use Rattle.std.specs.Prelude.{ℕ, ◌+◌, ◌-◌, ◌/◌, ◌%◌, Bool, cond, not, ◌&&◌, ◌||◌, List, length, take, drop, replicate, eqb, leb, Result, Ok, Err}
 use Rattle.rows.specs.Rows.{is_nil, clean}
 use Rattle.parity.specs.Bits.{unbits}
 use Rattle.crc.specs.CrcOf.{crc_good_b}
@@ -9,16 +9,15 @@ use Rattle.frame_b.specs.FrameB.{byte_at}
 use Rattle.request_v.specs.Inventory.{matching}
 use Rattle.refusal.specs.declared.Refusal.TheVariants.{Length, Silence, Collision, Crc, Forbidden}
 use Rattle.selection_b.specs.declared.Held.TheVariants.{None, One, More}
-use Rattle.selection_b.specs.declared.SlotSays.{SlotSays}
-use Rattle.selection_b.specs.declared.SlotSays.TheVariants.{Holds, NotSlot}
 use Rattle.answer_v.specs.declared.SlotV.{SlotV}
 use Rattle.answer_v.specs.declared.Turn.{Turn}
 use Rattle.answer_v.specs.declared.AnswerSays.{AnswerSays}
 use Rattle.answer_v.specs.declared.AnswerSays.TheVariants.{Good, Fails, NotGood}
+use Rattle.refusal.specs.declared.Refusal.{Refusal}
 
 -- ---- a slot
 
-abbrev pub nobody : SlotSays → SlotV
+abbrev pub nobody : Result Held Refusal → SlotV
 nobody s = record { says = s; dsfid = 0; uid = replicate 8 0 }
 
 -- a UID is that of a tag which answers here: its low bits are the mask and, of 16 slots, the slot's number stands above it
@@ -29,19 +28,19 @@ fits k h =
 
 -- "wherever two tags met": any collided bit. Where the mask cannot grow, no two tags with different UIDs can meet
 abbrev pub collided : Bool → SlotV
-collided deep = cond deep (nobody (NotSlot Forbidden)) (nobody (Holds More))
+collided deep = cond deep (nobody (Err Forbidden)) (nobody (Ok More))
 
 -- 96 bits, none of them collided: 00, DSFID, UID, CRC_B
 unfoldable pub slot_in : Turn → List ℕ → SlotV
 slot_in k h =
-    cond (not (crc_good_b (bytes_of (length h / 8) h))) (nobody (NotSlot Crc))
-    (cond (eqb (byte_at 0 h) 0x00 && fits k h) (record { says = Holds One; dsfid = byte_at 1 h; uid = bytes_of 8 (drop 16 h) })
-    (nobody (NotSlot Forbidden)))
+    cond (not (crc_good_b (bytes_of (length h / 8) h))) (nobody (Err Crc))
+    (cond (eqb (byte_at 0 h) 0x00 && fits k h) (record { says = Ok One; dsfid = byte_at 1 h; uid = bytes_of 8 (drop 16 h) })
+    (nobody (Err Forbidden)))
 
 unfoldable pub read_slot : Turn → List ℕ → SlotV
 read_slot k h =
-    cond (is_nil h) (nobody (Holds None))
-    (cond (not (eqb (length h) 96)) (nobody (NotSlot Length))
+    cond (is_nil h) (nobody (Ok None))
+    (cond (not (eqb (length h) 96)) (nobody (Err Length))
     (cond (not (clean h)) (collided k.deep) (slot_in k h)))
 
 -- ---- another answer

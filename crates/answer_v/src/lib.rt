@@ -8,12 +8,12 @@ ghost use Rattle.answer_v.specs.Heard.{read_slot, read_answer};
 ghost use Rattle.answer_v.specs.Says.{slot_says, answer_says};
 
 use refusal::Refusal;
-use selection_b::{Held, SlotSays};
+use selection_b::Held;
 
 // What was heard in a slot of a round: of one tag its DSFID and its UID, else zeros.
 #[derive(Clone, Copy)]
 pub struct SlotV {
-    pub says: SlotSays,
+    pub says: Result<Held, Refusal>,
     pub dsfid: u8,
     pub uid: [u8; 8],
 }
@@ -42,10 +42,10 @@ pub fn read_slot(k: Turn, row: &[u8]) -> SlotV
     ensures result_value { slot_says result ≡ slot_says (read_slot k row.now) }
 {
     if row.len() == 0 {
-        return within::nobody(SlotSays::Holds(Held::None));
+        return within::nobody(Ok(Held::None));
     }
     if row.len() != 96 {
-        return within::nobody(SlotSays::NotSlot(Refusal::Length));
+        return within::nobody(Err(Refusal::Length));
     }
     if !rows::is_clean(row) {
         return within::collided(k.deep);

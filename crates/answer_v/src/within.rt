@@ -5,9 +5,9 @@ ghost use Rattle.answer_v.specs.Heard.{nobody, collided, fits, slot_in, is_code,
 
 use crate::{AnswerSays, SlotV, Turn};
 use refusal::Refusal;
-use selection_b::{Held, SlotSays};
+use selection_b::Held;
 
-pub fn nobody(s: SlotSays) -> SlotV
+pub fn nobody(s: Result<Held, Refusal>) -> SlotV
     ensures { result ≡ nobody s }
 {
     let uid = [0u8; 8];
@@ -22,9 +22,9 @@ pub fn collided(deep: bool) -> SlotV
     ensures { result ≡ collided deep }
 {
     if deep {
-        return nobody(SlotSays::NotSlot(Refusal::Forbidden));
+        return nobody(Err(Refusal::Forbidden));
     }
-    nobody(SlotSays::Holds(Held::More))
+    nobody(Ok(Held::More))
 }
 
 // Is the UID in a row of 96 bits that of a tag which answers in this slot?
@@ -57,19 +57,19 @@ pub fn slot_in(k: Turn, row: &[u8]) -> SlotV
     ensures { result ≡ slot_in k row.now }
 {
     if !frame_v::within::is_good(row) {
-        return nobody(SlotSays::NotSlot(Refusal::Crc));
+        return nobody(Err(Refusal::Crc));
     }
     if parity::within::byte_at(row, 0) != 0x00 {
-        return nobody(SlotSays::NotSlot(Refusal::Forbidden));
+        return nobody(Err(Refusal::Forbidden));
     }
     if !is_fitting(k, row) {
-        return nobody(SlotSays::NotSlot(Refusal::Forbidden));
+        return nobody(Err(Refusal::Forbidden));
     }
     let dsfid = parity::within::byte_at(row, 8);
     let mut uid = [0u8; 8];
     frame_b::within::bytes_of(&row[16..], 8, &mut uid);
     SlotV {
-        says: SlotSays::Holds(Held::One),
+        says: Ok(Held::One),
         dsfid: dsfid,
         uid: uid,
     }

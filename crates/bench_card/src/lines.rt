@@ -1,7 +1,6 @@
 // The lines. Each function answers the bench after the line and the answer to it.
 use crate::{Bench, Reply, answers};
 use card_link::{CardTurn, LinkCard, whole};
-use uid::Made;
 
 // `room N` is answered without a state; every other line with it.
 pub fn script(bench: Bench, text: &[u8]) -> Reply {
@@ -98,12 +97,9 @@ fn new_card(bench: Bench, text: &[u8]) -> Reply {
         return none(bench);
     }
     let bytes = w.uid;
-    let new = whole::new_card(bench::front(&bytes, w.length), w.blocks, w.index);
-    let made = new.made;
-    let card = new.card;
-    match made {
-        Made::Good => done(with_card(bench, card)),
-        Made::NotMade(e) => Reply {
+    match whole::new_card(bench::front(&bytes, w.length), w.blocks, w.index) {
+        Ok(card) => done(with_card(bench, card)),
+        Err(e) => Reply {
             bench,
             answer: answers::refused(e),
         },

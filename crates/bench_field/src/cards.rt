@@ -2,7 +2,7 @@
 use crate::{Collected, Collecting};
 use card::{Card, CardState};
 use limits::MOST_CARDS;
-use uid::{Level, Made};
+use uid::Level;
 
 // One card more, from a line, or the UID to wake. What is left out is `idle`, `20` and `8`.
 pub fn card_line(c: Collected, text: &[u8]) -> Collecting {
@@ -103,12 +103,9 @@ fn is_line(is_card: bool, state: usize, behind: &[u8]) -> bool {
 
 // The cards with a new one behind them; refused where it is not made.
 fn with_new(c: Collected, uid: &[u8], blocks: bool, index: u8, state: usize) -> Collected {
-    let new = card::new_card(uid, blocks, index);
-    let card = new.card;
-    let made = new.made;
-    match made {
-        Made::Good => with_card(c, in_state(card, state)),
-        Made::NotMade(_) => refused(c),
+    match card::new_card(uid, blocks, index) {
+        Ok(card) => with_card(c, in_state(card, state)),
+        Err(_) => refused(c),
     }
 }
 

@@ -4,7 +4,6 @@
 
 use bench_talk::Answer;
 use bench_values::{Number, ReadWord};
-use frame::Written;
 use refusal::Refusal;
 
 // A card's words: its UID, so many bytes at the front; whether it speaks blocks; its size index. Where they are not understood the rest is
@@ -142,7 +141,7 @@ fn short(value: &[u8], row: &mut [u8]) -> usize {
         return above(row.len());
     }
     let w = frame::write_short(one[0], row);
-    let Written::Bits(n) = w else {
+    let Ok(n) = w else {
         return above(row.len());
     };
     n

@@ -1,7 +1,8 @@
 // The lines of the cards.
+use refusal::Refusal;
 use crate::{Bench, Field, Reply, answers, lines, places, words};
 use bench_talk::Answer;
-use card_b::{AnswerB, CardB, StateB};
+use card_b::{CardB, StateB};
 use field_b::Drawn;
 use std::io;
 
@@ -263,10 +264,10 @@ fn take(bench: Bench, text: &[u8]) -> Reply {
     )
 }
 
-fn taken(a: AnswerB, out: &[u8; 112]) -> Answer {
+fn taken(a: Result<Option<usize>, Refusal>, out: &[u8; 112]) -> Answer {
     match a {
-        AnswerB::Sends(n) => answers::framed(answers::ANSWER, bench::front(out, n)),
-        AnswerB::Silent => answers::plain(answers::SILENT),
-        AnswerB::NotTaken(e) => bench_lines::refused(e),
+        Ok(Some(n)) => answers::framed(answers::ANSWER, bench::front(out, n)),
+        Ok(None) => answers::plain(answers::SILENT),
+        Err(e) => bench_lines::refused(e),
     }
 }

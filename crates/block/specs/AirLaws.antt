@@ -1,5 +1,5 @@
 -- A row that is read to lent bytes, and a block's row that is written. Assumes nothing.
-use Rattle.std.specs.Prelude.{◌≡◌, refl, ℕ, ◌+◌, ◌*◌, ◌≤◌, ◌<◌, List, [], ◌∷◌, ◌++◌, length, take, drop, replicate}
+use Rattle.std.specs.Prelude.{◌≡◌, refl, ℕ, ◌+◌, ◌*◌, ◌≤◌, ◌<◌, List, [], ◌∷◌, ◌++◌, length, take, drop, replicate, Result, Ok, Err}
 use Rattle.std.proofs.Common.{sym, ap, ◌∙◌, arith, length-append, length-take, length-take-le}
 use Rattle.limits.specs.Limits.{row_room}
 use Rattle.rows.specs.Rows.{overlay}
@@ -9,8 +9,6 @@ use Rattle.frame.specs.Frame.{standard, read_crc}
 use Rattle.frame.proofs.FrameLaws.{length_standard, standard_append}
 use Rattle.frame.specs.Calls.{good_bytes, read_answer, bytes_after}
 use Rattle.frame.proofs.CallLaws.{read_verdict, refused_verdict}
-use Rattle.frame.specs.declared.Received.{Received}
-use Rattle.frame.specs.declared.Received.TheVariants.{Bytes, NotReceived}
 use Rattle.selection.specs.Selection.{size}
 use Rattle.refusal.specs.declared.Refusal.{Refusal}
 use Rattle.block.specs.declared.Block.{Block}
@@ -24,19 +22,19 @@ use Rattle.block.specs.Row.{block_row, heard_row}
 
 -- ---- a row that is read
 
-module _ (own most room : ℕ) (row out out' : List ℕ) (r : Received) (s : most ≡ size own) (h : 256 ≤ room) (a : r ≡ read_answer room (read_crc 3 most row)) (m : out' ≡ bytes_after r (read_crc 3 most row) out) where
+module _ (own most room : ℕ) (row out out' : List ℕ) (r : Result ℕ Refusal) (s : most ≡ size own) (h : 256 ≤ room) (a : r ≡ read_answer room (read_crc 3 most row)) (m : out' ≡ bytes_after r (read_crc 3 most row) out) where
   good : good_bytes (heard_row own row) ≡ good_bytes (read_crc 3 most row)
   good = heard_good own row ∙ ap (λ n. good_bytes (read_crc 3 n row)) (sym s)
 
   -- a frame that is not good has no bytes, and nothing is written
-  pub row_none : (e : Refusal) → r ≡ NotReceived e
+  pub row_none : (e : Refusal) → r ≡ Err e
       → (0 ≡ length (good_bytes (heard_row own row))) × (out' ≡ overlay out 0 (good_bytes (heard_row own row)))
   row_none e k =
       let g : good_bytes (heard_row own row) ≡ [] = good ∙ ap good_bytes (refused_verdict room (read_crc 3 most row) r e h a k) in
       (rw g, m ∙ rw (k, g) (sym (overlay_nil out 0)))
 
   -- the bytes of one that is stand at the front
-  pub row_some : (n : ℕ) → r ≡ Bytes n
+  pub row_some : (n : ℕ) → r ≡ Ok n
       → (n ≡ length (good_bytes (heard_row own row))) × (out' ≡ overlay out 0 (good_bytes (heard_row own row)))
   row_some n k =
       let v = read_verdict room (read_crc 3 most row) r n out out' a k m in

@@ -6,7 +6,6 @@ ghost use Rattle.frame.specs.Calls.{good_bytes};
 ghost use Rattle.block.specs.Row.{block_row, heard_row};
 
 use crate::BlockBytes;
-use frame::Received;
 
 // Reads a row to the front of lent bytes as an end of this size index takes it; silence and a damaged frame have no bytes.
 pub fn read_row(own: u8, row: &[u8], out: &mut [u8]) -> usize
@@ -17,8 +16,8 @@ pub fn read_row(own: u8, row: &[u8], out: &mut [u8]) -> usize
     let most = selection::numbers::size_of(own);
     let got = frame::within::read_crc_within(row, most, out);
     match got {
-        Received::NotReceived(_) => 0,
-        Received::Bytes(n) => n,
+        Err(_) => 0,
+        Ok(n) => n,
     }
 }
 

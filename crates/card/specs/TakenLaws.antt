@@ -1,5 +1,5 @@
 -- A step of the rules as the code hands it back: the card and its answer, and the lent row. Assumes nothing.
-use Rattle.std.specs.Prelude.{◌≡◌, refl, ◌≢◌, ℕ, Bool, List, [], ◌∷◌, length}
+use Rattle.std.specs.Prelude.{◌≡◌, refl, ◌≢◌, ℕ, Bool, List, [], ◌∷◌, length, Some}
 use Rattle.std.proofs.Common.{sym, ap, ap₂, ◌∙◌}
 use Rattle.rows.specs.ListLaws.{is_nil_law}
 use Rattle.rows.proofs.RowLaws.{overlay_nil}
@@ -7,7 +7,6 @@ use Rattle.rows.specs.Rows.{overlay, same}
 use Rattle.card.specs.Calls.{taken, answer_of, bits_in}
 use Rattle.card.specs.Card.{Step, with_state}
 use Rattle.card.specs.declared.Card.{Card}
-use Rattle.card.specs.declared.CardAnswer.TheVariants.{Sends}
 use Rattle.card.specs.declared.CardState.{CardState}
 use Rattle.card.specs.declared.Taken.{Taken}
 
@@ -22,11 +21,11 @@ unmoved c out e h = handed c out e (h, sym (overlay_nil out 0))
 pub sends_none : (c : Card) (x : CardState) (row : List ℕ) → length row ≡ 0 → taken c (x, []) ≡ taken c (x, row)
 sends_none c x row e = ap (λ r. taken c (x, r)) (sym (is_nil_law row e))
 
-some_bits : (row : List ℕ) → length row ≢ 0 → Sends (length row) ≡ answer_of row
+some_bits : (row : List ℕ) → length row ≢ 0 → Some (length row) ≡ answer_of row
 some_bits [] n = absurd (n refl)
 some_bits (b ∷ row) n = refl
 
-pub sends_some : (c k : Card) (x : CardState) (row : List ℕ) → k ≡ with_state c x → length row ≢ 0 → ◌≡◌ {A = Taken} (record { card = k; answer = Sends (length row) }) (taken c (x, row))
+pub sends_some : (c k : Card) (x : CardState) (row : List ℕ) → k ≡ with_state c x → length row ≢ 0 → ◌≡◌ {A = Taken} (record { card = k; answer = Some (length row) }) (taken c (x, row))
 sends_some c k x row e n = ap₂ (λ k a. record { card = k; answer = a }) e (some_bits row n)
 
 -- what a comparison with a frame told

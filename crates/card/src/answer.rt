@@ -4,7 +4,7 @@ ghost use Rattle.rows.specs.Rows.{overlay};
 ghost use Rattle.card.specs.Card.{with_state};
 ghost use Rattle.card.specs.Calls.{taken};
 
-use crate::{Card, CardAnswer, CardState, Taken};
+use crate::{Card, CardState, Taken};
 
 pub fn with_state(c: Card, s: CardState) -> Card
     ensures { result ≡ with_state c s }
@@ -25,7 +25,7 @@ pub fn silent(c: Card, s: CardState) -> Taken
     let k = with_state(c, s);
     Taken {
         card: k,
-        answer: CardAnswer::Silent,
+        answer: None,
     }
 }
 
@@ -42,6 +42,6 @@ pub fn send(c: Card, s: CardState, row: &[u8], out: &mut [u8]) -> Taken
     let k = with_state(c, s);
     Taken {
         card: k,
-        answer: CardAnswer::Sends(row.len()),
+        answer: Some(row.len()),
     }
 }

@@ -10,11 +10,11 @@ mod woken;
 
 ghost use Rattle.std.specs.Prelude.{◌≡◌};
 ghost use Rattle.card.specs.Card.{powered, power_on, power_off};
-ghost use Rattle.card.specs.Calls.{refused_card, new_card, new_card_says};
-ghost use Rattle.uid.specs.Calls.{made_says};
+ghost use Rattle.card.specs.Calls.{new_card, new_card_says};
+ghost use Rattle.refusal.specs.Refusal.{made_says};
 
 use refusal::Refusal;
-use uid::{Level, Made, Uid, UidSize};
+use uid::{Level, Uid};
 
 // ReadyStar and ActiveStar are Ready* and Active*, of a card that was woken from Halt (T-03). Protocol holds the reader's size index, from RATS.
 #[derive(Clone, Copy)]
@@ -38,69 +38,28 @@ pub struct Card {
     pub state: CardState,
 }
 
-// A card from its UID; where it is refused the card is one of four zeros, Off.
-#[derive(Clone, Copy)]
-pub struct NewCard {
-    pub card: Card,
-    pub made: Made,
-}
-
-// What a card answers to a frame: so many air bits at the front of the lent row, or nothing.
-#[derive(Clone, Copy)]
-pub enum CardAnswer {
-    Sends(usize),
-    Silent,
-}
-
 // A card after a frame.
 #[derive(Clone, Copy)]
 pub struct Taken {
     pub card: Card,
-    pub answer: CardAnswer,
-}
-
-fn refused_card() -> NewCard
-    ensures { result ≡ refused_card }
-{
-    let u = Uid {
-        size: UidSize::Single,
-        bytes: [0u8; 10],
-    };
-    let c = Card {
-        uid: u,
-        blocks: false,
-        index: 0,
-        state: CardState::Off,
-    };
-    NewCard {
-        card: c,
-        made: Made::NotMade(Refusal::Argument),
-    }
+    pub answer: Option<usize>,
 }
 
 // A card without power. 6: the UID is not valid, or the size index is over 8.
-pub fn new_card(bytes: &[u8], blocks: bool, index: u8) -> NewCard
+pub fn new_card(bytes: &[u8], blocks: bool, index: u8) -> Result<Card, Refusal>
     ensures value { result ≡ new_card bytes.now blocks index }
-    ensures made_value { made_says result.made ≡ new_card_says bytes.now index }
+    ensures made_value { made_says result ≡ new_card_says bytes.now index }
 {
     if index > 8 {
-        return refused_card();
+        return Err(Refusal::Argument);
     }
-    let n = uid::new_uid(bytes);
-    let made = n.made;
-    let u = n.uid;
-    match made {
-        Made::Good => NewCard {
-            card: Card {
-                uid: u,
-                blocks: blocks,
-                index: index,
-                state: CardState::Off,
-            },
-            made: Made::Good,
-        },
-        Made::NotMade(_) => refused_card(),
-    }
+    let uid = uid::new_uid(bytes)?;
+    Ok(Card {
+        uid,
+        blocks,
+        index,
+        state: CardState::Off,
+    })
 }
 
 fn powered(s: CardState) -> CardState

@@ -8,7 +8,7 @@ ghost use Rattle.card.specs.declared.CardState.TheVariants.{Idle, Halt};
 ghost use Rattle.card.specs.Card.{ready_in, active_in, rules};
 ghost use Rattle.card.specs.Calls.{taken, bits_in};
 
-use crate::{Card, CardAnswer, CardState, Taken};
+use crate::{Card, CardState, Taken};
 use uid::Level;
 
 // ATQA, and Ready at level 1, or Ready* for a card that is woken from Halt.
@@ -94,11 +94,11 @@ pub fn take_rules(c: Card, row: &[u8], out: &mut [u8]) -> Taken
 }
 
 // How many air bits an answer has.
-pub fn bits_in(a: CardAnswer) -> usize
+pub fn bits_in(a: Option<usize>) -> usize
     ensures { result ≡ bits_in a }
 {
     match a {
-        CardAnswer::Sends(n) => n,
-        CardAnswer::Silent => 0,
+        Some(n) => n,
+        None => 0,
     }
 }

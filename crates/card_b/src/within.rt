@@ -10,16 +10,17 @@ ghost use Rattle.card_b.specs.declared.StateB.TheVariants.{Requested, Declared};
 ghost use Rattle.card_b.specs.CardB.{atqb_of, drawn, heeds, requested, asked, other, rules};
 ghost use Rattle.card_b.specs.CallsB.{taken, bits_in};
 
-use crate::{AnswerB, CardB, StateB, TakenB};
+use refusal::Refusal;
+use crate::{CardB, StateB, TakenB};
 
 // The bits of an answer.
-pub fn bits_in(a: AnswerB) -> usize
+pub fn bits_in(a: Result<Option<usize>, Refusal>) -> usize
     ensures { result ≡ bits_in a }
 {
     match a {
-        AnswerB::Sends(n) => n,
-        AnswerB::Silent => 0,
-        AnswerB::NotTaken(_) => 0,
+        Ok(Some(n)) => n,
+        Ok(None) => 0,
+        Err(_) => 0,
     }
 }
 

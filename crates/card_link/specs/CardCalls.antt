@@ -8,7 +8,7 @@
 -- the answer is `turn_of o`, buffer at exit `o.buffer` and out at exit `overlay out 0 o.sent`. `power_on` and `power_off` have no more
 -- than `poweredOn x` and `poweredOff x`. A call tests 11, 1, 6, 10; a refused call sends nothing and changes nothing. CardSays.antt says the
 -- answers in the table's numbers.
-use Rattle.std.specs.Prelude.{ℕ, Bool, true, false, cond, not, List, [], length, ltb}
+use Rattle.std.specs.Prelude.{ℕ, Bool, true, false, cond, not, List, [], length, ltb, Result, Ok, Err}
 use Rattle.limits.specs.Limits.{row_room}
 use Rattle.refusal.specs.declared.Refusal.{Refusal}
 use Rattle.refusal.specs.declared.Refusal.TheVariants.{Room, NotDue}
@@ -29,6 +29,11 @@ use Rattle.card_blocks.specs.CardFrames.{card_block, card_reply, card_wtx}
 -- no link: a card outside Protocol carries nothing of an earlier one
 abbrev pub no_link : CardLink
 no_link = card_open 0 0
+
+-- a card that could be made, with no link yet
+abbrev pub without_link : Result Card Refusal → Result LinkCard Refusal
+without_link (Ok c) = Ok (record { card = c; link = no_link })
+without_link (Err e) = Err e
 
 -- the link of a card that a frame has led to this state from outside Protocol: RATS opens it, "card [starts] at 1"
 abbrev pub link_in : Card → CardState → CardLink

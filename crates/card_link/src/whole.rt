@@ -6,41 +6,26 @@ ghost use Rattle.frame.specs.Calls.{good_bytes};
 ghost use Rattle.block.specs.Block.{behind};
 ghost use Rattle.block.specs.Row.{heard_row};
 ghost use Rattle.block.specs.Says.{told_says};
-ghost use Rattle.uid.specs.Calls.{made_says};
 ghost use Rattle.card.specs.Calls.{new_card, new_card_says};
 ghost use Rattle.card_blocks.specs.CardFrames.{card_hears, card_out};
-ghost use Rattle.card_link.specs.CardCalls.{no_link, link_in, left_by, with_row, takes_outside, takes_inside, takes_in, owing, declined, take_call, reply_call, ask_call, powered_on, powered_off, turn_of};
+ghost use Rattle.card_link.specs.CardCalls.{without_link, link_in, left_by, with_row, takes_outside, takes_inside, takes_in, owing, declined, take_call, reply_call, ask_call, powered_on, powered_off, turn_of};
 ghost use Rattle.card_link.specs.CardSays.{take_says, reply_says, ask_says};
+ghost use Rattle.refusal.specs.Refusal.{made_says};
 
 use crate::{CardTurn, LinkCard};
 use block::Told;
 use card::{Card, CardState};
 use card_blocks::{CardLink, CardStep};
 use refusal::Refusal;
-use uid::Made;
-
-// A card from its UID; where it is refused the card is one of four zeros, Off.
-#[derive(Clone, Copy)]
-pub struct NewLinkCard {
-    pub card: LinkCard,
-    pub made: Made,
-}
 
 // A card without power. 6: the UID is not valid, or the size index is over 8.
-pub fn new_card(bytes: &[u8], blocks: bool, index: u8) -> NewLinkCard
-    ensures card_value { result.card.card ≡ (new_card bytes.now blocks index).card }
-    ensures link_value { result.card.link ≡ no_link }
-    ensures made_value { result.made ≡ (new_card bytes.now blocks index).made }
-    ensures made_value_2 { made_says result.made ≡ new_card_says bytes.now index }
+pub fn new_card(bytes: &[u8], blocks: bool, index: u8) -> Result<LinkCard, Refusal>
+    ensures value { result ≡ without_link (new_card bytes.now blocks index) }
+    ensures made_value { made_says result ≡ new_card_says bytes.now index }
 {
-    let new = card::new_card(bytes, blocks, index);
-    let card = new.card;
-    let made = new.made;
+    let card = card::new_card(bytes, blocks, index)?;
     let link = card_blocks::open(0, 0);
-    NewLinkCard {
-        card: LinkCard { card, link },
-        made,
-    }
+    Ok(LinkCard { card, link })
 }
 
 // Power comes: a card that was Off is Idle.

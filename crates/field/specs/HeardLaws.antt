@@ -1,5 +1,5 @@
 -- What the reader reads where cards answer together, to REQA and to ANTICOLLISION: no test applies. Assumes nothing.
-use Rattle.std.specs.Prelude.{◌≡◌, true, false, cond, not, ◌&&◌, take, ltb}
+use Rattle.std.specs.Prelude.{◌≡◌, true, false, cond, not, ◌&&◌, take, ltb, Ok}
 use Rattle.std.proofs.Math.Path.{refl, sym, ap, ap₂}
 use Rattle.std.proofs.Common.{◌∙◌, length-append, length-drop}
 use Prim.Native.Nat.{ℕ, ◌+◌, ◌-◌, ◌/◌, ◌≤◌}
@@ -28,7 +28,6 @@ use Rattle.field.specs.TogetherLaws.{data_seal, faulty_seal}
 use Rattle.refusal.specs.declared.Refusal.TheVariants.{Collision, Check}
 use Rattle.uid.specs.declared.UidSize.{UidSize}
 use Rattle.uid.specs.declared.UidSize.TheVariants.{Single, Double, Triple}
-use Rattle.selection.specs.declared.AtqaRead.TheVariants.{Atqa}
 use Rattle.selection.specs.declared.RestSays.TheVariants.{Whole, Collided}
 
 -- ---- ATQA
@@ -67,7 +66,7 @@ module _ (zs : List UidSize) (some : 1 ≤ length zs) where
       ap (λ l. faulty 2 (merge l)) (map_all atqa (λ z. seal 2 (D z)) zs (all_of atqa_seal zs) ∙ sym (map-map (seal 2) D zs))
       ∙ faulty_seal 2 (map D zs) (rw length-map some) (all_map {F = λ z. Unit {0}} (λ d. length d ≡ 16) D zs (λ z h. length_air_bits (atqa_bytes z)) (all_of (λ z. tt) zs))
 
-  pub reads_atqa : read_atqa (merge (map atqa zs)) ≡ Atqa
+  pub reads_atqa : read_atqa (merge (map atqa zs)) ≡ (Ok tt)
   unfolding read_atqa same
   reads_atqa = rw (not_nil (merge (map atqa zs)) (omega (arith, length_atqas)), length_atqas, sound_atqas, front)
 

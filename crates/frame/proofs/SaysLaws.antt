@@ -1,14 +1,13 @@
 -- What the calls answer, in the numbers of document 01's table: which number is given when. Assumes nothing.
-use Rattle.std.specs.Prelude.{◌≡◌, refl, ℕ, ◌+◌, ◌-◌, ◌*◌, ◌/◌, ◌≤◌, ◌<◌, Bool, true, false, cond, List, [], ◌∷◌, length, take, ltb}
+use Rattle.std.specs.Prelude.{◌≡◌, refl, ℕ, ◌+◌, ◌-◌, ◌*◌, ◌/◌, ◌≤◌, ◌<◌, Bool, true, false, cond, List, [], ◌∷◌, length, take, ltb, Err}
 use Rattle.std.proofs.Common.{lt-ltb, le-ltb, arith}
 use Rattle.limits.specs.Limits.{most_bytes}
 use Rattle.rows.specs.Rows.{clean, same}
 use Rattle.crc.specs.Crc.{with_crc}
-use Rattle.refusal.specs.Refusal.{giving, declining_at, declining, decline_if}
+use Rattle.refusal.specs.Refusal.{giving, declining_at, declining, decline_if, number_says}
 use Rattle.refusal.specs.declared.Refusal.TheVariants.{Room}
-use Rattle.frame.specs.declared.Received.TheVariants.{NotReceived}
 use Rattle.frame.specs.Frame.{whole_bytes, first_wrong, faulty, read_frame, without_crc, Verdict, Good, Fault}
-use Rattle.frame.specs.Calls.{write_says, write_short_says, verdict_says, received_says, read_says, received, read_answer}
+use Rattle.frame.specs.Calls.{write_says, write_short_says, verdict_says, read_says, received, read_answer}
 
 -- ---- 1, "lent room shorter than asked", and only then
 
@@ -52,11 +51,11 @@ says_crc l e = rw e
 
 -- ---- what the calls of our own crates answer, in these numbers
 
-pub says_read : (room : ℕ) (v : Verdict) → received_says (read_answer room v) ≡ read_says room v
+pub says_read : (room : ℕ) (v : Verdict) → number_says (read_answer room v) ≡ read_says room v
 unfolding read_answer
 says_read room v = go (ltb room most_bytes) v
   where
-    go : (b : Bool) (v : Verdict) → received_says (cond b (NotReceived Room) (received v)) ≡ decline_if b 1 (verdict_says v)
+    go : (b : Bool) (v : Verdict) → number_says (cond b (Err Room) (received v)) ≡ decline_if b 1 (verdict_says v)
     go true v = refl
     go false (Good l) = refl
     go false (Fault e) = refl

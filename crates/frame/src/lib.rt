@@ -10,34 +10,14 @@
 ghost use Rattle.std.specs.Prelude.{◌≡◌, length};
 ghost use Rattle.crc.specs.Crc.{with_crc};
 ghost use Rattle.frame.specs.Frame.{short, air_byte, standard, whole_bytes, read_frame, read_crc};
-ghost use Rattle.frame.specs.Calls.{written_says, write_says, write_short_says, row_after, received_says, read_says, bytes_after, short_says, read_short};
+ghost use Rattle.frame.specs.Calls.{write_says, write_short_says, row_after, read_says, bytes_after, read_short};
 ghost use Rattle.limits.specs.Limits.{most_bytes};
+ghost use Rattle.refusal.specs.Refusal.{number_says};
 
 use refusal::Refusal;
 
 // Functions with conditions on what they are called with. Only the crates of this repository call them.
 pub mod within;
-
-// Air bits that were written at the front of the lent row; or why not, and the row is unchanged.
-#[derive(Clone, Copy)]
-pub enum Written {
-    Bits(usize),
-    NotWritten(Refusal),
-}
-
-// Bytes that were written at the front of the lent bytes; or why not, and they are unchanged.
-#[derive(Clone, Copy)]
-pub enum Received {
-    Bytes(usize),
-    NotReceived(Refusal),
-}
-
-// The byte of a short frame.
-#[derive(Clone, Copy)]
-pub enum ReceivedShort {
-    Byte(u8),
-    NotShort(Refusal),
-}
 
 // A byte on the air: its bits, the lowest first, and then odd parity.
 pub fn air_byte(b: u8) -> [u8; 9]
@@ -49,73 +29,73 @@ pub fn air_byte(b: u8) -> [u8; 9]
 }
 
 // Writes bytes, each with its parity. 1 to 256 of them are a standard frame.
-pub fn write(bytes: &[u8], out: &mut [u8]) -> Written
-    ensures result_value { written_says result ≡ write_says 0 (length out.old) (length bytes.now) }
+pub fn write(bytes: &[u8], out: &mut [u8]) -> Result<usize, Refusal>
+    ensures result_value { number_says result ≡ write_says 0 (length out.old) (length bytes.now) }
     ensures out_after { out.new ≡ row_after result (standard bytes.now) out.old }
 {
     let n = bytes.len();
     if out.len() / 9 < n {
-        return Written::NotWritten(Refusal::Room);
+        return Err(Refusal::Room);
     }
     within::put_bytes(out, 0, bytes);
-    Written::Bits(9 * n)
+    Ok(9 * n)
 }
 
 // Writes bytes and then their CRC_A, each byte with its parity. 1 to 254 of them make a standard frame.
-pub fn write_crc(bytes: &[u8], out: &mut [u8]) -> Written
-    ensures result_value { written_says result ≡ write_says 2 (length out.old) (length bytes.now) }
+pub fn write_crc(bytes: &[u8], out: &mut [u8]) -> Result<usize, Refusal>
+    ensures result_value { number_says result ≡ write_says 2 (length out.old) (length bytes.now) }
     ensures out_after { out.new ≡ row_after result (standard (with_crc bytes.now)) out.old }
 {
     let m = bytes.len();
     if out.len() / 9 < m + 2 {
-        return Written::NotWritten(Refusal::Room);
+        return Err(Refusal::Room);
     }
     let k = crc::crc_bytes(bytes);
     within::put_bytes(out, 0, bytes);
     within::put_bytes(out, 9 * m, &k);
-    Written::Bits(9 * (m + 2))
+    Ok(9 * (m + 2))
 }
 
 // Writes the seven low bits of a byte as a short frame.
-pub fn write_short(b: u8, out: &mut [u8]) -> Written
-    ensures result_value { written_says result ≡ write_short_says (length out.old) }
+pub fn write_short(b: u8, out: &mut [u8]) -> Result<usize, Refusal>
+    ensures result_value { number_says result ≡ write_short_says (length out.old) }
     ensures out_after { out.new ≡ row_after result (short b) out.old }
 {
     if out.len() < 7 {
-        return Written::NotWritten(Refusal::Room);
+        return Err(Refusal::Room);
     }
     let d = parity::bits_of(b);
     rows::within::put(out, 0, &d[..7]);
-    Written::Bits(7)
+    Ok(7)
 }
 
 // Reads a received row as a standard frame of 1 to 256 bytes. It asks for 256 bytes of room, whatever is heard.
-pub fn read(row: &[u8], out: &mut [u8]) -> Received
-    ensures result_value { received_says result ≡ read_says (length out.old) (read_frame 1 most_bytes row.now) }
+pub fn read(row: &[u8], out: &mut [u8]) -> Result<usize, Refusal>
+    ensures result_value { number_says result ≡ read_says (length out.old) (read_frame 1 most_bytes row.now) }
     ensures out_after { out.new ≡ bytes_after result (read_frame 1 most_bytes row.now) out.old }
 {
     within::read_within(row, 1, limits::MOST_BYTES, out)
 }
 
 // Reads a received row as a standard frame of 3 to 256 bytes that end with their CRC_A, which is not handed on.
-pub fn read_crc(row: &[u8], out: &mut [u8]) -> Received
-    ensures result_value { received_says result ≡ read_says (length out.old) (read_crc 3 most_bytes row.now) }
+pub fn read_crc(row: &[u8], out: &mut [u8]) -> Result<usize, Refusal>
+    ensures result_value { number_says result ≡ read_says (length out.old) (read_crc 3 most_bytes row.now) }
     ensures out_after { out.new ≡ bytes_after result (read_crc 3 most_bytes row.now) out.old }
 {
     within::read_crc_within(row, limits::MOST_BYTES, out)
 }
 
 // Reads a received row as a short frame.
-pub fn read_short(row: &[u8]) -> ReceivedShort
-    ensures { short_says result ≡ read_short row.now }
+pub fn read_short(row: &[u8]) -> Result<u8, Refusal>
+    ensures { number_says result ≡ read_short row.now }
 {
     if row.len() != 7 {
-        return ReceivedShort::NotShort(Refusal::Length);
+        return Err(Refusal::Length);
     }
     if !rows::is_clean(row) {
-        return ReceivedShort::NotShort(Refusal::Collision);
+        return Err(Refusal::Collision);
     }
-    ReceivedShort::Byte(parity::within::number_of(row))
+    Ok(parity::within::number_of(row))
 }
 
 // Is a row of n bits whole bytes with parity, least to most of them?

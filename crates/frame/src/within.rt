@@ -5,7 +5,6 @@ ghost use Rattle.frame.specs.Frame.{standard, data_of, bytes_of, wrong_byte, fir
 ghost use Rattle.frame.specs.Calls.{received, read_answer, bytes_after};
 ghost use Rattle.limits.specs.Limits.{most_bytes};
 
-use crate::Received;
 use refusal::Refusal;
 
 // Writes bytes with parity into out from index at on.
@@ -74,58 +73,58 @@ pub fn sound_bytes(row: &[u8], n: usize, out: &mut [u8]) -> usize
 
 // Reads a received row as a standard frame of least to most bytes, tested 2, 8, 3; before these 1, room for 256 bytes. The bytes are read into
 // an array of its own while their parity is tested, so that the row is walked once for both and nothing is written into out before all is right.
-pub fn read_within(row: &[u8], least: usize, most: usize, out: &mut [u8]) -> Received
+pub fn read_within(row: &[u8], least: usize, most: usize, out: &mut [u8]) -> Result<usize, Refusal>
     requires { most ≤ most_bytes }
     ensures value { result ≡ read_answer (length out.old) (read_frame least most row.now) }
     ensures out_after { out.new ≡ bytes_after result (read_frame least most row.now) out.old }
 {
     if out.len() < limits::MOST_BYTES {
-        return Received::NotReceived(Refusal::Room);
+        return Err(Refusal::Room);
     }
     if !crate::is_whole(row.len(), least, most) {
-        return Received::NotReceived(Refusal::Length);
+        return Err(Refusal::Length);
     }
     if !rows::is_clean(row) {
-        return Received::NotReceived(Refusal::Collision);
+        return Err(Refusal::Collision);
     }
     let n = row.len() / 9;
     let mut held = [0u8; limits::MOST_BYTES];
     let p = sound_bytes(row, n, &mut held);
     if p < n {
-        return Received::NotReceived(Refusal::Parity(p as u8));
+        return Err(Refusal::Parity(p as u8));
     }
     rows::within::put(out, 0, &held[..n]);
-    Received::Bytes(n)
+    Ok(n)
 }
 
 // Hands on the first n of the held bytes without CRC_A, their last two; 4 where those are wrong.
-pub fn without_crc(held: &[u8], n: usize, out: &mut [u8]) -> Received
+pub fn without_crc(held: &[u8], n: usize, out: &mut [u8]) -> Result<usize, Refusal>
     requires { (2 ≤ n) × (n ≤ length held.now) × (n ≤ length out.old) }
     ensures value { result ≡ received (without_crc (take n held.now)) }
     ensures out_after { out.new ≡ bytes_after result (without_crc (take n held.now)) out.old }
 {
     if !crc::is_good(&held[..n]) {
-        return Received::NotReceived(Refusal::Crc);
+        return Err(Refusal::Crc);
     }
     let m = n - 2;
     rows::within::put(out, 0, &held[..m]);
-    Received::Bytes(m)
+    Ok(m)
 }
 
 // Reads a received row as a standard frame of 3 to most bytes that end with their CRC_A, tested 2, 8, 3, 4; before these 1. The bytes
 // are read into an array of its own, so that nothing is written into out before CRC_A is found right.
-pub fn read_crc_within(row: &[u8], most: usize, out: &mut [u8]) -> Received
+pub fn read_crc_within(row: &[u8], most: usize, out: &mut [u8]) -> Result<usize, Refusal>
     requires { most ≤ most_bytes }
     ensures value { result ≡ read_answer (length out.old) (read_crc 3 most row.now) }
     ensures out_after { out.new ≡ bytes_after result (read_crc 3 most row.now) out.old }
 {
     if out.len() < limits::MOST_BYTES {
-        return Received::NotReceived(Refusal::Room);
+        return Err(Refusal::Room);
     }
     let mut held = [0u8; limits::MOST_BYTES];
     let got = read_within(row, 3, most, &mut held);
     match got {
-        Received::NotReceived(e) => Received::NotReceived(e),
-        Received::Bytes(n) => without_crc(&held, n, out),
+        Err(e) => Err(e),
+        Ok(n) => without_crc(&held, n, out),
     }
 }

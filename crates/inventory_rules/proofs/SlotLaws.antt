@@ -1,5 +1,5 @@
 -- What is heard in a slot: nothing of no tag, its UID of one, and a collision of more, since two UIDs that differ collide in some bit. Assumes nothing.
-use Rattle.std.specs.Prelude.{◌≡◌, ◌≢◌, ℕ, ◌+◌, ◌/◌, ◌≤◌, ◌<◌, Bool, not, ◌&&◌, ◌||◌, take, drop, eqb}
+use Rattle.std.specs.Prelude.{◌≡◌, ◌≢◌, ℕ, ◌+◌, ◌/◌, ◌≤◌, ◌<◌, Bool, not, ◌&&◌, ◌||◌, take, drop, eqb, Ok}
 use Rattle.std.proofs.Math.Path.{refl, ap}
 use Rattle.std.proofs.Common.{sym, ◌∙◌, arith, true≢false, length-drop, drop-drop, drop_at}
 use Rattle.std.proofs.Math.Bool.{true, false, cond}
@@ -28,7 +28,6 @@ use Rattle.answer_v.specs.Heard.{nobody, fits, slot_in, read_slot}
 use Rattle.answer_v.specs.declared.SlotV.{SlotV}
 use Rattle.answer_v.specs.declared.Turn.{Turn}
 use Rattle.selection_b.specs.declared.Held.TheVariants.{One, More}
-use Rattle.selection_b.specs.declared.SlotSays.TheVariants.{Holds}
 use Rattle.sent_v.specs.declared.Round.{Round}
 use Rattle.request_v.specs.declared.Tag.{Tag}
 use Rattle.inventory_rules.specs.RunV.{Told}
@@ -112,7 +111,7 @@ module _ (k : Round) (deep : Bool) (s : ℕ) where
         let q : unbits (take 4 (drop (16 + k.len) (row t))) ≡ s = ap unbits slot_bits ∙ (unfold slot_of in part.1) in
         rw (le-leb k.len 64 (omega arith), uid_front, same_eq _ _ (sym (same_sound _ _ masked)), le-leb k.len 60 l, eq-eqb _ s q)
 
-    pub reads_one : ◌≡◌ {A = SlotV} (read_slot awaited (row t)) (record { says = Holds One; dsfid = t.dsfid; uid = t.uid })
+    pub reads_one : ◌≡◌ {A = SlotV} (read_slot awaited (row t)) (record { says = Ok One; dsfid = t.dsfid; uid = t.uid })
     unfolding read_slot slot_in
     reads_one =
         let n : length (row t) ≡ 96 = length_row t h in
@@ -127,10 +126,10 @@ module _ (k : Round) (deep : Bool) (s : ℕ) where
 
 -- what a slot held, as the reader reads it
 abbrev pub slot_v : Told → SlotV
-slot_v x = record { says = Holds x.held; dsfid = x.dsfid; uid = x.uid }
+slot_v x = record { says = Ok x.held; dsfid = x.dsfid; uid = x.uid }
 
 -- a row of an answer's length with a collided bit, where the mask can grow
-reads_more : (k : Round) (s : ℕ) (h : List ℕ) → length h ≡ 96 → clean h ≡ false → read_slot (awaited k false s) h ≡ nobody (Holds More)
+reads_more : (k : Round) (s : ℕ) (h : List ℕ) → length h ≡ 96 → clean h ≡ false → read_slot (awaited k false s) h ≡ nobody (Ok More)
 unfolding read_slot
 reads_more k s h n c = rw (not_nil h (omega arith), n, c)
 

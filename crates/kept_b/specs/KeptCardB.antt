@@ -2,15 +2,14 @@
 --     0 state, 1 the slot of Requested, 2 AFI, 3 whether it answers slot markers, 4 PUPI (four bytes), 8 application data (four),
 --     12 protocol information (three).
 -- Of the 64 bytes that a call asks for these are the first 15; no call looks at those behind them.
-use Rattle.std.specs.Prelude.{ℕ, Bool, true, false, cond, List, ◌∷◌, ◌++◌, ◌≡◌, length, get_or, eqb}
+use Rattle.std.specs.Prelude.{ℕ, Bool, true, false, cond, List, ◌∷◌, ◌++◌, ◌≡◌, length, get_or, eqb, Result, Ok, Err, Option, Some, None}
 use Rattle.rows.specs.Rows.{overlay}
 use Rattle.card_b.specs.declared.StateB.{StateB}
 use Rattle.card_b.specs.declared.StateB.TheVariants.{Off, Idle, Requested, Declared, Active, Halt}
 use Rattle.card_b.specs.declared.CardB.{CardB}
-use Rattle.card_b.specs.declared.AnswerB.{AnswerB}
-use Rattle.card_b.specs.declared.AnswerB.TheVariants.{Sends, Silent, NotTaken}
 use Rattle.card_b.specs.declared.TakenB.{TakenB}
 use Rattle.kept.specs.Kept.{bytes_at, flag, flag_of, refused}
+use Rattle.refusal.specs.declared.Refusal.{Refusal}
 
 abbrev pub state_tag : StateB → ℕ
 state_tag Off = 0
@@ -60,15 +59,15 @@ Fits c = (length c.pupi ≡ 4) × ((length c.application ≡ 4) × (length c.pro
 -- ---- what a call answers: so many bits to send, or minus the refusal's number; a call that is refused leaves the card what it was, and nothing
 -- is written
 
-abbrev pub taken_number : AnswerB → ℕ
-taken_number (Sends n) = n
-taken_number Silent = 0
-taken_number (NotTaken e) = refused e
+abbrev pub taken_number : Result (Option ℕ) Refusal → ℕ
+taken_number (Ok (Some n)) = n
+taken_number (Ok None) = 0
+taken_number (Err e) = refused e
 
-abbrev pub taken_refuses : AnswerB → Bool
-taken_refuses (Sends n) = false
-taken_refuses Silent = false
-taken_refuses (NotTaken e) = true
+abbrev pub taken_refuses : Result (Option ℕ) Refusal → Bool
+taken_refuses (Ok (Some n)) = false
+taken_refuses (Ok None) = false
+taken_refuses (Err e) = true
 
 unfoldable pub taken_left : List ℕ → TakenB → List ℕ
 taken_left b t = cond (taken_refuses t.answer) b (overlay b 0 (card_bytes t.card))

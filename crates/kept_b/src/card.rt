@@ -2,7 +2,8 @@
 ghost use Rattle.std.specs.Prelude.{◌≡◌};
 ghost use Rattle.kept_b.specs.KeptCardB.{state_tag, state_slot, state_in, card_bytes, card_in, Fits, taken_number, taken_refuses};
 
-use card_b::{AnswerB, CardB, StateB};
+use refusal::Refusal;
+use card_b::{CardB, StateB};
 
 // Which state a card is in, as a byte.
 pub fn state_tag(s: StateB) -> u8
@@ -90,22 +91,22 @@ pub fn card_of(b: &[u8]) -> CardB
 }
 
 // The number that a call gives: so many bits to send, or minus a refusal's number.
-pub fn taken_number(a: AnswerB) -> usize
+pub fn taken_number(a: Result<Option<usize>, Refusal>) -> usize
     ensures { result ≡ taken_number a }
 {
     match a {
-        AnswerB::Sends(n) => n,
-        AnswerB::Silent => 0,
-        AnswerB::NotTaken(e) => kept::refused(e),
+        Ok(Some(n)) => n,
+        Ok(None) => 0,
+        Err(e) => kept::refused(e),
     }
 }
 
-pub fn taken_refuses(a: AnswerB) -> bool
+pub fn taken_refuses(a: Result<Option<usize>, Refusal>) -> bool
     ensures { result ≡ taken_refuses a }
 {
     match a {
-        AnswerB::Sends(_) => false,
-        AnswerB::Silent => false,
-        AnswerB::NotTaken(_) => true,
+        Ok(Some(_)) => false,
+        Ok(None) => false,
+        Err(_) => true,
     }
 }

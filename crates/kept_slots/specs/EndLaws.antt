@@ -1,5 +1,5 @@
 -- How a request ends: a reader that declines has stopped; and what its last turn tells of a slot is what the list has of it. Assumes nothing.
-use Rattle.std.specs.Prelude.{◌≡◌, ◌⊎◌, Bool, true, false, cond, not, take, get_or, eqb, ltb}
+use Rattle.std.specs.Prelude.{◌≡◌, ◌⊎◌, Bool, true, false, cond, not, take, get_or, eqb, ltb, Result, Ok, Err}
 use Rattle.std.proofs.Math.Path.{refl, sym, ap}
 use Rattle.std.proofs.Common.{◌∙◌, inr, add-one, arith, length-append, length-take-le}
 use Rattle.std.proofs.Math.Logic.{inl}
@@ -16,8 +16,6 @@ use Rattle.selection_b.specs.HeardB.{nobody, alone, slot_of, read_slot, held_num
 use Rattle.refusal.specs.declared.Refusal.TheVariants.{Length, Crc, Forbidden}
 use Rattle.selection_b.specs.declared.Held.{Held}
 use Rattle.selection_b.specs.declared.Held.TheVariants.{None, More}
-use Rattle.selection_b.specs.declared.SlotSays.{SlotSays}
-use Rattle.selection_b.specs.declared.SlotSays.TheVariants.{Holds, NotSlot}
 use Rattle.reader_b.specs.ReaderB.{reader, blank, opens, held, slot_turn, hear_in, hear}
 use Rattle.reader_b.specs.declared.AnswerB.TheVariants.{Marks, Ends}
 use Rattle.reader_b.specs.declared.PhaseB.TheVariants.{Ready, Slot, Stopped}
@@ -31,6 +29,7 @@ use Rattle.kept.specs.KeptLaws.{bytes_behind, bytes_front}
 use Rattle.kept_b.specs.KeptReaderB.{answer_refuses}
 use Rattle.kept_slots.specs.KeptSlots.{last_atqb, inquired_turn}
 use Rattle.kept_slots.specs.SlotsLaws.{last_some}
+use Rattle.refusal.specs.declared.Refusal.{Refusal}
 
 -- ---- an ATQB has twelve bytes, and so have the zeros where there is none
 
@@ -44,7 +43,7 @@ slot_long l h = go (crc_good_b l)
     k : List ℕ
     k = take (length l - 2) l
 
-    first : (b : Bool) → Twelve (cond b (alone k) (nobody (NotSlot Forbidden))).atqb
+    first : (b : Bool) → Twelve (cond b (alone k) (nobody (Err Forbidden))).atqb
     first true = length-take-le (length l - 2) l (omega arith) ∙ omega arith
     first false = refl
 
@@ -56,7 +55,7 @@ atqb_long : (h : List ℕ) → Twelve (read_slot h).atqb
 unfolding read_slot
 atqb_long h = go (is_nil h) (not (eqb (length h) 112)) (not (clean h))
   where
-    go : (a b c : Bool) → Twelve (cond a (nobody (Holds None)) (cond b (nobody (NotSlot Length)) (cond c (nobody (Holds More)) (slot_of (without_crc_b (bytes_of 14 h)))))).atqb
+    go : (a b c : Bool) → Twelve (cond a (nobody (Ok None)) (cond b (nobody (Err Length)) (cond c (nobody (Ok More)) (slot_of (without_crc_b (bytes_of 14 h)))))).atqb
     go true b c = refl
     go false true c = refl
     go false false true = refl
@@ -87,10 +86,10 @@ tells_more t k o (inl (e, l)) = record { pre = []; is = k; slots_are = rw (e, l)
 tells_more t k o (inr x) = record { pre = (k, t.atqb) ∷ x.pre; is = x.is; slots_are = ap (λ r. (k, t.atqb) ∷ r) x.slots_are }
 
 -- what a slot's row says is followed by the next slot, or ends the run
-slot_finishes : (t : TurnB) (r : ReaderB) (s : SlotSays) (q : List ℕ) (ds : List Drawn) (o : TurnB → Out) → Twelve q
+slot_finishes : (t : TurnB) (r : ReaderB) (s : Result Held Refusal) (q : List ℕ) (ds : List Drawn) (o : TurnB → Out) → Twelve q
     → ((u : TurnB) → Asking u → Finishes u (o u)) → Finishes t (follow (slot_turn r s q).answer (slot_turn r s q) ds (o (slot_turn r s q)))
 unfolding held before ended
-slot_finishes t r (Holds k) q ds o w after = go (ltb r.slot r.slots)
+slot_finishes t r (Ok k) q ds o w after = go (ltb r.slot r.slots)
   where
     go : (b : Bool)
         → let u : TurnB = cond b (record { reader = reader Slot r.slots (r.slot + 1); answer = Marks k; atqb = q }) (record { reader = blank Ready; answer = Ends k; atqb = q }) in
@@ -100,7 +99,7 @@ slot_finishes t r (Holds k) q ds o w after = go (ltb r.slot r.slots)
         let f : Finishes u (o u) = after u (record { phase = refl; good = refl }) in
         record { stops = f.stops; tells = λ h. inr (tells_more u k (o u) (f.tells h)); long = (w, f.long) }
     go false = record { stops = λ h. absurd (false≢true h); tells = λ h. inr (record { pre = []; is = k; slots_are = refl }); long = (w, tt) }
-slot_finishes t r (NotSlot e) q ds o w after =
+slot_finishes t r (Err e) q ds o w after =
     record { stops = λ h. refl; tells = λ h. absurd (false≢true (sym h)); long = tt }
 
 slot_heard : (r : ReaderB) (h : List ℕ) → r.phase ≡ Slot → hear r h ≡ slot_turn r (read_slot h).says (read_slot h).atqb

@@ -1,15 +1,14 @@
 -- The whole card for C: the calls of crate card_link on the card that the lent bytes say, by `card_turn_left` and `kept_card_after` of crate kept_card.
-use Rattle.std.specs.Prelude.{ℕ, Bool, true, false, cond, List, [], length, eqb, ltb}
+use Rattle.std.specs.Prelude.{ℕ, Bool, true, false, cond, List, [], length, eqb, ltb, Result, Ok, Err}
+use Rattle.refusal.specs.declared.Refusal.{Refusal}
 use Rattle.refusal.specs.declared.Refusal.TheVariants.{Room}
 use Rattle.rows.specs.Rows.{overlay}
-use Rattle.uid.specs.declared.Made.{Made}
-use Rattle.uid.specs.declared.Made.TheVariants.{Good, NotMade}
 use Rattle.block.specs.declared.Told.TheVariants.{Quiet}
 use Rattle.block.specs.Out.{Out}
 use Rattle.card.specs.Calls.{new_card}
 use Rattle.card.specs.declared.Card.{Card}
 use Rattle.card_link.specs.declared.LinkCard.{LinkCard}
-use Rattle.card_link.specs.CardCalls.{no_link, declined, turn_of}
+use Rattle.card_link.specs.CardCalls.{without_link, declined, turn_of}
 use Rattle.kept.specs.Kept.{state_size, refused, told_number}
 use Rattle.kept_card.specs.KeptWhole.{card_turn_left}
 use Rattle.lacrivosum.specs.Library.{Done, done}
@@ -29,9 +28,9 @@ abbrev pub speaks : ℕ → Bool
 speaks b = cond (eqb b 0) false true
 
 -- a new card, without power and without a link, over the card x; where it is refused x stays
-abbrev pub new_by : LinkCard → Card → Made → Out LinkCard
-new_by x c Good = quiet (record { card = c; link = no_link })
-new_by x c (NotMade e) = declined x [] e
+abbrev pub new_by : LinkCard → Result LinkCard Refusal → Out LinkCard
+new_by x (Ok y) = quiet y
+new_by x (Err e) = declined x [] e
 
 unfoldable pub new_call : LinkCard → List ℕ → ℕ → ℕ → Out LinkCard
-new_call x uid blocks index = new_by x (new_card uid (speaks blocks) index).card (new_card uid (speaks blocks) index).made
+new_call x uid blocks index = new_by x (without_link (new_card uid (speaks blocks) index))

@@ -1,13 +1,11 @@
 -- A card's call on a state that is too short, and on one that is not. Assumes nothing.
-use Rattle.std.specs.Prelude.{◌≡◌, refl, Bool, true, false, cond, List, [], ℕ, ◌<◌, ◌≤◌, length, ltb}
+use Rattle.std.specs.Prelude.{◌≡◌, refl, Bool, true, false, cond, List, [], ℕ, ◌<◌, ◌≤◌, length, ltb, Result, Ok, Err}
 use Rattle.std.proofs.Common.{sym, ap, ◌∙◌, lt-ltb, le-ltb}
 use Rattle.std.proofs.lemmas.Bool.{false≢true}
 use Rattle.refusal.specs.declared.Refusal.{Refusal}
 use Rattle.refusal.specs.declared.Refusal.TheVariants.{Room}
 use Rattle.rows.specs.Rows.{overlay}
 use Rattle.rows.proofs.RowLaws.{overlay_nil}
-use Rattle.uid.specs.declared.Made.{Made}
-use Rattle.uid.specs.declared.Made.TheVariants.{Good, NotMade}
 use Rattle.block.specs.declared.Told.TheVariants.{Refused}
 use Rattle.block.specs.Out.{Out}
 use Rattle.card.specs.Calls.{new_card}
@@ -15,7 +13,7 @@ use Rattle.card.specs.declared.Card.{Card}
 use Rattle.card_blocks.specs.declared.CardLink.{CardLink}
 use Rattle.card_link.specs.declared.LinkCard.{LinkCard}
 use Rattle.card_link.specs.declared.CardTurn.{CardTurn}
-use Rattle.card_link.specs.CardCalls.{no_link, turn_of}
+use Rattle.card_link.specs.CardCalls.{without_link, turn_of}
 use Rattle.kept.specs.Kept.{state_size, refused, told_number, told_refuses}
 use Rattle.kept_card.specs.KeptWhole.{link_card_of, card_turn_left, kept_card_in, kept_card_after}
 use Rattle.kept_card.specs.RefusedLaws.{Declines}
@@ -70,43 +68,28 @@ card_refused s o b x t d h =
 pub quiet_declines : (x y : LinkCard) → Declines x [] (quiet y)
 quiet_declines x y = λ h. absurd (false≢true h)
 
-by_declines : (x : LinkCard) (c : Card) (m : Made) → Declines x [] (new_by x c m)
-by_declines x c Good = λ h. absurd (false≢true h)
-by_declines x c (NotMade e) = λ h. refl
+by_declines : (x : LinkCard) (m : Result LinkCard Refusal) → Declines x [] (new_by x m)
+by_declines x (Ok y) = λ h. absurd (false≢true h)
+by_declines x (Err e) = λ h. refl
 
 pub new_declines : (x : LinkCard) (uid : List ℕ) (blocks index : ℕ) → Declines x [] (new_call x uid blocks index)
 unfolding new_call
-new_declines x uid blocks index = by_declines x _ (new_card uid (speaks blocks) index).made
+new_declines x uid blocks index = by_declines x (without_link (new_card uid (speaks blocks) index))
 
-by_sent : (x : LinkCard) (c : Card) (m : Made) → (new_by x c m).sent ≡ []
-by_sent x c Good = refl
-by_sent x c (NotMade e) = refl
+by_sent : (x : LinkCard) (m : Result LinkCard Refusal) → (new_by x m).sent ≡ []
+by_sent x (Ok y) = refl
+by_sent x (Err e) = refl
 
 pub new_sent : (x : LinkCard) (uid : List ℕ) (blocks index : ℕ) → (new_call x uid blocks index).sent ≡ []
 unfolding new_call
-new_sent x uid blocks index = by_sent x _ (new_card uid (speaks blocks) index).made
+new_sent x uid blocks index = by_sent x (without_link (new_card uid (speaks blocks) index))
 
 pub nothing_put : (t : Out LinkCard) → t.sent ≡ [] → [] ≡ overlay [] 0 t.sent
 nothing_put t e = rw e (sym (overlay_nil [] 0))
 
 -- ---- a new card
 
-paired : (y : LinkCard) (c : Card) (l : CardLink) → c ≡ y.card → l ≡ y.link → record { card = c; link = l } ≡ y
-paired y c l e f = rw (e, f)
-
-pub new_made : (x : LinkCard) (uid : List ℕ) (blocks index : ℕ) (b : Bool) (y : LinkCard) (m : Made) (t : CardTurn) → b ≡ speaks blocks
-    → y.card ≡ (new_card uid b index).card → y.link ≡ no_link → m ≡ (new_card uid b index).made → m ≡ Good → t ≡ turn_of (quiet y)
-    → t ≡ turn_of (new_call x uid blocks index)
+pub new_turn : (x : LinkCard) (uid : List ℕ) (blocks index : ℕ) (b : Bool) (m : Result LinkCard Refusal) (t : CardTurn) → b ≡ speaks blocks
+    → m ≡ without_link (new_card uid b index) → t ≡ turn_of (new_by x m) → t ≡ turn_of (new_call x uid blocks index)
 unfolding new_call
-new_made x uid blocks index b y m t e c l n g w =
-    let p : y ≡ record { card = (new_card uid b index).card; link = no_link } = sym (paired y _ _ (sym c) (sym l)) in
-    let k : (new_card uid b index).made ≡ Good = sym n ∙ g in
-    rw (← e, k) (w ∙ ap (λ (z : LinkCard). turn_of (quiet z)) p)
-
-pub new_refused : (x : LinkCard) (uid : List ℕ) (blocks index : ℕ) (b : Bool) (m : Made) (r : Refusal) → b ≡ speaks blocks
-    → m ≡ (new_card uid b index).made → m ≡ NotMade r
-    → record { card = x; bits = 0; told = Refused r } ≡ turn_of (new_call x uid blocks index)
-unfolding new_call
-new_refused x uid blocks index b m r e n g =
-    let k : (new_card uid b index).made ≡ NotMade r = sym n ∙ g in
-    rw (← e, k)
+new_turn x uid blocks index b m t e n w = w ∙ ap (λ q. turn_of (new_by x q)) (n ∙ ap (λ q. without_link (new_card uid q index)) e)

@@ -1,14 +1,10 @@
 -- What a call of crate frame leaves, by what its answer says. Assumes nothing.
-use Rattle.std.specs.Prelude.{◌≡◌, refl, false, List, ℕ, eqb}
+use Rattle.std.specs.Prelude.{◌≡◌, refl, false, List, ℕ, eqb, Result, Ok, Err}
 use Rattle.std.proofs.Common.{sym, ap, ◌∙◌, arith, ne_eqb}
-use Rattle.refusal.specs.Refusal.{Said, number_of, place_of, refusal_says}
+use Rattle.refusal.specs.Refusal.{Said, number_of, place_of, refusal_says, number_says}
 use Rattle.refusal.specs.declared.Refusal.{Refusal}
-use Rattle.frame.specs.Calls.{written_says, row_after, received_says, good_bytes, bytes_after}
+use Rattle.frame.specs.Calls.{row_after, good_bytes, bytes_after}
 use Rattle.frame.specs.Frame.{Verdict}
-use Rattle.frame.specs.declared.Written.{Written}
-use Rattle.frame.specs.declared.Written.TheVariants.{Bits, NotWritten}
-use Rattle.frame.specs.declared.Received.{Received}
-use Rattle.frame.specs.declared.Received.TheVariants.{Bytes, NotReceived}
 use Rattle.kept.specs.Kept.{refused}
 use Rattle.kept.specs.KeptLaws.{number_some}
 use Rattle.lacrivosum.specs.SaysLaws.{refused_coded}
@@ -21,20 +17,20 @@ refused_said s e n h k = rw (h, k) (refused_coded e (place_of e))
 some_refusal : (e : Refusal) → eqb (number_of e) 0 ≡ false
 some_refusal e = let h = number_some e in ne_eqb (number_of e) 0 (λ z. absurd (omega arith))
 
-row_after_law : (w : Written) (frame out : List ℕ) → row_after w frame out ≡ said_left (written_says w) frame out
-row_after_law (Bits n) frame out = refl
-row_after_law (NotWritten e) frame out = rw (some_refusal e)
+row_after_law : (w : Result ℕ Refusal) (frame out : List ℕ) → row_after w frame out ≡ said_left (number_says w) frame out
+row_after_law (Ok n) frame out = refl
+row_after_law (Err e) frame out = rw (some_refusal e)
 
-bytes_after_law : (r : Received) (v : Verdict) (out : List ℕ) → bytes_after r v out ≡ said_left (received_says r) (good_bytes v) out
-bytes_after_law (Bytes n) v out = refl
-bytes_after_law (NotReceived e) v out = rw (some_refusal e)
+bytes_after_law : (r : Result ℕ Refusal) (v : Verdict) (out : List ℕ) → bytes_after r v out ≡ said_left (number_says r) (good_bytes v) out
+bytes_after_law (Ok n) v out = refl
+bytes_after_law (Err e) v out = rw (some_refusal e)
 
 -- a frame written: the number n for C, and the row o that is left
-pub written_said : (w : Written) (s : Said) (frame out o : List ℕ) (n : ℕ) → written_says w ≡ s → o ≡ row_after w frame out
-    → n ≡ said_number (written_says w) → (n ≡ said_number s) × (o ≡ said_left s frame out)
+pub written_said : (w : Result ℕ Refusal) (s : Said) (frame out o : List ℕ) (n : ℕ) → number_says w ≡ s → o ≡ row_after w frame out
+    → n ≡ said_number (number_says w) → (n ≡ said_number s) × (o ≡ said_left s frame out)
 written_said w s frame out o n e h k = (k ∙ ap said_number e, h ∙ row_after_law w frame out ∙ ap (λ (t : Said). said_left t frame out) e)
 
 -- a frame read
-pub received_said : (r : Received) (s : Said) (v : Verdict) (out o : List ℕ) (n : ℕ) → received_says r ≡ s → o ≡ bytes_after r v out
-    → n ≡ said_number (received_says r) → (n ≡ said_number s) × (o ≡ said_left s (good_bytes v) out)
+pub received_said : (r : Result ℕ Refusal) (s : Said) (v : Verdict) (out o : List ℕ) (n : ℕ) → number_says r ≡ s → o ≡ bytes_after r v out
+    → n ≡ said_number (number_says r) → (n ≡ said_number s) × (o ≡ said_left s (good_bytes v) out)
 received_said r s v out o n e h k = (k ∙ ap said_number e, h ∙ bytes_after_law r v out ∙ ap (λ (t : Said). said_left t (good_bytes v) out) e)

@@ -1,6 +1,6 @@
 -- Type B for C: the calls of crates reader_b and card_b on the reader and the card that the lent bytes say, by `turn_left`, `kept_after` and
 -- `taken_left` of crate kept_b.
-use Rattle.std.specs.Prelude.{ℕ, Bool, cond, ◌&&◌, List, length, eqb, ltb}
+use Rattle.std.specs.Prelude.{ℕ, Bool, cond, ◌&&◌, List, length, eqb, ltb, Ok, Err, None}
 use Rattle.refusal.specs.declared.Refusal.TheVariants.{Room, Argument}
 use Rattle.rows.specs.Rows.{overlay}
 use Rattle.reader_b.specs.ReaderB.{is_ready, awaits, turn, requests, attaches, halts, hear, call_with, row_after}
@@ -9,7 +9,6 @@ use Rattle.reader_b.specs.declared.AnswerB.TheVariants.{Declines}
 use Rattle.reader_b.specs.declared.TurnB.{TurnB}
 use Rattle.card_b.specs.declared.CardB.{CardB}
 use Rattle.card_b.specs.declared.StateB.TheVariants.{Off}
-use Rattle.card_b.specs.declared.AnswerB.TheVariants.{Silent, NotTaken}
 use Rattle.card_b.specs.declared.TakenB.{TakenB}
 use Rattle.kept.specs.Kept.{state_size, refused}
 use Rattle.kept_b.specs.KeptReaderB.{answer_number, turn_left, atqb_in}
@@ -63,10 +62,10 @@ card_bdone s o t w =
 
 -- a call that sends nothing
 abbrev pub silent : CardB → TakenB
-silent c = record { card = c; answer = Silent }
+silent c = record { card = c; answer = (Ok None) }
 
 abbrev pub unmade : CardB → TakenB
-unmade x = record { card = x; answer = NotTaken Argument }
+unmade x = record { card = x; answer = Err Argument }
 
 abbrev pub fitting : List ℕ → List ℕ → List ℕ → Bool
 fitting pupi application protocol = eqb (length pupi) 4 && (eqb (length application) 4 && eqb (length protocol) 3)

@@ -1,5 +1,5 @@
 -- A Type B call on a state that is too short, and on one that is not. Assumes nothing.
-use Rattle.std.specs.Prelude.{◌≡◌, refl, Bool, true, false, cond, not, ◌&&◌, List, [], ◌∷◌, ℕ, ◌<◌, ◌≤◌, length, ltb}
+use Rattle.std.specs.Prelude.{◌≡◌, refl, Bool, true, false, cond, not, ◌&&◌, List, [], ◌∷◌, ℕ, ◌<◌, ◌≤◌, length, ltb, Err}
 use Rattle.std.proofs.Common.{sym, ap, ◌∙◌, lt-ltb, le-ltb, eq-eqb, ne_eqb}
 use Rattle.std.proofs.lemmas.Bool.{false≢true}
 use Rattle.refusal.specs.declared.Refusal.TheVariants.{Room, Argument, NotDue}
@@ -16,7 +16,6 @@ use Rattle.card_b.specs.CardB.{drawn, rules}
 use Rattle.card_b.specs.CallsB.{answer_of, taken, take_call}
 use Rattle.card_b.specs.declared.CardB.{CardB}
 use Rattle.card_b.specs.declared.StateB.TheVariants.{Off}
-use Rattle.card_b.specs.declared.AnswerB.TheVariants.{NotTaken}
 use Rattle.card_b.specs.declared.TakenB.{TakenB}
 use Rattle.kept.specs.Kept.{refused, bytes_at}
 use Rattle.kept.specs.KeptLaws.{bytes_whole}
@@ -183,8 +182,8 @@ take_declined x number row room = go (ltb room answer_room_b) (is_request row &&
   where
     go : (a b : Bool)
         → Declined x
-        (cond a (record { card = x; answer = NotTaken Room })
-        (cond b (record { card = x; answer = NotTaken Argument }) (taken x (rules x x.state number row))))
+        (cond a (record { card = x; answer = Err Room })
+        (cond b (record { card = x; answer = Err Argument }) (taken x (rules x x.state number row))))
     go true b = λ h. refl
     go false true = λ h. refl
     go false false = λ h. absurd (false≢true (sym (never (rules x x.state number row).1) ∙ h))

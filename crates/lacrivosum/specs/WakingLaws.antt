@@ -6,7 +6,7 @@ use Rattle.std.proofs.Math.Bool.{true, false, false≢true}
 use borrow.Author.Tests.{lt-ltb, le-ltb}
 use Rattle.rows.specs.ListLaws.{both}
 use Rattle.refusal.specs.declared.Refusal.TheVariants.{Room}
-use Rattle.uid.specs.Calls.{new_uid}
+use Rattle.uid.specs.Calls.{new_uid, uid_of}
 use Rattle.uid.specs.declared.Uid.{Uid}
 use Rattle.card.specs.declared.Card.{Card}
 use Rattle.reader.specs.Reader.{is_new, blank}
@@ -58,7 +58,7 @@ module _ (state uid cards : List ℕ) (n : ℕ) (s : Woken) (number : ℕ) (stat
   after = wake_done number state₁ cards₁
 
   abbrev U : Uid
-  U = (new_uid uid).uid
+  U = (uid_of uid)
 
   made : s ≡ wake_call state uid cards n → wake_left state cards n (wake_call state uid cards n) ≡ after
   unfolding wake_left

@@ -11,7 +11,6 @@ ghost use Rattle.lacrivosum.specs.CardLibrary.{card_done, speaks, new_call, quie
 use block::Told;
 use card_link::{CardTurn, LinkCard};
 use refusal::Refusal;
-use uid::Made;
 
 // A number as C has it for true and false: 0 is false, any other true.
 pub fn speaks(blocks: u8) -> bool
@@ -26,12 +25,9 @@ pub fn speaks(blocks: u8) -> bool
 fn new_turn(x: LinkCard, uid: &[u8], blocks: u8, index: u8) -> CardTurn
     ensures { result ≡ turn_of (new_call x uid.now blocks index) }
 {
-    let new = card_link::whole::new_card(uid, speaks(blocks), index);
-    let card = new.card;
-    let made = new.made;
-    match made {
-        Made::Good => quiet(card),
-        Made::NotMade(e) => CardTurn {
+    match card_link::whole::new_card(uid, speaks(blocks), index) {
+        Ok(card) => quiet(card),
+        Err(e) => CardTurn {
             card: x,
             bits: 0,
             told: Told::Refused(e),

@@ -4,38 +4,40 @@ ghost use Rattle.limits.specs.Limits.{most_bytes};
 ghost use Rattle.crc.specs.Crc.{with_crc};
 ghost use Rattle.crc.specs.CrcOf.{crc_b};
 ghost use Rattle.frame.specs.Frame.{short, standard, first_wrong, read_frame, read_crc};
-ghost use Rattle.frame.specs.Calls.{written_says, write_says, write_short_says, received_says, read_says, good_bytes, short_says, read_short};
+ghost use Rattle.frame.specs.Calls.{write_says, write_short_says, read_says, good_bytes, read_short};
 ghost use Rattle.lacrivosum.specs.Frames.{said_number, said_left};
+ghost use Rattle.refusal.specs.Refusal.{number_says};
 
-use frame::{Received, ReceivedShort, Written};
+use refusal::Refusal;
+
 
 // The bits written, or minus the refusal's number.
-fn written_number(w: Written) -> usize
-    ensures { result ≡ said_number (written_says w) }
+fn written_number(w: Result<usize, Refusal>) -> usize
+    ensures { result ≡ said_number (number_says w) }
 {
     match w {
-        Written::Bits(n) => n,
-        Written::NotWritten(e) => kept::refused(e),
+        Ok(n) => n,
+        Err(e) => kept::refused(e),
     }
 }
 
 // The bytes read, or minus the refusal's number.
-fn received_number(r: Received) -> usize
-    ensures { result ≡ said_number (received_says r) }
+fn received_number(r: Result<usize, Refusal>) -> usize
+    ensures { result ≡ said_number (number_says r) }
 {
     match r {
-        Received::Bytes(n) => n,
-        Received::NotReceived(e) => kept::refused(e),
+        Ok(n) => n,
+        Err(e) => kept::refused(e),
     }
 }
 
 // The byte of a short frame, or minus the refusal's number.
-fn short_number(r: ReceivedShort) -> usize
-    ensures { result ≡ said_number (short_says r) }
+fn short_number(r: Result<u8, Refusal>) -> usize
+    ensures { result ≡ said_number (number_says r) }
 {
     match r {
-        ReceivedShort::Byte(b) => b as usize,
-        ReceivedShort::NotShort(e) => kept::refused(e),
+        Ok(b) => b as usize,
+        Err(e) => kept::refused(e),
     }
 }
 

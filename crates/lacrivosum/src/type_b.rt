@@ -13,7 +13,7 @@ ghost use Rattle.lacrivosum.specs.Library.{done};
 ghost use Rattle.lacrivosum.specs.CardLibrary.{speaks};
 ghost use Rattle.lacrivosum.specs.LibraryB.{reader_bdone, unfit, due, request_call, halt_call, attach_call, hear_call, atqb_done, card_bdone, silent, unmade, new_call};
 
-use card_b::{AnswerB, CardB, StateB, TakenB};
+use card_b::{CardB, StateB, TakenB};
 use reader_b::{ReaderB, TurnB};
 use refusal::Refusal;
 
@@ -150,7 +150,7 @@ fn silent(c: CardB) -> TakenB
 {
     TakenB {
         card: c,
-        answer: AnswerB::Silent,
+        answer: Ok(None),
     }
 }
 
@@ -160,7 +160,7 @@ fn unmade(x: CardB) -> TakenB
 {
     TakenB {
         card: x,
-        answer: AnswerB::NotTaken(Refusal::Argument),
+        answer: Err(Refusal::Argument),
     }
 }
 

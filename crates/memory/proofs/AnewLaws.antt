@@ -1,6 +1,6 @@
 -- Document 02, T-14: "an answer with nothing kept starts anew". Where the path has nothing of the level that comes next the turn is the plain
 -- reader's. Assumes nothing.
-use Rattle.std.specs.Prelude.{◌≡◌, ℕ, suc, ◌*◌, ◌≤◌, Bool, ◌&&◌, length, take, drop, get_or}
+use Rattle.std.specs.Prelude.{◌≡◌, ℕ, suc, ◌*◌, ◌≤◌, Bool, ◌&&◌, length, take, drop, get_or, Result, Ok, Err}
 use Rattle.std.proofs.Math.Path.{refl, ap}
 use Rattle.std.proofs.Common.{◌∙◌, arith, length-drop, length-take}
 use Rattle.std.proofs.Math.Bool.{true, false, cond}
@@ -16,10 +16,6 @@ use Rattle.reader.specs.Reader.{uid, turn, blank, stop, sends, finds, opens, com
 use Rattle.reader.specs.StepLaws.{hear_at}
 use Rattle.memory.specs.EnterLaws.{length_bits}
 use Rattle.memory.specs.Memory.{bits, branch, known, enters, enters_by, higher, comes, hear_in, hear}
-use Rattle.selection.specs.declared.AtqaRead.{AtqaRead}
-use Rattle.selection.specs.declared.AtqaRead.TheVariants.{Atqa, NotAtqa}
-use Rattle.selection.specs.declared.SakRead.{SakRead}
-use Rattle.selection.specs.declared.SakRead.TheVariants.{Sak, NotSak}
 use Rattle.uid.specs.declared.Level.{Level}
 use Rattle.uid.specs.declared.Level.TheVariants.{One, Two, Three}
 use Rattle.uid.specs.declared.Uid.{Uid}
@@ -28,6 +24,7 @@ use Rattle.refusal.specs.declared.Refusal.TheVariants.{Forbidden}
 use Rattle.reader.specs.declared.Phase.TheVariants.{ReqaSent, SelectSent, Finished}
 use Rattle.reader.specs.declared.Reader.{Reader}
 use Rattle.reader.specs.declared.Answer.TheVariants.{Finishes}
+use Rattle.refusal.specs.declared.Refusal.{Refusal}
 
 known_none : (l : Level) (w : List ℕ) → length w ≤ 40 * place l → known l w ≡ []
 unfolding known
@@ -43,11 +40,11 @@ module _ (r : Reader) (w h : List ℕ) where
   unfolding hear comes Plain.hear hear_atqa
   starts_anew e k = rw (e, k) (go (is_nil h && r.sweeps) (read_atqa h))
     where
-      go : (b : Bool) (a : AtqaRead) → enters_by (cond b (turn (blank Finished false) Finishes) (after_atqa r.sweeps a)).answer One (cond b (turn (blank Finished false) Finishes) (after_atqa r.sweeps a)) []
+      go : (b : Bool) (a : Result Unit Refusal) → enters_by (cond b (turn (blank Finished false) Finishes) (after_atqa r.sweeps a)).answer One (cond b (turn (blank Finished false) Finishes) (after_atqa r.sweeps a)) []
           ≡ cond b (turn (blank Finished false) Finishes) (after_atqa r.sweeps a)
       go true a = refl
-      go false Atqa = opens_anew One [] r.sweeps (uid Single []) (known_none One [] (omega arith))
-      go false (NotAtqa e) = refl
+      go false (Ok tt) = opens_anew One [] r.sweeps (uid Single []) (known_none One [] (omega arith))
+      go false (Err e) = refl
 
   pub goes_on_anew : (l : Level) → r.phase ≡ SelectSent l → length w ≤ 40 * suc (place l) → (hear r w h).turn ≡ Plain.hear r h
   unfolding hear comes hear_sak
@@ -72,6 +69,6 @@ module _ (r : Reader) (w h : List ℕ) where
       fits true b = refl
       fits false b = after l b (b3 b) refl k
 
-      go : (a : SakRead) → enters_by (sak_heard l r a).answer (higher l) (sak_heard l r a) w ≡ sak_heard l r a
-      go (Sak b) = fits (contradicts l (b3 b) (get_or r.five 0 0)) b
-      go (NotSak e) = refl
+      go : (a : Result ℕ Refusal) → enters_by (sak_heard l r a).answer (higher l) (sak_heard l r a) w ≡ sak_heard l r a
+      go (Ok b) = fits (contradicts l (b3 b) (get_or r.five 0 0)) b
+      go (Err e) = refl

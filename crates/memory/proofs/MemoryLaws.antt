@@ -1,5 +1,5 @@
 -- The reader of a sweep that remembers, by the row that it has found so far: what it does with each good answer. Assumes nothing.
-use Rattle.std.specs.Prelude.{◌≡◌, refl, ℕ, zero, suc, ◌+◌, ◌*◌, ◌≤◌, ◌<◌, Bool, true, false, cond, List, [], ◌++◌, length, take, drop, get_or}
+use Rattle.std.specs.Prelude.{◌≡◌, refl, ℕ, zero, suc, ◌+◌, ◌*◌, ◌≤◌, ◌<◌, Bool, true, false, cond, List, [], ◌++◌, length, take, drop, get_or, Ok}
 use Rattle.std.proofs.Common.{ap, drop_at, arith}
 use Rattle.std.proofs.Math.Seq.{take_at, take_all}
 use borrow.Author.Tests.{lt-ltb, le-ltb}
@@ -14,7 +14,6 @@ use Rattle.reader.specs.Reader as Plain
 use Rattle.reader.specs.Reader.{blank, turn, sends, finds, hear_atqa, contradicts}
 use Rattle.reader.specs.ReaderLaws.{lvl, place_lvl, knows, closing, asking, opened, selecting, closed, hears_atqa, hears_whole, hears_collided, hears_more, hears_last, hears_silence}
 use Rattle.memory.specs.Memory.{recall, bits, branch, known, keeping, learnt, enters, higher, comes, stays, hear}
-use Rattle.selection.specs.declared.AtqaRead.TheVariants.{Atqa}
 use Rattle.selection.specs.declared.RestSays.TheVariants.{Whole, Collided}
 use Rattle.reader.specs.declared.Phase.TheVariants.{ReqaSent, AnticollisionSent, SelectSent, Finished}
 use Rattle.reader.specs.declared.Answer.TheVariants.{Finishes}
@@ -43,7 +42,7 @@ module _ (j : ℕ) (P w : List ℕ) (hj : j < 3) (h_p : length P ≡ 40 * j) whe
 
 -- ---- what it hears
 
-pub recalls_atqa : (w h : List ℕ) → is_nil h ≡ false → read_atqa h ≡ Atqa → hear (blank ReqaSent true) w h ≡ recall (entering 0 [] (branch w)) (branch w)
+pub recalls_atqa : (w h : List ℕ) → is_nil h ≡ false → read_atqa h ≡ (Ok tt) → hear (blank ReqaSent true) w h ≡ recall (entering 0 [] (branch w)) (branch w)
 unfolding hear comes opened sends entering lvl
 recalls_atqa w h n e = rw (hears_atqa h n e)
 

@@ -1,6 +1,6 @@
 -- Document 02, T-14: a level that is sent straight begins with 88, whatever the reader heard since its sweep began, and so a SAK with b3 clear is 9
 -- there. Assumes nothing.
-use Rattle.std.specs.Prelude.{◌≡◌, ℕ, zero, suc, ◌+◌, ◌-◌, ◌*◌, ◌≤◌, ◌<◌, Bool, cond, ◌&&◌, take, eqb, ltb}
+use Rattle.std.specs.Prelude.{◌≡◌, ℕ, zero, suc, ◌+◌, ◌-◌, ◌*◌, ◌≤◌, ◌<◌, Bool, cond, ◌&&◌, take, eqb, ltb, Result, Ok, Err}
 use Rattle.std.proofs.Math.Path.{refl, sym, ap, ap₂}
 use Rattle.std.proofs.Common.{◌∙◌, subst, not-suc-le-zero, arith, true≢false, length-drop, take-take, take_at}
 use Rattle.std.proofs.Math.Bool.{true, false, not}
@@ -22,13 +22,9 @@ use Rattle.memory.specs.LevelReadLaws.{is_good, Grown, grown}
 use Rattle.memory.proofs.MemoryLaws.{learns}
 use Rattle.memory.specs.Memory.{Recall, recall, bits, branch, known, marked, learnt, enters, higher, comes, stays, hear_in, hear}
 use Rattle.memory.proofs.RefusalLaws.{straight_ends}
-use Rattle.selection.specs.declared.AtqaRead.{AtqaRead}
-use Rattle.selection.specs.declared.AtqaRead.TheVariants.{Atqa, NotAtqa}
 use Rattle.selection.specs.declared.Rest.{Rest}
 use Rattle.selection.specs.declared.RestSays.{RestSays}
 use Rattle.selection.specs.declared.RestSays.TheVariants.{Whole, Collided, NotRest}
-use Rattle.selection.specs.declared.SakRead.{SakRead}
-use Rattle.selection.specs.declared.SakRead.TheVariants.{Sak, NotSak}
 use Rattle.uid.specs.declared.Level.{Level}
 use Rattle.uid.specs.declared.Level.TheVariants.{One, Two, Three}
 use Rattle.uid.specs.declared.Uid.{Uid}
@@ -38,6 +34,7 @@ use Rattle.reader.specs.declared.Phase.TheVariants.{New, ReqaSent, Anticollision
 use Rattle.reader.specs.declared.Reader.{Reader}
 use Rattle.reader.specs.declared.Answer.TheVariants.{Finishes}
 use Rattle.reader.specs.declared.Turn.{Turn}
+use Rattle.refusal.specs.declared.Refusal.{Refusal}
 
 -- ---- the first byte of a level of the path
 
@@ -154,11 +151,11 @@ good_branch w g = record {
     least [] k h = omega arith
     least (x ∷ v) k h = omega (arith, k (omega arith))
 
-atqa_step : (b : Bool) (a : AtqaRead) (s : Bool) (v : List ℕ) → Good v → After (comes One (cond b (turn (blank Finished false) Finishes) (after_atqa s a)) v)
+atqa_step : (b : Bool) (a : Result Unit Refusal) (s : Bool) (v : List ℕ) → Good v → After (comes One (cond b (turn (blank Finished false) Finishes) (after_atqa s a)) v)
 unfolding comes opens sends
 atqa_step true a s v g = tt
-atqa_step false Atqa s v g = enters_holds One _ v g (λ j h. absurd (not-suc-le-zero h)) (omega arith)
-atqa_step false (NotAtqa e) s v g = tt
+atqa_step false (Ok tt) s v g = enters_holds One _ v g (λ j h. absurd (not-suc-le-zero h)) (omega arith)
+atqa_step false (Err e) s v g = tt
 
 -- ---- after ANTICOLLISION: the path grows
 
@@ -265,13 +262,13 @@ module _ (l : Level) (r : Reader) (w : List ℕ) (p : Picks l r w) where
       not_not false e = absurd (true≢false e)
   fits_step b false c = last_step b
 
-  sak_step : (a : SakRead) → After (comes (higher l) (sak_heard l r a) w)
-  sak_step (Sak b) = go (contradicts l (b3 b) (get_or r.five 0 0)) refl
+  sak_step : (a : Result ℕ Refusal) → After (comes (higher l) (sak_heard l r a) w)
+  sak_step (Ok b) = go (contradicts l (b3 b) (get_or r.five 0 0)) refl
     where
       go : (c : Bool) → contradicts l (b3 b) (get_or r.five 0 0) ≡ c → After (comes (higher l) (cond c (stop Forbidden) (after_sak l r b (b3 b))) w)
       go true e = unfold comes in tt
       go false e = fits_step b (b3 b) e
-  sak_step (NotSak e) = unfold comes in tt
+  sak_step (Err e) = unfold comes in tt
 
 -- ---- every row
 
@@ -328,7 +325,7 @@ all_hold (h ∷ hs) m a = all_hold hs (hear m.turn.reader m.path h) (step_holds 
 
 -- the sweep has begun, the rows hs were heard, and SELECT of level l is out though the path goes on behind that level: a good SAK with b3 clear is 9
 pub straight_nine : (hs : List (List ℕ)) (m : Recall) → m ≡ heard_all hs (recall (begin true) []) → (l : Level) → m.turn.reader.phase ≡ SelectSent l → 40 * suc (place l) < length m.path
-    → (h : List ℕ) (b : ℕ) → read_sak h ≡ Sak b → b3 b ≡ false → hear m.turn.reader m.path h ≡ recall (stop Forbidden) []
+    → (h : List ℕ) (b : ℕ) → read_sak h ≡ Ok b → b3 b ≡ false → hear m.turn.reader m.path h ≡ recall (stop Forbidden) []
 unfolding sends
 straight_nine hs m em l e k h b s clear =
     let a : After m = rw em (all_hold hs (recall (begin true) []) (record { tags = λ j z. absurd (not-suc-le-zero z); short = omega arith })) in

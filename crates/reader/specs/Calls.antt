@@ -1,12 +1,11 @@
 -- The reader's calls with lent room for its next frame: 11 is tested first, then 1, and both leave all unchanged.
-use Rattle.std.specs.Prelude.{◌≡◌, ℕ, Bool, true, false, cond, not, List, [], ◌∷◌, length, ltb}
+use Rattle.std.specs.Prelude.{◌≡◌, ℕ, Bool, true, false, cond, not, List, [], ◌∷◌, length, ltb, Result, Ok, Err}
 use Rattle.limits.specs.Limits.{frame_room}
 use Rattle.rows.specs.Rows.{overlay}
 use Rattle.uid.specs.Uid.{uid_bytes, valid}
-use Rattle.uid.specs.Calls.{new_uid, valid_bytes}
-use Rattle.uid.specs.declared.NewUid.{NewUid}
-use Rattle.uid.specs.declared.Made.{Made}
-use Rattle.uid.specs.declared.Made.TheVariants.{Good, NotMade}
+use Rattle.refusal.specs.declared.Refusal.{Refusal}
+use Rattle.uid.specs.declared.Uid.{Uid}
+use Rattle.uid.specs.Calls.{uid_of, new_uid, valid_bytes}
 use Rattle.refusal.specs.Refusal.{Said, giving, refusal_says, decline_if}
 use Rattle.refusal.specs.declared.Refusal.TheVariants.{Room, Argument, NotDue}
 use Rattle.reader.specs.declared.Phase.{Phase}
@@ -43,12 +42,12 @@ unfoldable pub begin_call : Bool → Reader → ℕ → Turn
 begin_call s r room = call (is_new r.phase) r (begin s) room
 
 -- T-03: "(invalid: 6)", after 11 and 1: the bytes are not those of a valid UID
-abbrev pub wake_made : Reader → NewUid → Made → Turn
-wake_made r u Good = wakes u.uid
-wake_made r u (NotMade e) = turn r (Declines Argument)
+abbrev pub wake_made : Reader → Result Uid Refusal → Turn
+wake_made r (Ok u) = wakes u
+wake_made r (Err e) = turn r (Declines Argument)
 
 unfoldable pub wake_turn : Reader → List ℕ → Turn
-wake_turn r l = wake_made r (new_uid l) (new_uid l).made
+wake_turn r l = wake_made r (new_uid l)
 
 unfoldable pub wake_call : Reader → List ℕ → ℕ → Turn
 wake_call r l room = call (is_new r.phase) r (wake_turn r l) room
@@ -81,7 +80,7 @@ wake_says r l room =
     decline_if (not (is_new r.phase)) 11
     (decline_if (ltb room frame_room) 1
     (decline_if (not (valid_bytes l)) 6
-    (turn_says (wakes (new_uid l).uid))))
+    (turn_says (wakes (uid_of l)))))
 
 -- T-04: a UID that an answer completes is valid
 abbrev pub Completed : Answer → Reader → Type 0

@@ -2,7 +2,7 @@
 -- end, and what of an answer is not looked at. Assumes nothing.
 use Rattle.std.proofs.Math.Path.{◌≡◌, refl, sym, ap}
 use Rattle.std.proofs.Common.{◌∙◌, not-suc-le-zero, length-append, length-take, length-set, get_or-take, drop-set-lt}
-use Rattle.std.specs.Prelude.{Bool, cond, ◌&&◌, take, drop, get_or, set, replicate}
+use Rattle.std.specs.Prelude.{Bool, cond, ◌&&◌, take, drop, get_or, set, replicate, Ok}
 use Rattle.std.proofs.Math.Bool.{true, false, not}
 use mathlib.Core.List.{List, [], ◌∷◌, ◌++◌}
 use Prim.Native.Nat.{ℕ, zero, suc, ◌+◌, ◌-◌, ◌*◌, ◌/◌, ◌%◌, ◌≤◌, ◌<◌}
@@ -29,7 +29,6 @@ use Rattle.reader.specs.StepLaws.{hear_at, rest_at}
 use Rattle.uid.specs.declared.Level.{Level}
 use Rattle.uid.specs.declared.Uid.{Uid}
 use Rattle.refusal.specs.declared.Refusal.TheVariants.{Silence, Length, Collision, Parity, Check}
-use Rattle.selection.specs.declared.AtqaRead.TheVariants.{Atqa}
 use Rattle.selection.specs.declared.Rest.{Rest}
 use Rattle.selection.specs.declared.RestSays.{RestSays}
 use Rattle.selection.specs.declared.RestSays.TheVariants.{Whole, Collided, NotRest}
@@ -251,12 +250,12 @@ at_most_33 l s u hs a = omega (arith, ends l (reader (AnticollisionSent l) s (re
 
 -- "In ATQA collided bits count as 1, the length bits are not used": merged length bits that read 11 are good, collided (44 00 and 84 00
 -- together) or not
-pub atqa_11 : (read_atqa (0 ∷ 0 ∷ 1 ∷ 0 ∷ 0 ∷ 0 ∷ 2 ∷ 2 ∷ 1 ∷ standard (0x00 ∷ [])) ≡ Atqa) × (read_atqa (standard (0xC4 ∷ 0x00 ∷ [])) ≡ Atqa)
+pub atqa_11 : (read_atqa (0 ∷ 0 ∷ 1 ∷ 0 ∷ 0 ∷ 0 ∷ 2 ∷ 2 ∷ 1 ∷ standard (0x00 ∷ [])) ≡ (Ok tt)) × (read_atqa (standard (0xC4 ∷ 0x00 ∷ [])) ≡ (Ok tt))
 unfolding read_atqa standard air_byte bits_of odd ones first_wrong faulty clean is_nil same
 atqa_11 = (refl, refl)
 
 -- .. only b1 to b5 are tested
-pub atqa_any : (h : List ℕ) → length h ≡ 18 → faulty 2 h ≡ false → same (take 5 h) (replicate 5 0) ≡ false → read_atqa h ≡ Atqa
+pub atqa_any : (h : List ℕ) → length h ≡ 18 → faulty 2 h ≡ false → same (take 5 h) (replicate 5 0) ≡ false → read_atqa h ≡ (Ok tt)
 unfolding read_atqa
 atqa_any h n f s = rw (nil_no h (λ z. omega arith), n, f, s)
 

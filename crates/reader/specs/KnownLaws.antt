@@ -1,11 +1,12 @@
 -- T-03, one known card: what its definitions give at what was read, what its call says, and "b3 fits the UID" in T-04's words. Assumes nothing.
-use Rattle.std.specs.Prelude.{◌≡◌, refl, ℕ, suc, ◌+◌, ◌≤◌, ◌<◌, Bool, true, false, cond, not, ◌&&◌, ◌||◌, List, [], ◌∷◌, length, get_or, eqb, ltb}
+use Rattle.std.specs.Prelude.{◌≡◌, refl, ℕ, suc, ◌+◌, ◌≤◌, ◌<◌, Bool, true, false, cond, not, ◌&&◌, ◌||◌, List, [], ◌∷◌, length, get_or, eqb, ltb, Result, Ok, Err}
+use Rattle.std.specs.Result.{result_unwrap_or}
 use Rattle.std.proofs.Common.{sym, ap, ◌∙◌, add-one, arith}
 use borrow.Author.Tests.{lt-ltb, le-ltb, ne_eqb}
-use Rattle.refusal.specs.Refusal.{Said, giving, decline_if, refusal_says}
+use Rattle.refusal.specs.Refusal.{Said, giving, decline_if, refusal_says, made_says}
 use Rattle.refusal.specs.declared.Refusal.{Refusal}
 use Rattle.refusal.specs.declared.Refusal.TheVariants.{Room, Argument, Forbidden, NotDue}
-use Rattle.uid.specs.Calls.{sized, refused_uid, checked, new_uid, valid_bytes, made_says}
+use Rattle.uid.specs.Calls.{sized, uid_of, checked, new_uid, valid_bytes}
 use Rattle.uid.specs.SaysLaws.{new_says_law}
 use Rattle.uid.specs.Uid.{valid, levels, levels_of, level_count, place}
 use Rattle.uid.specs.UidLaws.{Sound}
@@ -18,13 +19,8 @@ use Rattle.reader.specs.Calls.{call, wake_made, wake_turn, wake_call, turn_says,
 use Rattle.reader.specs.Reader.{b3, contradicts, frame, turn, sends, stop, completes, wakes, pick_next, after_wupa, hear_wupa, misfits, uid_sak_heard, hear_uid_sak, is_new}
 use Rattle.reader.specs.ReaderLaws.{lvl}
 use Rattle.reader.specs.SakLevelLaws.{valid_fits}
-use Rattle.selection.specs.declared.AtqaRead.{AtqaRead}
-use Rattle.selection.specs.declared.SakRead.{SakRead}
-use Rattle.selection.specs.declared.SakRead.TheVariants.{Sak}
 use Rattle.uid.specs.declared.Level.{Level}
 use Rattle.uid.specs.declared.Level.TheVariants.{One, Two, Three}
-use Rattle.uid.specs.declared.Made.{Made}
-use Rattle.uid.specs.declared.Made.TheVariants.{Good, NotMade}
 use Rattle.uid.specs.declared.Uid.{Uid}
 use Rattle.uid.specs.declared.UidSize.{UidSize}
 use Rattle.uid.specs.declared.UidSize.TheVariants.{Single, Double, Triple}
@@ -34,22 +30,22 @@ use Rattle.reader.specs.declared.Turn.{Turn}
 
 -- ---- at what was read
 
-pub wupa_at : (r : Reader) (h : List ℕ) (a : AtqaRead) → read_atqa h ≡ a → hear_wupa r h ≡ after_wupa r.uid a
+pub wupa_at : (r : Reader) (h : List ℕ) (a : Result Unit Refusal) → read_atqa h ≡ a → hear_wupa r h ≡ after_wupa r.uid a
 unfolding hear_wupa
 wupa_at r h a e = ap (after_wupa r.uid) e
 
-pub uid_sak_at : (l : Level) (r : Reader) (h : List ℕ) (a : SakRead) → read_sak h ≡ a → hear_uid_sak l r h ≡ uid_sak_heard l r.uid a
+pub uid_sak_at : (l : Level) (r : Reader) (h : List ℕ) (a : Result ℕ Refusal) → read_sak h ≡ a → hear_uid_sak l r h ≡ uid_sak_heard l r.uid a
 unfolding hear_uid_sak
 uid_sak_at l r h a e = ap (uid_sak_heard l r.uid) e
 
 module _ (l : Level) (u : Uid) (b : ℕ) where
-  pub sak_misfits : misfits l u (b3 b) ≡ true → uid_sak_heard l u (Sak b) ≡ stop Forbidden
+  pub sak_misfits : misfits l u (b3 b) ≡ true → uid_sak_heard l u (Ok b) ≡ stop Forbidden
   sak_misfits e = rw e
 
-  pub sak_onward : misfits l u (b3 b) ≡ false → b3 b ≡ true → uid_sak_heard l u (Sak b) ≡ pick_next l u
+  pub sak_onward : misfits l u (b3 b) ≡ false → b3 b ≡ true → uid_sak_heard l u (Ok b) ≡ pick_next l u
   sak_onward e f = rw (e, f)
 
-  pub sak_ends : misfits l u (b3 b) ≡ false → b3 b ≡ false → uid_sak_heard l u (Sak b) ≡ completes false u b
+  pub sak_ends : misfits l u (b3 b) ≡ false → b3 b ≡ false → uid_sak_heard l u (Ok b) ≡ completes false u b
   sak_ends e f = rw (e, f)
 
 -- ---- "b3 fits the UID"
@@ -118,38 +114,38 @@ misfits_contradicts u s Three more h = unfold contradicts in
 
 -- ---- the call
 
--- a UID is made, or 6
-made_argument : (l : List ℕ) (e : Refusal) → (new_uid l).made ≡ NotMade e → e ≡ Argument
+-- a UID is made where its bytes are those of a valid one; else 6
+made_argument : (l : List ℕ) (e : Refusal) → new_uid l ≡ Err e → e ≡ Argument
 unfolding new_uid checked
 made_argument l e = go (eqb (length l) 4) (eqb (length l) 7) (eqb (length l) 10) (valid (sized Single l)) (valid (sized Double l)) (valid (sized Triple l))
   where
-    go₁ : (u : Uid) (v : Bool) → (cond v (record { uid = u; made = Good }) refused_uid).made ≡ NotMade e → e ≡ Argument
-    go₁ u true h = cc
-    go₁ u false h = cc
+    one : (u : Uid) (v : Bool) → cond v (Ok u) (Err Argument) ≡ Err e → e ≡ Argument
+    one u true h = cc
+    one u false h = cc
 
     go : (a b c x y z : Bool)
-        → (cond a (cond x (record { uid = sized Single l; made = Good }) refused_uid) (cond b (cond y (record { uid = sized Double l; made = Good }) refused_uid) (cond c (cond z (record { uid = sized Triple l; made = Good }) refused_uid) refused_uid))).made ≡ NotMade e
+        → cond a (cond x (Ok (sized Single l)) (Err Argument)) (cond b (cond y (Ok (sized Double l)) (Err Argument)) (cond c (cond z (Ok (sized Triple l)) (Err Argument)) (Err Argument))) ≡ Err e
         → e ≡ Argument
-    go true b c x y z h = go₁ (sized Single l) x h
-    go false true c x y z h = go₁ (sized Double l) y h
-    go false false true x y z h = go₁ (sized Triple l) z h
+    go true b c x y z h = one (sized Single l) x h
+    go false true c x y z h = one (sized Double l) y h
+    go false false true x y z h = one (sized Triple l) z h
     go false false false x y z h = cc
 
--- .. exactly where its bytes are those of a valid one
-made_is : (m : Made) (v : Bool) → ((e : Refusal) → m ≡ NotMade e → e ≡ Argument) → made_says m ≡ decline_if (not v) 6 (giving []) → cond v Good (NotMade Argument) ≡ m
-made_is Good true a h = refl
-made_is Good false a h = absurd (omega (arith, ap (λ (s : Said). s.number) h))
-made_is (NotMade e) true a h = absurd (omega (arith, ap (λ (s : Said). s.number) (ap refusal_says (sym (a e refl)) ∙ h)))
-made_is (NotMade e) false a h = ap NotMade (sym (a e refl))
-
-pub made_valid : (l : List ℕ) → (new_uid l).made ≡ cond (valid_bytes l) Good (NotMade Argument)
-made_valid l = sym (made_is (new_uid l).made (valid_bytes l) (made_argument l) (new_says_law l))
-
-pub wake_turn_says : (r : Reader) (l : List ℕ) → turn_says (wake_turn r l) ≡ decline_if (not (valid_bytes l)) 6 (turn_says (wakes (new_uid l).uid))
-unfolding wake_turn
-wake_turn_says r l = ap (λ m. turn_says (wake_made r (new_uid l) m)) (made_valid l) ∙ go (valid_bytes l)
+pub made_valid : (l : List ℕ) → new_uid l ≡ cond (valid_bytes l) (Ok (uid_of l)) (Err Argument)
+made_valid l = go (new_uid l) (valid_bytes l) (new_says_law l) (made_argument l)
   where
-    go : (v : Bool) → turn_says (wake_made r (new_uid l) (cond v Good (NotMade Argument))) ≡ decline_if (not v) 6 (turn_says (wakes (new_uid l).uid))
+    go : (m : Result Uid Refusal) (v : Bool) → made_says m ≡ decline_if (not v) 6 (giving []) → ((e : Refusal) → m ≡ Err e → e ≡ Argument)
+        → m ≡ cond v (Ok (result_unwrap_or m (sized Single []))) (Err Argument)
+    go (Ok u) true h a = refl
+    go (Ok u) false h a = absurd (omega (arith, ap (λ (s : Said). s.number) h))
+    go (Err e) true h a = absurd (omega (arith, ap (λ (s : Said). s.number) (ap refusal_says (sym (a e refl)) ∙ h)))
+    go (Err e) false h a = ap Err (a e refl)
+
+pub wake_turn_says : (r : Reader) (l : List ℕ) → turn_says (wake_turn r l) ≡ decline_if (not (valid_bytes l)) 6 (turn_says (wakes (uid_of l)))
+unfolding wake_turn
+wake_turn_says r l = ap (λ m. turn_says (wake_made r m)) (made_valid l) ∙ go (valid_bytes l)
+  where
+    go : (v : Bool) → turn_says (wake_made r (cond v (Ok (uid_of l)) (Err Argument))) ≡ decline_if (not v) 6 (turn_says (wakes (uid_of l)))
     go true = refl
     go false = refl
 

@@ -1,17 +1,13 @@
 -- Document 01, "The reader and the sweep" and "When the core declines": what a reader does with a row. What the row says is the matter of
 -- crate selection (specs/Heard.antt).
-use Rattle.std.specs.Prelude.{ℕ, suc, ◌+◌, ◌-◌, ◌*◌, ◌/◌, ◌%◌, Bool, true, false, cond, not, ◌&&◌, ◌||◌, List, [], ◌∷◌, ◌++◌, length, take, drop, replicate, get_or, eqb, ltb}
+use Rattle.std.specs.Prelude.{ℕ, suc, ◌+◌, ◌-◌, ◌*◌, ◌/◌, ◌%◌, Bool, true, false, cond, not, ◌&&◌, ◌||◌, List, [], ◌∷◌, ◌++◌, length, take, drop, replicate, get_or, eqb, ltb, Result, Ok, Err}
 use Rattle.rows.specs.Rows.{is_nil, fill}
 use Rattle.uid.specs.Uid.{place, levels, three_levels, valid}
 use Rattle.selection.specs.Selection.{reqa, wupa, hlta, anticollision, select}
 use Rattle.selection.specs.Heard.{read_atqa, read_rest, read_sak}
-use Rattle.selection.specs.declared.AtqaRead.{AtqaRead}
-use Rattle.selection.specs.declared.AtqaRead.TheVariants.{Atqa, NotAtqa}
 use Rattle.selection.specs.declared.RestSays.{RestSays}
 use Rattle.selection.specs.declared.RestSays.TheVariants.{Whole, Collided, NotRest}
 use Rattle.selection.specs.declared.Rest.{Rest}
-use Rattle.selection.specs.declared.SakRead.{SakRead}
-use Rattle.selection.specs.declared.SakRead.TheVariants.{Sak, NotSak}
 use Rattle.uid.specs.declared.Level.{Level}
 use Rattle.uid.specs.declared.Level.TheVariants.{One, Two, Three}
 use Rattle.uid.specs.declared.Uid.{Uid}
@@ -77,9 +73,9 @@ unfoldable pub opens : Level → Bool → Uid → Turn
 opens l s u = sends (reader (AnticollisionSent l) s (replicate 5 0) 0 u 0)
 
 -- after REQA: "silence there ends the sweep, and outside a sweep is 7"
-abbrev pub after_atqa : Bool → AtqaRead → Turn
-after_atqa s Atqa = opens One s (uid Single [])
-after_atqa s (NotAtqa e) = stop e
+abbrev pub after_atqa : Bool → Result Unit Refusal → Turn
+after_atqa s (Ok tt) = opens One s (uid Single [])
+after_atqa s (Err e) = stop e
 
 unfoldable pub hear_atqa : Reader → List ℕ → Turn
 hear_atqa r h = cond (is_nil h && r.sweeps) (turn (blank Finished false) Finishes) (after_atqa r.sweeps (read_atqa h))
@@ -121,9 +117,9 @@ unfoldable pub contradicts : Level → Bool → ℕ → Bool
 contradicts l more first = cond more (not (eqb first 0x88)) (ltb (place l) 2 && eqb first 0x88)
 
 -- a good SAK b: 9 where it contradicts the level that was sent in SELECT
-abbrev pub sak_heard : Level → Reader → SakRead → Turn
-sak_heard l r (Sak b) = cond (contradicts l (b3 b) (get_or r.five 0 0)) (stop Forbidden) (after_sak l r b (b3 b))
-sak_heard l r (NotSak e) = stop e
+abbrev pub sak_heard : Level → Reader → Result ℕ Refusal → Turn
+sak_heard l r (Ok b) = cond (contradicts l (b3 b) (get_or r.five 0 0)) (stop Forbidden) (after_sak l r b (b3 b))
+sak_heard l r (Err e) = stop e
 
 unfoldable pub hear_sak : Level → Reader → List ℕ → Turn
 hear_sak l r h = sak_heard l r (read_sak h)
@@ -145,9 +141,9 @@ pick_next Two u = picks Three u
 pick_next Three u = stop Forbidden
 
 -- after WUPA: ATQA is tested as after REQA outside a sweep
-abbrev pub after_wupa : Uid → AtqaRead → Turn
-after_wupa u Atqa = picks One u
-after_wupa u (NotAtqa e) = stop e
+abbrev pub after_wupa : Uid → Result Unit Refusal → Turn
+after_wupa u (Ok tt) = picks One u
+after_wupa u (Err e) = stop e
 
 unfoldable pub hear_wupa : Reader → List ℕ → Turn
 hear_wupa r h = after_wupa r.uid (read_atqa h)
@@ -158,9 +154,9 @@ unfoldable pub misfits : Level → Uid → Bool → Bool
 misfits l u more = not (valid u) || cond (ltb (suc (place l)) (length (levels u))) (not more) more
 
 -- .. "is 9". Else the next level, or the selection ends as any other
-abbrev pub uid_sak_heard : Level → Uid → SakRead → Turn
-uid_sak_heard l u (Sak b) = cond (misfits l u (b3 b)) (stop Forbidden) (cond (b3 b) (pick_next l u) (completes false u b))
-uid_sak_heard l u (NotSak e) = stop e
+abbrev pub uid_sak_heard : Level → Uid → Result ℕ Refusal → Turn
+uid_sak_heard l u (Ok b) = cond (misfits l u (b3 b)) (stop Forbidden) (cond (b3 b) (pick_next l u) (completes false u b))
+uid_sak_heard l u (Err e) = stop e
 
 unfoldable pub hear_uid_sak : Level → Reader → List ℕ → Turn
 hear_uid_sak l r h = uid_sak_heard l r.uid (read_sak h)

@@ -1,6 +1,6 @@
 -- The reader in a sweep, by the row that it has found so far: what it holds, the UID's bytes of the levels before and the known bits of a
 -- level, and what it does with each good answer. Assumes nothing.
-use Rattle.std.specs.Prelude.{◌≡◌, refl, Bool, cond, List, [], ◌++◌, length, take, drop, replicate, get_or}
+use Rattle.std.specs.Prelude.{◌≡◌, refl, Bool, cond, List, [], ◌++◌, length, take, drop, replicate, get_or, Ok}
 use Prim.Native.Nat.{ℕ, zero, suc, ◌+◌, ◌-◌, ◌*◌, ◌/◌, ◌≤◌, ◌<◌}
 use Rattle.std.proofs.Math.Bool.{true, false}
 use Rattle.std.proofs.Common.{length-append, length-take, length-drop, take_at, arith}
@@ -19,7 +19,6 @@ use Rattle.uid.specs.declared.Level.{Level}
 use Rattle.uid.specs.declared.Level.TheVariants.{One, Two, Three}
 use Rattle.uid.specs.declared.UidSize.{UidSize}
 use Rattle.uid.specs.declared.UidSize.TheVariants.{Single, Double, Triple}
-use Rattle.selection.specs.declared.AtqaRead.TheVariants.{Atqa}
 use Rattle.selection.specs.declared.RestSays.TheVariants.{Whole, Collided}
 use Rattle.reader.specs.declared.Phase.{Phase}
 use Rattle.reader.specs.declared.Phase.TheVariants.{ReqaSent, AnticollisionSent, SelectSent, HltaSent}
@@ -133,7 +132,7 @@ closed P b = finds (closing P b)
 
 -- ---- what it hears
 
-pub hears_atqa : (h : List ℕ) → is_nil h ≡ false → read_atqa h ≡ Atqa → hear (blank ReqaSent true) h ≡ opened 0 [] []
+pub hears_atqa : (h : List ℕ) → is_nil h ≡ false → read_atqa h ≡ (Ok tt) → hear (blank ReqaSent true) h ≡ opened 0 [] []
 unfolding hear hear_atqa opens opened knows lvl so_far bytes_of unbits
 hears_atqa h n e = rw (n, e)
 

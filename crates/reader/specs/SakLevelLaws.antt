@@ -1,5 +1,5 @@
 -- T-04, a SAK against its level: valid cards never meet the test, and every UID that the reader completes is valid. Assumes nothing.
-use Rattle.std.specs.Prelude.{◌≡◌, Bool, cond, not, ◌&&◌, ◌||◌, ℕ, zero, suc, ◌*◌, ◌≤◌, ◌<◌, length, take, drop, get_or, eqb, ltb}
+use Rattle.std.specs.Prelude.{◌≡◌, Bool, cond, not, ◌&&◌, ◌||◌, ℕ, zero, suc, ◌*◌, ◌≤◌, ◌<◌, length, take, drop, get_or, eqb, ltb, Result, Ok, Err}
 use Rattle.std.proofs.Math.Path.{refl}
 use Rattle.std.proofs.Common.{sym, ap, ◌∙◌, arith, length-take, drop-cons, lt-ltb, le-ltb, ltb-true, ltb-false}
 use Rattle.std.proofs.Math.Bool.{true, false}
@@ -19,13 +19,9 @@ use Rattle.reader.specs.ReaderLaws.{lvl}
 use Rattle.rows.specs.Rows.{fill, is_nil}
 use Rattle.selection.specs.Heard.{read_atqa, read_rest, read_sak}
 use Rattle.refusal.specs.declared.Refusal.TheVariants.{Forbidden}
-use Rattle.selection.specs.declared.AtqaRead.{AtqaRead}
-use Rattle.selection.specs.declared.AtqaRead.TheVariants.{Atqa, NotAtqa}
 use Rattle.selection.specs.declared.Rest.{Rest}
 use Rattle.selection.specs.declared.RestSays.{RestSays}
 use Rattle.selection.specs.declared.RestSays.TheVariants.{Whole, Collided, NotRest}
-use Rattle.selection.specs.declared.SakRead.{SakRead}
-use Rattle.selection.specs.declared.SakRead.TheVariants.{Sak, NotSak}
 use Rattle.reader.specs.declared.Phase.{Phase}
 use Rattle.reader.specs.declared.Phase.TheVariants.{New, ReqaSent, AnticollisionSent, SelectSent, HltaSent, Selected, Finished, Stopped, WupaSent, UidSelectSent}
 use Rattle.reader.specs.declared.Reader.{Reader}
@@ -35,6 +31,7 @@ use Rattle.uid.specs.declared.Level.TheVariants.{One, Two, Three}
 use Rattle.uid.specs.declared.Uid.{Uid}
 use Rattle.uid.specs.declared.UidSize.{UidSize}
 use Rattle.uid.specs.declared.UidSize.TheVariants.{Single, Double, Triple}
+use Rattle.refusal.specs.declared.Refusal.{Refusal}
 
 -- ---- valid cards never meet the test
 
@@ -113,14 +110,14 @@ pick_good One u = tt
 pick_good Two u = tt
 pick_good Three u = tt
 
-wupa_good : (u : Uid) (a : AtqaRead) → Good (after_wupa u a)
+wupa_good : (u : Uid) (a : Result Unit Refusal) → Good (after_wupa u a)
 unfolding picks sends
-wupa_good u Atqa = tt
-wupa_good u (NotAtqa e) = tt
+wupa_good u (Ok tt) = tt
+wupa_good u (Err e) = tt
 
-uid_good : (l : Level) (u : Uid) (a : SakRead) → Good (uid_sak_heard l u a)
+uid_good : (l : Level) (u : Uid) (a : Result ℕ Refusal) → Good (uid_sak_heard l u a)
 unfolding misfits
-uid_good l u (Sak b) = go (valid u) refl
+uid_good l u (Ok b) = go (valid u) refl
   where
     X : Bool
     X = cond (ltb (suc (place l)) (length (levels u))) (not (b3 b)) (b3 b)
@@ -128,7 +125,7 @@ uid_good l u (Sak b) = go (valid u) refl
     go : (v : Bool) → valid u ≡ v → Good (cond (not v || X) (stop Forbidden) (cond (b3 b) (pick_next l u) (completes false u b)))
     go true e = either X _ _ tt (either (b3 b) _ _ (pick_good l u) (completes_good false u b e))
     go false e = tt
-uid_good l u (NotSak e) = tt
+uid_good l u (Err e) = tt
 
 module _ (r : Reader) (five : length r.five ≡ 5) (ten : length r.uid.bytes ≡ 10) where
   sak_good : (l : Level) (b : ℕ) (more : Bool) → contradicts l more (get_or r.five 0 0) ≡ false → Good (after_sak l r b more)
@@ -140,17 +137,17 @@ module _ (r : Reader) (five : length r.five ≡ 5) (ten : length r.uid.bytes ≡
   sak_good Two b false h = completes_good r.sweeps _ b (rw (first_added (take 3 r.uid.bytes) r.five 3 (rw (length-take, ten)) five, h))
   sak_good Three b false h = completes_good r.sweeps _ b refl
 
-  heard_good : (l : Level) (a : SakRead) → Good (sak_heard l r a)
-  heard_good l (Sak b) = go (contradicts l (b3 b) (get_or r.five 0 0)) refl
+  heard_good : (l : Level) (a : Result ℕ Refusal) → Good (sak_heard l r a)
+  heard_good l (Ok b) = go (contradicts l (b3 b) (get_or r.five 0 0)) refl
     where
       go : (t : Bool) → contradicts l (b3 b) (get_or r.five 0 0) ≡ t → Good (cond t (stop Forbidden) (after_sak l r b (b3 b)))
       go true e = tt
       go false e = sak_good l b (b3 b) e
-  heard_good l (NotSak e) = tt
+  heard_good l (Err e) = tt
 
-  atqa_good : (a : AtqaRead) → Good (after_atqa r.sweeps a)
-  atqa_good Atqa = opens_good One r.sweeps _
-  atqa_good (NotAtqa e) = tt
+  atqa_good : (a : Result Unit Refusal) → Good (after_atqa r.sweeps a)
+  atqa_good (Ok tt) = opens_good One r.sweeps _
+  atqa_good (Err e) = tt
 
   rest_good : (l : Level) (x : Rest) (s : RestSays) → Good (after_rest l r x s)
   unfolding sends

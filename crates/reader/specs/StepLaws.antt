@@ -1,5 +1,5 @@
 -- The reader's rules, step by step: what each definition gives at a phase, at what was read, and in a call. Assumes nothing.
-use Rattle.std.specs.Prelude.{◌≡◌, refl, Bool, true, false, cond, not, ◌&&◌, List, [], ◌∷◌, ◌++◌, ℕ, zero, suc, ◌+◌, ◌-◌, ◌*◌, ◌/◌, ◌%◌, ◌≤◌, ◌<◌, length, take, drop, replicate, get_or, eqb, ltb}
+use Rattle.std.specs.Prelude.{◌≡◌, refl, Bool, true, false, cond, not, ◌&&◌, List, [], ◌∷◌, ◌++◌, ℕ, zero, suc, ◌+◌, ◌-◌, ◌*◌, ◌/◌, ◌%◌, ◌≤◌, ◌<◌, length, take, drop, replicate, get_or, eqb, ltb, Result, Ok}
 use Rattle.std.proofs.Common.{sym, ap, ◌∙◌, not-suc-le-zero, arith, length-append, length-take, length-drop, lt-ltb, le-ltb}
 use Rattle.rows.specs.Rows.{overlay, is_nil, fill}
 use Rattle.rows.proofs.RowLaws.{overlay_nil, overlay_next}
@@ -13,11 +13,8 @@ use Rattle.uid.specs.declared.Level.{Level}
 use Rattle.uid.specs.declared.Level.TheVariants.{One, Two, Three}
 use Rattle.uid.specs.declared.Uid.{Uid}
 use Rattle.uid.specs.declared.UidSize.{UidSize}
-use Rattle.selection.specs.declared.AtqaRead.{AtqaRead}
 use Rattle.selection.specs.declared.Rest.{Rest}
 use Rattle.selection.specs.declared.RestSays.{RestSays}
-use Rattle.selection.specs.declared.SakRead.{SakRead}
-use Rattle.selection.specs.declared.SakRead.TheVariants.{Sak}
 use Rattle.refusal.specs.Refusal.{declining}
 use Rattle.refusal.specs.declared.Refusal.{Refusal}
 use Rattle.refusal.specs.declared.Refusal.TheVariants.{Forbidden, Room, NotDue}
@@ -40,7 +37,7 @@ hear_at r h p e = ap (λ q. hear_in q r h) e
 
 -- ---- at what was read
 
-pub atqa_at : (r : Reader) (h : List ℕ) (a : AtqaRead) → (is_nil h && r.sweeps) ≡ false → read_atqa h ≡ a → hear_atqa r h ≡ after_atqa r.sweeps a
+pub atqa_at : (r : Reader) (h : List ℕ) (a : Result Unit Refusal) → (is_nil h && r.sweeps) ≡ false → read_atqa h ≡ a → hear_atqa r h ≡ after_atqa r.sweeps a
 unfolding hear_atqa
 atqa_at r h a n e = rw (n, e)
 
@@ -49,15 +46,15 @@ pub rest_at : (l : Level) (r : Reader) (h : List ℕ) (x : Rest) (s : RestSays) 
 unfolding hear_rest
 rest_at l r h x s e f = rw (← e) (ap (after_rest l r x) f)
 
-pub sak_at : (l : Level) (r : Reader) (h : List ℕ) (a : SakRead) → read_sak h ≡ a → hear_sak l r h ≡ sak_heard l r a
+pub sak_at : (l : Level) (r : Reader) (h : List ℕ) (a : Result ℕ Refusal) → read_sak h ≡ a → hear_sak l r h ≡ sak_heard l r a
 unfolding hear_sak
 sak_at l r h a e = ap (sak_heard l r) e
 
 -- a good SAK that contradicts its level, and one that fits it
-pub sak_contradicts : (l : Level) (r : Reader) (b : ℕ) → contradicts l (b3 b) (get_or r.five 0 0) ≡ true → sak_heard l r (Sak b) ≡ stop Forbidden
+pub sak_contradicts : (l : Level) (r : Reader) (b : ℕ) → contradicts l (b3 b) (get_or r.five 0 0) ≡ true → sak_heard l r (Ok b) ≡ stop Forbidden
 sak_contradicts l r b e = rw e
 
-pub sak_fits : (l : Level) (r : Reader) (b : ℕ) → contradicts l (b3 b) (get_or r.five 0 0) ≡ false → sak_heard l r (Sak b) ≡ after_sak l r b (b3 b)
+pub sak_fits : (l : Level) (r : Reader) (b : ℕ) → contradicts l (b3 b) (get_or r.five 0 0) ≡ false → sak_heard l r (Ok b) ≡ after_sak l r b (b3 b)
 sak_fits l r b e = rw e
 
 -- where levels remain, the SAK's other bits do not count

@@ -1,13 +1,11 @@
 // T-03: one known card, by its UID: WUPA, then SELECT level by level, without ANTICOLLISION. Called by our own crates only.
-ghost use Rattle.std.specs.Prelude.{◌≡◌};
-ghost use Rattle.selection.specs.declared.SakRead.TheVariants.{Sak};
+ghost use Rattle.std.specs.Prelude.{◌≡◌, Ok};
 ghost use Rattle.reader.specs.Reader.{wakes, picks, pick_next, after_wupa, hear_wupa, misfits, uid_sak_heard, hear_uid_sak};
 ghost use Rattle.reader.specs.Calls.{wake_turn};
 
 use crate::{Answer, Phase, Reader, Turn, within};
 use refusal::Refusal;
-use selection::{AtqaRead, SakRead};
-use uid::{Level, Made, Uid};
+use uid::{Level, Uid};
 
 // WUPA goes out.
 pub fn wakes(u: Uid) -> Turn
@@ -28,12 +26,9 @@ pub fn wakes(u: Uid) -> Turn
 pub fn wake_turn(r: Reader, bytes: &[u8]) -> Turn
     ensures { result ≡ wake_turn r bytes.now }
 {
-    let n = uid::new_uid(bytes);
-    let made = n.made;
-    let u = n.uid;
-    match made {
-        Made::Good => wakes(u),
-        Made::NotMade(_) => Turn {
+    match uid::new_uid(bytes) {
+        Ok(u) => wakes(u),
+        Err(_) => Turn {
             reader: r,
             answer: Answer::Declines(Refusal::Argument),
         },
@@ -64,8 +59,8 @@ pub fn hear_wupa(r: Reader, row: &[u8]) -> Turn
     let u = r.uid;
     let a = selection::heard::read_atqa(row);
     match a {
-        AtqaRead::Atqa => picks(Level::One, u),
-        AtqaRead::NotAtqa(e) => within::stop(e),
+        Ok(()) => picks(Level::One, u),
+        Err(e) => within::stop(e),
     }
 }
 
@@ -96,7 +91,7 @@ fn pick_next(l: Level, u: Uid) -> Turn
 
 // A good SAK b.
 fn uid_sak_heard(l: Level, u: Uid, b: u8) -> Turn
-    ensures { result ≡ uid_sak_heard l u (Sak b) }
+    ensures { result ≡ uid_sak_heard l u (Ok b) }
 {
     let more = b / 4 % 2 == 1;
     if misfits(l, u, more) {
@@ -114,7 +109,7 @@ pub fn hear_uid_sak(l: Level, r: Reader, row: &[u8]) -> Turn
     let u = r.uid;
     let a = selection::heard::read_sak(row);
     match a {
-        SakRead::Sak(b) => uid_sak_heard(l, u, b),
-        SakRead::NotSak(e) => within::stop(e),
+        Ok(b) => uid_sak_heard(l, u, b),
+        Err(e) => within::stop(e),
     }
 }

@@ -1,17 +1,16 @@
 // The reader's rules on values, and its frames. Called by our own crates only: firmware calls `select`, `start_sweep`, `wake` and `hear`.
-ghost use Rattle.std.specs.Prelude.{◌≡◌, true, false, ◌&&◌, [], ◌≤◌, length};
+ghost use Rattle.std.specs.Prelude.{◌≡◌, true, false, ◌&&◌, [], ◌≤◌, length, Ok};
 ghost use Rattle.rows.specs.Rows.{overlay, is_nil};
 ghost use Rattle.uid.specs.Uid.{place};
 ghost use Rattle.uid.specs.declared.UidSize.TheVariants.{Single};
 ghost use Rattle.reader.specs.Reader.{uid, reader, blank, is_new, frame, turn, sends, finds, stop, opens, longer, completes, after_atqa, hear_atqa, after_rest, hear_rest, after_sak, contradicts, sak_heard, hear_sak, hear_silence, hear};
-ghost use Rattle.selection.specs.declared.SakRead.TheVariants.{Sak};
 ghost use Rattle.reader.specs.Calls.{sent_by};
 ghost use Rattle.reader.specs.declared.Answer.TheVariants.{Declines};
 ghost use Rattle.refusal.specs.declared.Refusal.TheVariants.{NotDue};
 
 use crate::{Answer, Phase, Reader, Turn};
 use refusal::Refusal;
-use selection::{AtqaRead, Rest, RestSays, SakRead};
+use selection::{Rest, RestSays};
 use uid::{Level, Uid, UidSize};
 
 fn no_uid() -> Uid
@@ -197,8 +196,8 @@ fn hear_atqa(r: Reader, row: &[u8]) -> Turn
     }
     let a = selection::heard::read_atqa(row);
     match a {
-        AtqaRead::Atqa => opens(Level::One, s, no_uid()),
-        AtqaRead::NotAtqa(e) => stop(e),
+        Ok(()) => opens(Level::One, s, no_uid()),
+        Err(e) => stop(e),
     }
 }
 
@@ -318,7 +317,7 @@ fn contradicts(l: Level, more: bool, first: u8) -> bool
 
 // A good SAK b, against the level that was sent in SELECT.
 fn sak_heard(l: Level, r: Reader, b: u8) -> Turn
-    ensures { result ≡ sak_heard l r (Sak b) }
+    ensures { result ≡ sak_heard l r (Ok b) }
 {
     let five = r.five;
     let more = b / 4 % 2 == 1;
@@ -336,8 +335,8 @@ fn hear_sak(l: Level, r: Reader, row: &[u8]) -> Turn
 {
     let a = selection::heard::read_sak(row);
     match a {
-        SakRead::Sak(b) => sak_heard(l, r, b),
-        SakRead::NotSak(e) => stop(e),
+        Ok(b) => sak_heard(l, r, b),
+        Err(e) => stop(e),
     }
 }
 

@@ -1,5 +1,5 @@
 -- Document 02, T-05: what a Type B reader does with its host's calls and with a row. What the row says is the matter of crate selection_b.
-use Rattle.std.specs.Prelude.{ℕ, ◌+◌, Bool, true, false, cond, not, List, [], ◌∷◌, replicate, ltb}
+use Rattle.std.specs.Prelude.{ℕ, ◌+◌, Bool, true, false, cond, not, List, [], ◌∷◌, replicate, ltb, Result, Ok, Err}
 use Rattle.rows.specs.Rows.{overlay}
 use Rattle.frame_b.specs.LimitsB.{frame_room_b}
 use Rattle.selection_b.specs.TypeB.{is_slots, marker}
@@ -8,12 +8,6 @@ use Rattle.refusal.specs.Refusal.{Said, giving, refusal_says, decline_if}
 use Rattle.refusal.specs.declared.Refusal.{Refusal}
 use Rattle.refusal.specs.declared.Refusal.TheVariants.{Room, Argument, NotDue}
 use Rattle.selection_b.specs.declared.Held.{Held}
-use Rattle.selection_b.specs.declared.SlotSays.{SlotSays}
-use Rattle.selection_b.specs.declared.SlotSays.TheVariants.{Holds, NotSlot}
-use Rattle.selection_b.specs.declared.AttribRead.{AttribRead}
-use Rattle.selection_b.specs.declared.AttribRead.TheVariants.{Mbli, NotAttached}
-use Rattle.selection_b.specs.declared.HltbRead.{HltbRead}
-use Rattle.selection_b.specs.declared.HltbRead.TheVariants.{Obeys, NotHalted}
 use Rattle.reader_b.specs.declared.PhaseB.{PhaseB}
 use Rattle.reader_b.specs.declared.PhaseB.TheVariants.{Ready, Slot, AttribSent, HltbSent, Stopped}
 use Rattle.reader_b.specs.declared.ReaderB.{ReaderB}
@@ -77,17 +71,17 @@ held r k atqb =
     cond (ltb r.slot r.slots) (record { reader = reader Slot r.slots (r.slot + 1); answer = Marks k; atqb = atqb })
     (record { reader = blank Ready; answer = Ends k; atqb = atqb })
 
-abbrev pub slot_turn : ReaderB → SlotSays → List ℕ → TurnB
-slot_turn r (Holds k) atqb = held r k atqb
-slot_turn r (NotSlot e) atqb = stop e
+abbrev pub slot_turn : ReaderB → Result Held Refusal → List ℕ → TurnB
+slot_turn r (Ok k) atqb = held r k atqb
+slot_turn r (Err e) atqb = stop e
 
-abbrev pub attrib_turn : AttribRead → TurnB
-attrib_turn (Mbli m) = turn (blank Ready) (Attached m)
-attrib_turn (NotAttached e) = stop e
+abbrev pub attrib_turn : Result ℕ Refusal → TurnB
+attrib_turn (Ok m) = turn (blank Ready) (Attached m)
+attrib_turn (Err e) = stop e
 
-abbrev pub hltb_turn : HltbRead → TurnB
-hltb_turn Obeys = turn (blank Ready) Halted
-hltb_turn (NotHalted e) = stop e
+abbrev pub hltb_turn : Result Unit Refusal → TurnB
+hltb_turn (Ok tt) = turn (blank Ready) Halted
+hltb_turn (Err e) = stop e
 
 abbrev pub hear_in : PhaseB → ReaderB → List ℕ → TurnB
 hear_in Ready r h = turn r (Declines NotDue)

@@ -1,5 +1,5 @@
 -- Laws for the reader's code: a turn and the lent row after it, and the calls by what their tests told. Assumes nothing.
-use Rattle.std.specs.Prelude.{◌≡◌, ℕ, ◌+◌, ◌≤◌, ◌<◌, Bool, not, List, ltb}
+use Rattle.std.specs.Prelude.{◌≡◌, ℕ, ◌+◌, ◌≤◌, ◌<◌, Bool, not, List, ltb, Ok, Err}
 use Rattle.std.proofs.Math.Path.{refl}
 use Rattle.std.proofs.Common.{sym, ap, ◌∙◌}
 use Rattle.std.proofs.Math.Bool.{true, false, cond}
@@ -14,7 +14,6 @@ use Rattle.refusal.specs.Refusal.{declining}
 use Rattle.refusal.specs.declared.Refusal.{Refusal}
 use Rattle.refusal.specs.declared.Refusal.TheVariants.{Room, Argument, NotDue}
 use Rattle.selection_b.specs.declared.Held.{Held}
-use Rattle.selection_b.specs.declared.SlotSays.TheVariants.{Holds, NotSlot}
 use Rattle.selection_b.specs.declared.SlotRead.{SlotRead}
 use Rattle.reader_b.specs.declared.PhaseB.{PhaseB}
 use Rattle.reader_b.specs.declared.PhaseB.TheVariants.{Ready, Slot, AttribSent, HltbSent}
@@ -94,10 +93,10 @@ module _ (r : ReaderB) (k : Held) (atqb : List ℕ) where
   unfolding held
   ends h = rw (le-ltb r.slot r.slots h)
 
-pub slot_holds : (r : ReaderB) (k : Held) (s : SlotRead) (h : List ℕ) → s ≡ read_slot h → s.says ≡ Holds k → held r k s.atqb ≡ slot_turn r (read_slot h).says (read_slot h).atqb
+pub slot_holds : (r : ReaderB) (k : Held) (s : SlotRead) (h : List ℕ) → s ≡ read_slot h → s.says ≡ Ok k → held r k s.atqb ≡ slot_turn r (read_slot h).says (read_slot h).atqb
 slot_holds r k s h e f = rw (← e, f)
 
-pub slot_stops : (r : ReaderB) (x : Refusal) (s : SlotRead) (h : List ℕ) → s ≡ read_slot h → s.says ≡ NotSlot x → stop x ≡ slot_turn r (read_slot h).says (read_slot h).atqb
+pub slot_stops : (r : ReaderB) (x : Refusal) (s : SlotRead) (h : List ℕ) → s ≡ read_slot h → s.says ≡ Err x → stop x ≡ slot_turn r (read_slot h).says (read_slot h).atqb
 slot_stops r x s h e f = rw (← e, f)
 
 -- ---- a row, by the phase

@@ -6,7 +6,7 @@ ghost use Rattle.reader_b.specs.ReaderB.{turn, stop, is_ready, next, held, slot_
 
 use crate::{AnswerB, PhaseB, ReaderB, TurnB};
 use refusal::Refusal;
-use selection_b::{AttribRead, Held, HltbRead, SlotSays};
+use selection_b::Held;
 
 pub fn turn(r: ReaderB, a: AnswerB) -> TurnB
     ensures { result ≡ turn r a }
@@ -75,8 +75,8 @@ fn hear_slot(r: ReaderB, row: &[u8]) -> TurnB
     let says = s.says;
     let atqb = s.atqb;
     match says {
-        SlotSays::Holds(k) => hold(r, k, atqb),
-        SlotSays::NotSlot(e) => stop(e),
+        Ok(k) => hold(r, k, atqb),
+        Err(e) => stop(e),
     }
 }
 
@@ -85,11 +85,11 @@ fn hear_attrib(row: &[u8]) -> TurnB
 {
     let s = selection_b::heard::read_attrib(row);
     match s {
-        AttribRead::Mbli(m) => {
+        Ok(m) => {
             let after = crate::new_reader();
             turn(after, AnswerB::Attached(m))
         }
-        AttribRead::NotAttached(e) => stop(e),
+        Err(e) => stop(e),
     }
 }
 
@@ -98,11 +98,11 @@ fn hear_hltb(row: &[u8]) -> TurnB
 {
     let s = selection_b::heard::read_hltb(row);
     match s {
-        HltbRead::Obeys => {
+        Ok(()) => {
             let after = crate::new_reader();
             turn(after, AnswerB::Halted)
         }
-        HltbRead::NotHalted(e) => stop(e),
+        Err(e) => stop(e),
     }
 }
 

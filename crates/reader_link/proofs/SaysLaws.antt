@@ -11,7 +11,7 @@ use Rattle.parity.specs.Bits.{bits_of}
 use Rattle.crc.specs.Crc.{with_crc, crc_bytes}
 use Rattle.frame.specs.Frame.{air_byte, standard, short}
 use Rattle.selection.specs.Selection.{reqa, rats}
-use Rattle.uid.specs.Calls.{new_uid, valid_bytes}
+use Rattle.uid.specs.Calls.{new_uid, valid_bytes, uid_of}
 use Rattle.reader.specs.Calls.{wake_turn}
 use Rattle.reader.specs.KnownLaws.{wake_turn_says, wakes_seven}
 use Rattle.reader.specs.Reader.{blank, frame, sends, begin}
@@ -70,7 +70,7 @@ wake_says_law : (x : LinkReader) (l : List ℕ) (room : ℕ) → answered (wake_
 unfolding wake_call selecting
 wake_says_law x l room =
     tested_says (is_new_in x.link x.reader) x [] room (selecting (wake_turn x.reader l) []) (decline_if (not (valid_bytes l)) 6 (giving (7 ∷ [])))
-    (λ e. wake_turn_says x.reader l ∙ ap (decline_if (not (valid_bytes l)) 6) (wakes_seven (new_uid l).uid))
+    (λ e. wake_turn_says x.reader l ∙ ap (decline_if (not (valid_bytes l)) 6) (wakes_seven (uid_of l)))
 
 -- ---- RATS
 

@@ -1,5 +1,5 @@
 -- The number of bits that an answer names is that of the frame that is sent. Assumes nothing.
-use Rattle.std.specs.Prelude.{◌≡◌, refl, Bool, true, false, cond, not, ◌&&◌, List, [], ℕ, length, get_or, ltb}
+use Rattle.std.specs.Prelude.{◌≡◌, refl, Bool, true, false, cond, not, ◌&&◌, List, [], ℕ, length, get_or, ltb, Result, Ok, Err}
 use Rattle.limits.specs.Limits.{row_room}
 use Rattle.rows.specs.Rows.{is_nil}
 use Rattle.refusal.specs.declared.Refusal.{Refusal}
@@ -8,15 +8,9 @@ use Rattle.uid.specs.declared.Level.{Level}
 use Rattle.uid.specs.declared.Level.TheVariants.{One, Two, Three}
 use Rattle.uid.specs.declared.Uid.{Uid}
 use Rattle.selection.specs.Heard.{read_atqa, read_rest, read_sak, read_ats}
-use Rattle.selection.specs.declared.AtqaRead.{AtqaRead}
-use Rattle.selection.specs.declared.AtqaRead.TheVariants.{Atqa, NotAtqa}
 use Rattle.selection.specs.declared.Rest.{Rest}
 use Rattle.selection.specs.declared.RestSays.{RestSays}
 use Rattle.selection.specs.declared.RestSays.TheVariants.{Whole, Collided, NotRest}
-use Rattle.selection.specs.declared.SakRead.{SakRead}
-use Rattle.selection.specs.declared.SakRead.TheVariants.{Sak, NotSak}
-use Rattle.selection.specs.declared.AtsRead.{AtsRead}
-use Rattle.selection.specs.declared.AtsRead.TheVariants.{Index, NotAts}
 use Rattle.reader.specs.declared.Phase.{Phase}
 use Rattle.reader.specs.declared.Phase.TheVariants.{New, ReqaSent, AnticollisionSent, SelectSent, HltaSent, Selected, Finished, Stopped, WupaSent, UidSelectSent}
 use Rattle.reader.specs.declared.Reader.{Reader}
@@ -52,9 +46,9 @@ unfolding completes finds
 completes_exact true u b = refl
 completes_exact false u b = refl
 
-atqa_exact : (s : Bool) (a : AtqaRead) → Exact (after_atqa s a)
-atqa_exact s Atqa = opens_exact One s _
-atqa_exact s (NotAtqa e) = refl
+atqa_exact : (s : Bool) (a : Result Unit Refusal) → Exact (after_atqa s a)
+atqa_exact s (Ok tt) = opens_exact One s _
+atqa_exact s (Err e) = refl
 
 rest_exact : (l : Level) (r : Reader) (x : Rest) (s : RestSays) → Exact (after_rest l r x s)
 rest_exact l r x Whole = sends_exact _
@@ -69,9 +63,9 @@ sak_exact One r b false = completes_exact r.sweeps _ b
 sak_exact Two r b false = completes_exact r.sweeps _ b
 sak_exact Three r b false = completes_exact r.sweeps _ b
 
-heard_exact : (l : Level) (r : Reader) (a : SakRead) → Exact (sak_heard l r a)
-heard_exact l r (Sak b) = either (contradicts l (b3 b) (get_or r.five 0 0)) _ _ refl (sak_exact l r b (b3 b))
-heard_exact l r (NotSak e) = refl
+heard_exact : (l : Level) (r : Reader) (a : Result ℕ Refusal) → Exact (sak_heard l r a)
+heard_exact l r (Ok b) = either (contradicts l (b3 b) (get_or r.five 0 0)) _ _ refl (sak_exact l r b (b3 b))
+heard_exact l r (Err e) = refl
 
 pick_exact : (l : Level) (u : Uid) → Exact (pick_next l u)
 unfolding picks
@@ -79,14 +73,14 @@ pick_exact One u = sends_exact _
 pick_exact Two u = sends_exact _
 pick_exact Three u = refl
 
-wupa_exact : (u : Uid) (a : AtqaRead) → Exact (after_wupa u a)
+wupa_exact : (u : Uid) (a : Result Unit Refusal) → Exact (after_wupa u a)
 unfolding picks
-wupa_exact u Atqa = sends_exact _
-wupa_exact u (NotAtqa e) = refl
+wupa_exact u (Ok tt) = sends_exact _
+wupa_exact u (Err e) = refl
 
-uid_exact : (l : Level) (u : Uid) (a : SakRead) → Exact (uid_sak_heard l u a)
-uid_exact l u (Sak b) = either (misfits l u (b3 b)) _ _ refl (either (b3 b) _ _ (pick_exact l u) (completes_exact false u b))
-uid_exact l u (NotSak e) = refl
+uid_exact : (l : Level) (u : Uid) (a : Result ℕ Refusal) → Exact (uid_sak_heard l u a)
+uid_exact l u (Ok b) = either (misfits l u (b3 b)) _ _ refl (either (b3 b) _ _ (pick_exact l u) (completes_exact false u b))
+uid_exact l u (Err e) = refl
 
 hear_exact : (p : Phase) (r : Reader) (h : List ℕ) → Exact (hear_in p r h)
 unfolding hear_atqa hear_rest hear_sak hear_silence hear_wupa hear_uid_sak
@@ -124,9 +118,9 @@ linking_counted : (r : Reader) (o : Out ReaderLink) → Counted (linking r o)
 unfolding linking
 linking_counted r o = refl
 
-ats_counted : (r : Reader) (own : ℕ) (a : AtsRead) (buffer : List ℕ) → Counted (after_ats r own a buffer)
-ats_counted r own (Index i) buffer = refl
-ats_counted r own (NotAts e) buffer = refl
+ats_counted : (r : Reader) (own : ℕ) (a : Result ℕ Refusal) (buffer : List ℕ) → Counted (after_ats r own a buffer)
+ats_counted r own (Ok i) buffer = refl
+ats_counted r own (Err e) buffer = refl
 
 hears_counted : (k : Link) (r : Reader) (h m buffer : List ℕ) → Counted (hears_in k r h m buffer)
 unfolding selecting hear

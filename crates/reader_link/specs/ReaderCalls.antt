@@ -10,14 +10,12 @@
 --     hear(x, row, message, buffer, out) hear_call x row message buffer (length out)
 -- the answer is `t.turn`, out at exit `overlay out 0 t.sent` and, of hear, buffer at exit `t.buffer`. A call tests 11, 1, 6, 10; a
 -- refused call sends nothing and changes nothing. ReaderSays.antt says the answers in the table's numbers.
-use Rattle.std.specs.Prelude.{ℕ, ◌/◌, ◌%◌, Bool, true, false, cond, not, ◌&&◌, List, [], length, eqb, ltb}
+use Rattle.std.specs.Prelude.{ℕ, ◌/◌, ◌%◌, Bool, true, false, cond, not, ◌&&◌, List, [], length, eqb, ltb, Result, Ok, Err}
 use Rattle.limits.specs.Limits.{row_room}
 use Rattle.refusal.specs.declared.Refusal.{Refusal}
 use Rattle.refusal.specs.declared.Refusal.TheVariants.{Room, Argument, NotDue}
 use Rattle.selection.specs.Selection.{rats}
 use Rattle.selection.specs.Heard.{read_ats}
-use Rattle.selection.specs.declared.AtsRead.{AtsRead}
-use Rattle.selection.specs.declared.AtsRead.TheVariants.{Index, NotAts}
 use Rattle.reader.specs.Reader.{blank, hear, begin, is_new}
 use Rattle.reader.specs.Calls.{awaits, wake_turn, sent_by}
 use Rattle.reader.specs.declared.Phase.{Phase}
@@ -100,9 +98,9 @@ unfoldable pub linking : Reader → Out ReaderLink → Called
 linking r o = called (linked r o.link.phase o.link) (Blocks (length (block_row o.sent)) o.told) (block_row o.sent) o.buffer
 
 -- after RATS, which is not repeated: a good ATS opens the link at number 0 with the card's size index, all else stops the reader
-abbrev pub after_ats : Reader → ℕ → AtsRead → List ℕ → Called
-after_ats r own (Index i) buffer = called (record { reader = r; link = Linked (reader_open own i false) }) (Opens i) [] buffer
-after_ats r own (NotAts e) buffer = called (record { reader = blank phase.Stopped false; link = NoLink }) (Blocks 0 (Refused e)) [] buffer
+abbrev pub after_ats : Reader → ℕ → Result ℕ Refusal → List ℕ → Called
+after_ats r own (Ok i) buffer = called (record { reader = r; link = Linked (reader_open own i false) }) (Opens i) [] buffer
+after_ats r own (Err e) buffer = called (record { reader = blank phase.Stopped false; link = NoLink }) (Blocks 0 (Refused e)) [] buffer
 
 -- ---- a row h is heard, with the message m and a buffer lent
 

@@ -1,5 +1,5 @@
 -- The whole reader's calls, step by step. Assumes nothing.
-use Rattle.std.specs.Prelude.{◌≡◌, refl, ℕ, ◌%◌, ◌≤◌, ◌<◌, Bool, true, false, cond, List, [], length, take, ltb}
+use Rattle.std.specs.Prelude.{◌≡◌, refl, ℕ, ◌%◌, ◌≤◌, ◌<◌, Bool, true, false, cond, List, [], length, take, ltb, Result, Ok, Err}
 use Rattle.std.proofs.Math.Path.{sym}
 use Rattle.std.proofs.Common.{ap, ap₂, ◌∙◌, arith}
 use Rattle.std.proofs.lemmas.Bool.{false≢true}
@@ -11,8 +11,6 @@ use Rattle.frame.specs.Calls.{good_bytes}
 use Rattle.refusal.specs.declared.Refusal.TheVariants.{Room, Argument, NotDue}
 use Rattle.selection.specs.Selection.{rats}
 use Rattle.selection.specs.Heard.{read_ats}
-use Rattle.selection.specs.declared.AtsRead.{AtsRead}
-use Rattle.selection.specs.declared.AtsRead.TheVariants.{Index, NotAts}
 use Rattle.reader.specs.Reader.{hear, is_new}
 use Rattle.reader.specs.declared.Reader.{Reader}
 use Rattle.block.specs.declared.BlockBytes.{BlockBytes}
@@ -31,6 +29,7 @@ use Rattle.reader_link.specs.declared.LinkTurn.{LinkTurn}
 use Rattle.reader_blocks.specs.ReaderFrames.{reader_hears, reader_out, reader_block}
 use Rattle.reader_blocks.specs.ReaderLaws.{block_bytes_law}
 use Rattle.reader_link.specs.ReaderCalls.{Called, called, declined_by, tested, selecting, linked, linking, after_ats, hears_in, is_new_in}
+use Rattle.refusal.specs.declared.Refusal.{Refusal}
 
 -- ---- what is handed back
 
@@ -113,9 +112,9 @@ block_made r k f m buffer out s e h =
     three out (ap (linking r) q) (h.0, (e.1, h.1))
 
 -- ATS leaves the buffer and the lent row alone
-ats_leaves : (r : Reader) (own : ℕ) (a : AtsRead) (buffer out : List ℕ) → Three (after_ats r own a buffer) (after_ats r own a []).turn buffer out out
-ats_leaves r own (Index i) buffer out = (refl, (refl, sym (overlay_nil out 0)))
-ats_leaves r own (NotAts e) buffer out = (refl, (refl, sym (overlay_nil out 0)))
+ats_leaves : (r : Reader) (own : ℕ) (a : Result ℕ Refusal) (buffer out : List ℕ) → Three (after_ats r own a buffer) (after_ats r own a []).turn buffer out out
+ats_leaves r own (Ok i) buffer out = (refl, (refl, sym (overlay_nil out 0)))
+ats_leaves r own (Err e) buffer out = (refl, (refl, sym (overlay_nil out 0)))
 
 module _ (x : LinkReader) (f m buffer out : List ℕ) {t : LinkTurn} where
   pub hears_selecting : {out' : List ℕ} → x.link ≡ NoLink → Two (selecting (hear x.reader f) []) t out out'

@@ -16,7 +16,6 @@ use block::Told;
 use reader::{Answer, Phase, Reader, Turn};
 use reader_blocks::{ReaderLink, ReaderPhase, ReaderStep};
 use refusal::Refusal;
-use selection::AtsRead;
 
 // A reader that has sent no frame.
 pub fn new_reader() -> LinkReader
@@ -173,7 +172,7 @@ fn hear_ats(r: Reader, own: u8, row: &[u8]) -> LinkTurn
 {
     let a = selection::ats::read_ats(own, row);
     match a {
-        AtsRead::Index(i) => {
+        Ok(i) => {
             let l = reader_blocks::open(own, i, false);
             LinkTurn {
                 reader: LinkReader {
@@ -183,7 +182,7 @@ fn hear_ats(r: Reader, own: u8, row: &[u8]) -> LinkTurn
                 answer: LinkAnswer::Opens(i),
             }
         }
-        AtsRead::NotAts(e) => {
+        Err(e) => {
             let stopped = over(Phase::Stopped);
             LinkTurn {
                 reader: stopped,

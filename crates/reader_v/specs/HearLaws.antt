@@ -1,5 +1,5 @@
 -- Laws for the reader's code: what it does with a row. Assumes nothing.
-use Rattle.std.specs.Prelude.{◌≡◌, refl, ℕ, ◌≤◌, ◌<◌, Bool, true, false, not, ◌&&◌, List, ltb}
+use Rattle.std.specs.Prelude.{◌≡◌, refl, ℕ, ◌≤◌, ◌<◌, Bool, true, false, not, ◌&&◌, List, ltb, Ok, Err}
 use Rattle.std.proofs.Common.{sym, ap, ap₂, ◌∙◌, lt-ltb, le-ltb}
 use Rattle.std.proofs.Math.Bool.{cond}
 use Rattle.answer_v.specs.Heard.{read_slot, read_answer}
@@ -8,7 +8,6 @@ use Rattle.answer_v.specs.declared.Turn.{Turn}
 use Rattle.answer_v.specs.declared.AnswerSays.{AnswerSays}
 use Rattle.refusal.specs.declared.Refusal.{Refusal}
 use Rattle.selection_b.specs.declared.Held.{Held}
-use Rattle.selection_b.specs.declared.SlotSays.TheVariants.{Holds, NotSlot}
 use Rattle.reader_v.specs.ReaderV.{stop, telling, next_slot, met_after, finished, told, turn_of, slot_turn, hear_slot, answer_turn, hear_in, hear}
 use Rattle.reader_v.specs.declared.PhaseV.{PhaseV}
 use Rattle.reader_v.specs.declared.ReaderV.{ReaderV}
@@ -30,12 +29,12 @@ module _ (sweeps : Bool) (r : ReaderV) (k : Held) (s : SlotV) (m : List ℕ) (e 
   pub told_last : r.round.one ≡ false → 15 ≤ r.slot → finished sweeps r k s m ≡ told sweeps r k s
   told_last eb h = told_by_law false false eb (le-ltb r.slot 15 h)
 
-pub slot_holds : (sweeps : Bool) (r : ReaderV) (h : List ℕ) (q : Turn) (s : SlotV) (k : Held) → q ≡ turn_of sweeps r → s ≡ read_slot q h → s.says ≡ Holds k → told sweeps r k s ≡ hear_slot sweeps r h
+pub slot_holds : (sweeps : Bool) (r : ReaderV) (h : List ℕ) (q : Turn) (s : SlotV) (k : Held) → q ≡ turn_of sweeps r → s ≡ read_slot q h → s.says ≡ Ok k → told sweeps r k s ≡ hear_slot sweeps r h
 unfolding hear_slot
 slot_holds sweeps r h q s k eq es e =
     ap (λ x. slot_turn sweeps r x s) (sym e) ∙ ap (λ x. slot_turn sweeps r x.says x) (es ∙ ap (λ t. read_slot t h) eq)
 
-pub slot_stops : (sweeps : Bool) (r : ReaderV) (h : List ℕ) (q : Turn) (s : SlotV) (x : Refusal) → q ≡ turn_of sweeps r → s ≡ read_slot q h → s.says ≡ NotSlot x → stop x ≡ hear_slot sweeps r h
+pub slot_stops : (sweeps : Bool) (r : ReaderV) (h : List ℕ) (q : Turn) (s : SlotV) (x : Refusal) → q ≡ turn_of sweeps r → s ≡ read_slot q h → s.says ≡ Err x → stop x ≡ hear_slot sweeps r h
 unfolding hear_slot
 slot_stops sweeps r h q s x eq es e =
     ap (λ y. slot_turn sweeps r y s) (sym e) ∙ ap (λ y. slot_turn sweeps r y.says y) (es ∙ ap (λ t. read_slot t h) eq)

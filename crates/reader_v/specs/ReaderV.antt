@@ -1,5 +1,5 @@
 -- Document 02, T-10: the reader of vicinity cards: its phases, and what it does with a row. What the row says is the matter of crate answer_v.
-use Rattle.std.specs.Prelude.{ℕ, ◌+◌, Bool, true, false, cond, not, ◌&&◌, List, replicate, set, ltb, leb}
+use Rattle.std.specs.Prelude.{ℕ, ◌+◌, Bool, true, false, cond, not, ◌&&◌, List, replicate, set, ltb, leb, Result, Ok, Err}
 use Rattle.rows.specs.Rows.{is_nil}
 use Rattle.sent_v.specs.Sent.{grown_mask}
 use Rattle.sent_v.specs.declared.Round.{Round}
@@ -12,8 +12,6 @@ use Rattle.refusal.specs.declared.Refusal.{Refusal}
 use Rattle.refusal.specs.declared.Refusal.TheVariants.{Forbidden, NotDue}
 use Rattle.selection_b.specs.declared.Held.{Held}
 use Rattle.selection_b.specs.declared.Held.TheVariants.{None, One, More}
-use Rattle.selection_b.specs.declared.SlotSays.{SlotSays}
-use Rattle.selection_b.specs.declared.SlotSays.TheVariants.{Holds, NotSlot}
 use Rattle.reader_v.specs.Met.{flags, flag_of, length_of, slot_of, first_met}
 use Rattle.reader_v.specs.declared.PhaseV.{PhaseV}
 use Rattle.reader_v.specs.declared.PhaseV.TheVariants.{Ready, InRound, InSweep, QuietSent, ReadSent, OtherSent, Stopped}
@@ -110,9 +108,9 @@ told sweeps r k s =
     let m : List ℕ = met_after sweeps r k in
     cond (not r.round.one && ltb r.slot 15) (telling (next_slot r m) (NextSlot k) s) (finished sweeps r k s m)
 
-abbrev pub slot_turn : Bool → ReaderV → SlotSays → SlotV → TurnV
-slot_turn sweeps r (Holds k) s = told sweeps r k s
-slot_turn sweeps r (NotSlot e) s = stop e
+abbrev pub slot_turn : Bool → ReaderV → Result Held Refusal → SlotV → TurnV
+slot_turn sweeps r (Ok k) s = told sweeps r k s
+slot_turn sweeps r (Err e) s = stop e
 
 unfoldable pub hear_slot : Bool → ReaderV → List ℕ → TurnV
 hear_slot sweeps r h = slot_turn sweeps r (read_slot (turn_of sweeps r) h).says (read_slot (turn_of sweeps r) h)

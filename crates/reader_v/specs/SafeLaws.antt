@@ -1,5 +1,5 @@
 -- Every turn of the reader is safe. Assumes nothing.
-use Rattle.std.specs.Prelude.{◌≡◌, refl, ℕ, ◌+◌, ◌-◌, ◌*◌, ◌/◌, ◌%◌, ◌≤◌, Bool, true, false, cond, not, ◌&&◌, ◌||◌, List, length, take, drop, eqb, leb}
+use Rattle.std.specs.Prelude.{◌≡◌, refl, ℕ, ◌+◌, ◌-◌, ◌*◌, ◌/◌, ◌%◌, ◌≤◌, Bool, true, false, cond, not, ◌&&◌, ◌||◌, List, length, take, drop, eqb, leb, Result, Ok, Err}
 use Rattle.std.proofs.Common.{ap, ◌∙◌, div-add-mod', mul-le-mul_right, mul_comm, arith, true≢false, length-drop, take_all, eqb-true, leb-true, ltb-false}
 use Rattle.std.proofs.Math.Dec.{ltb}
 use Rattle.std.proofs.lemmas.Bool.{not-false}
@@ -17,8 +17,6 @@ use Rattle.refusal.specs.declared.Refusal.{Refusal}
 use Rattle.refusal.specs.Refusal.{declining}
 use Rattle.refusal.specs.declared.Refusal.TheVariants.{Room, NotDue, Length, Silence, Collision, Crc, Forbidden}
 use Rattle.selection_b.specs.declared.Held.{Held}
-use Rattle.selection_b.specs.declared.SlotSays.{SlotSays}
-use Rattle.selection_b.specs.declared.SlotSays.TheVariants.{Holds, NotSlot}
 use Rattle.reader_v.specs.Met.{flags, first_met}
 use Rattle.reader_v.specs.ReaderV.{turn, awaits, round_of, finished, told, turn_of, met_after, slot_turn, hear_slot, hear_quiet, answer_turn, hear_in, hear}
 use Rattle.reader_v.specs.HearV.{data_room, is_short, sized, hear_call, turn_says, hear_says}
@@ -92,9 +90,9 @@ module _ (h : List ℕ) (room : ℕ) where
   unfolding hear_slot
   slot_safe sweeps r = go (read_slot (turn_of sweeps r) h).says (read_slot (turn_of sweeps r) h)
     where
-      go : (y : SlotSays) (s : SlotV) → Safe (slot_turn sweeps r y s).answer (slot_turn sweeps r y s).reader h room
-      go (Holds k) s = told_safe sweeps r k s
-      go (NotSlot e) s = tt
+      go : (y : Result Held Refusal) (s : SlotV) → Safe (slot_turn sweeps r y s).answer (slot_turn sweeps r y s).reader h room
+      go (Ok k) s = told_safe sweeps r k s
+      go (Err e) s = tt
 
   answer_safe : (reads : Bool) (count : ℕ) (status : Bool) → (count + 1) * cond status 33 32 ≤ room
       → Safe (answer_turn reads (read_answer reads count status h)).answer (answer_turn reads (read_answer reads count status h)).reader h room

@@ -11,7 +11,7 @@ ghost use Rattle.reader_v.specs.CallsV.{Called, round_call, request_call, asked_
 use crate::{AnswerR, PhaseV, ReaderV, TurnV};
 use answer_v::{AnswerSays, SlotV, Turn};
 use refusal::Refusal;
-use selection_b::{Held, SlotSays};
+use selection_b::Held;
 use sent_v::{Head, Mode, Round};
 
 // ---- readers and turns
@@ -252,8 +252,8 @@ fn hear_slot(sweeps: bool, r: ReaderV, row: &[u8]) -> TurnV
     let s = answer_v::read_slot(turn_of(sweeps, r), row);
     let says = s.says;
     match says {
-        SlotSays::Holds(k) => told(sweeps, r, k, s),
-        SlotSays::NotSlot(e) => stop(e),
+        Ok(k) => told(sweeps, r, k, s),
+        Err(e) => stop(e),
     }
 }
 

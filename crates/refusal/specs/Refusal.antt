@@ -1,5 +1,5 @@
 -- Document 01, "When the core declines": the table's numbers, and what an answer says in the table's terms.
-use Rattle.std.specs.Prelude.{ℕ, Bool, cond, List, [], ◌∷◌}
+use Rattle.std.specs.Prelude.{ℕ, Bool, cond, List, [], ◌∷◌, Option, Some, None, Result, Ok, Err}
 use Rattle.refusal.specs.declared.Refusal.{Refusal}
 use Rattle.refusal.specs.declared.Refusal.TheVariants.{Room, Length, Parity, Crc, Check, Argument, Silence, Collision, Forbidden, TooLong, NotDue, Repeats}
 
@@ -56,3 +56,21 @@ refusal_says e = declining_at (number_of e) (place_of e)
 -- a call's own test, with the number that it gives where it applies; else what comes behind it
 abbrev pub decline_if : Bool → ℕ → Said → Said
 decline_if test n s = cond test (declining n) s
+
+-- ---- what a Result of a call says: the refusal, or the values that it holds
+
+-- a number: of bits or bytes that were written, or one that was read
+abbrev pub number_says : Result ℕ Refusal → Said
+number_says (Ok n) = giving (n ∷ [])
+number_says (Err e) = refusal_says e
+
+-- a value that the contract gives beside it, or none at all: that it was made
+abbrev pub made_says : {T : Type 0} → Result T Refusal → Said
+made_says (Ok x) = giving []
+made_says (Err e) = refusal_says e
+
+-- the bits of an answer, or silence
+abbrev pub sent_says : Result (Option ℕ) Refusal → Said
+sent_says (Ok (Some n)) = giving (n ∷ [])
+sent_says (Ok None) = giving []
+sent_says (Err e) = refusal_says e

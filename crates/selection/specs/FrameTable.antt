@@ -4,10 +4,9 @@ use Rattle.std.specs.Prelude.{◌≡◌, refl, ℕ, List, [], ◌∷◌, ◌++�
 use Rattle.parity.specs.Bits.{bits_of, ones, odd}
 use Rattle.crc.specs.Crc.{shift, shifts, crc_byte, crc_from, crc_a, crc_bytes, with_crc}
 use Rattle.frame.specs.Frame.{short, air_byte, standard}
-use Rattle.refusal.specs.Refusal.{giving, declining}
+use Rattle.refusal.specs.Refusal.{giving, declining, number_says}
 use Rattle.selection.specs.Selection.{sel, nvb, reqa, wupa, hlta, anticollision, others, select, sak_frame, atqa, rats, ats, size}
 use Rattle.selection.specs.Heard.{announced, ats_fits, ats_bytes}
-use Rattle.selection.specs.Says.{ats_says}
 use Rattle.uid.specs.declared.Level.TheVariants.{One, Two, Three}
 use Rattle.uid.specs.declared.UidSize.TheVariants.{Single, Double, Triple}
 
@@ -46,9 +45,9 @@ pub record FrameTable : Type 0 where
   -- "Sizes for index 0 to 8: 16, 24, 32, 40, 48, 64, 96, 128, 256; 9 to 15 read as 8"
   pub sizes : map size (0 ∷ 1 ∷ 2 ∷ 3 ∷ 4 ∷ 5 ∷ 6 ∷ 7 ∷ 8 ∷ 9 ∷ 15 ∷ []) ≡ 16 ∷ 24 ∷ 32 ∷ 40 ∷ 48 ∷ 64 ∷ 96 ∷ 128 ∷ 256 ∷ 256 ∷ 256 ∷ []
   -- ATS: "TL = 1 means size index 2"; with TC; an FSCI of 15
-  pub ats_good : map (λ l. ats_says (ats_bytes l)) ((0x01 ∷ []) ∷ (0x03 ∷ 0x44 ∷ 0x02 ∷ []) ∷ (0x02 ∷ 0x0F ∷ []) ∷ []) ≡ map giving ((2 ∷ []) ∷ (4 ∷ []) ∷ (8 ∷ []) ∷ [])
+  pub ats_good : map (λ l. number_says (ats_bytes l)) ((0x01 ∷ []) ∷ (0x03 ∷ 0x44 ∷ 0x02 ∷ []) ∷ (0x02 ∷ 0x0F ∷ []) ∷ []) ≡ map giving ((2 ∷ []) ∷ (4 ∷ []) ∷ (8 ∷ []) ∷ [])
   -- .. TA, TB, TC announced without being there; T0 b8 set
-  pub ats_bad : map (λ l. ats_says (ats_bytes l)) ((0x02 ∷ 0x10 ∷ []) ∷ (0x02 ∷ 0x20 ∷ []) ∷ (0x02 ∷ 0x40 ∷ []) ∷ (0x02 ∷ 0x80 ∷ []) ∷ []) ≡ map declining (9 ∷ 9 ∷ 9 ∷ 9 ∷ [])
+  pub ats_bad : map (λ l. number_says (ats_bytes l)) ((0x02 ∷ 0x10 ∷ []) ∷ (0x02 ∷ 0x20 ∷ []) ∷ (0x02 ∷ 0x40 ∷ []) ∷ (0x02 ∷ 0x80 ∷ []) ∷ []) ≡ map declining (9 ∷ 9 ∷ 9 ∷ 9 ∷ [])
 
 pub frame_table : FrameTable
 unfolding bits_of ones odd shift shifts crc_byte crc_from crc_a crc_bytes with_crc short air_byte standard reqa wupa hlta anticollision others select sak_frame atqa rats ats size announced ats_fits

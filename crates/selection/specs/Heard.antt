@@ -1,6 +1,6 @@
 -- Document 01, "The reader and the sweep", "RATS, ATS and blocks" and "When the core declines": what the reader makes of a received row,
 -- by the frame that it awaits. "A received frame is tested 7, 2, 8, 3, 4 or 5, 9, 10": the first test that applies wins.
-use Rattle.std.specs.Prelude.{ℕ, ◌+◌, ◌-◌, ◌*◌, ◌/◌, ◌%◌, Bool, cond, not, ◌&&◌, List, [], ◌∷◌, ◌++◌, length, take, drop, get_or, replicate, eqb, ltb, leb}
+use Rattle.std.specs.Prelude.{ℕ, ◌+◌, ◌-◌, ◌*◌, ◌/◌, ◌%◌, Bool, cond, not, ◌&&◌, List, [], ◌∷◌, ◌++◌, length, take, drop, get_or, replicate, eqb, ltb, leb, Result, Ok, Err}
 use Rattle.rows.specs.Rows.{is_nil, clean, next, same}
 use Rattle.crc.specs.Crc.{with_crc}
 use Rattle.frame.specs.Frame.{standard, data_of, bytes_of, first_wrong, faulty, Verdict, Good, Fault, read_crc}
@@ -8,25 +8,19 @@ use Rattle.uid.specs.Uid.{level}
 use Rattle.selection.specs.Selection.{cut, at_most8, size}
 use Rattle.refusal.specs.declared.Refusal.{Refusal}
 use Rattle.refusal.specs.declared.Refusal.TheVariants.{Length, Parity, Crc, Check, Silence, Collision, Forbidden}
-use Rattle.selection.specs.declared.AtqaRead.{AtqaRead}
-use Rattle.selection.specs.declared.AtqaRead.TheVariants.{Atqa, NotAtqa}
 use Rattle.selection.specs.declared.RestSays.{RestSays}
 use Rattle.selection.specs.declared.RestSays.TheVariants.{Whole, Collided, NotRest}
 use Rattle.selection.specs.declared.Rest.{Rest}
-use Rattle.selection.specs.declared.SakRead.{SakRead}
-use Rattle.selection.specs.declared.SakRead.TheVariants.{Sak, NotSak}
-use Rattle.selection.specs.declared.AtsRead.{AtsRead}
-use Rattle.selection.specs.declared.AtsRead.TheVariants.{Index, NotAts}
 
 -- ATQA. "In ATQA collided bits count as 1, the length bits are not used, and at least one of b1 to b5 must be 1": b1 to b5 are all 0 only as
 -- five zeros
-unfoldable pub read_atqa : List ℕ → AtqaRead
+unfoldable pub read_atqa : List ℕ → Result Unit Refusal
 read_atqa h =
-    cond (is_nil h) (NotAtqa Silence)
-    (cond (not (eqb (length h) 18)) (NotAtqa Length)
-    (cond (faulty 2 h) (NotAtqa (Parity (first_wrong 2 h)))
-    (cond (same (take 5 h) (replicate 5 0)) (NotAtqa Forbidden)
-    Atqa)))
+    cond (is_nil h) (Err Silence)
+    (cond (not (eqb (length h) 18)) (Err Length)
+    (cond (faulty 2 h) (Err (Parity (first_wrong 2 h)))
+    (cond (same (take 5 h) (replicate 5 0)) (Err Forbidden)
+    (Ok tt))))
 
 abbrev pub not_rest : Refusal → Rest
 not_rest e = record { says = NotRest e; five = replicate 5 0; known = 0 }
@@ -56,15 +50,15 @@ read_rest k five h =
     (rest_of (cond (clean d) Whole Collided) (next d))))))
 
 -- SAK and CRC_A
-unfoldable pub read_sak : List ℕ → SakRead
+unfoldable pub read_sak : List ℕ → Result ℕ Refusal
 read_sak h =
     let bytes : List ℕ = bytes_of 3 (data_of 3 h) in
-    cond (is_nil h) (NotSak Silence)
-    (cond (not (eqb (length h) 27)) (NotSak Length)
-    (cond (not (clean h)) (NotSak Collision)
-    (cond (faulty 3 h) (NotSak (Parity (first_wrong 3 h)))
-    (cond (not (same bytes (with_crc (take 1 bytes)))) (NotSak Crc)
-    (Sak (get_or bytes 0 0))))))
+    cond (is_nil h) (Err Silence)
+    (cond (not (eqb (length h) 27)) (Err Length)
+    (cond (not (clean h)) (Err Collision)
+    (cond (faulty 3 h) (Err (Parity (first_wrong 3 h)))
+    (cond (not (same bytes (with_crc (take 1 bytes)))) (Err Crc)
+    (Ok (get_or bytes 0 0))))))
 
 -- "T0 b5, b6, b7 announce TA, TB, TC": how many bytes
 unfoldable pub announced : ℕ → ℕ
@@ -76,15 +70,15 @@ ats_fits tl t0 t = eqb tl (2 + length t) && ltb t0 0x80 && leb (announced t0) (l
 
 -- "The reader reads any ATS"; "TL = 1 means size index 2"; "T0 b8 set, or TL not fitting the frame or T0: 9". Its low half is FSCI, of which
 -- "9 to 15 read as 8"
-abbrev pub ats_bytes : List ℕ → AtsRead
-ats_bytes [] = NotAts Forbidden
-ats_bytes (tl ∷ []) = cond (eqb tl 1) (Index 2) (NotAts Forbidden)
-ats_bytes (tl ∷ t0 ∷ t) = cond (ats_fits tl t0 t) (Index (at_most8 (t0 % 16))) (NotAts Forbidden)
+abbrev pub ats_bytes : List ℕ → Result ℕ Refusal
+ats_bytes [] = Err Forbidden
+ats_bytes (tl ∷ []) = cond (eqb tl 1) (Ok 2) (Err Forbidden)
+ats_bytes (tl ∷ t0 ∷ t) = cond (ats_fits tl t0 t) (Ok (at_most8 (t0 % 16))) (Err Forbidden)
 
-abbrev pub ats_of : Verdict → AtsRead
+abbrev pub ats_of : Verdict → Result ℕ Refusal
 ats_of (Good l) = ats_bytes l
-ats_of (Fault e) = NotAts e
+ats_of (Fault e) = Err e
 
 -- ATS, heard by a reader of size index own
-unfoldable pub read_ats : ℕ → List ℕ → AtsRead
-read_ats own h = cond (is_nil h) (NotAts Silence) (ats_of (read_crc 3 (size own) h))
+unfoldable pub read_ats : ℕ → List ℕ → Result ℕ Refusal
+read_ats own h = cond (is_nil h) (Err Silence) (ats_of (read_crc 3 (size own) h))

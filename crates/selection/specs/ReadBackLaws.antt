@@ -1,6 +1,6 @@
 -- Document 01, "Frames on the air": each answer of a card that we write is read back as what was written, and the 40 places at which a level
 -- may be split are told apart by the length of ANTICOLLISION and by its NVB. Assumes nothing.
-use Rattle.std.specs.Prelude.{◌≡◌, ℕ, zero, suc, ◌+◌, ◌-◌, ◌/◌, ◌%◌, ◌≤◌, ◌<◌, true, false, List, [], ◌∷◌, length, take, drop}
+use Rattle.std.specs.Prelude.{◌≡◌, ℕ, zero, suc, ◌+◌, ◌-◌, ◌/◌, ◌%◌, ◌≤◌, ◌<◌, true, false, List, [], ◌∷◌, length, take, drop, Ok}
 use Rattle.std.proofs.Math.Path.{refl}
 use Rattle.std.proofs.Math.ListN.{get_or}
 use Rattle.std.proofs.Common.{length-drop, take-append-drop, lt-ltb, arith}
@@ -20,10 +20,7 @@ use Rattle.selection.specs.Selection.{nvb, cut, others, sak_frame, atqa, ats, at
 use Rattle.selection.specs.Heard.{read_atqa, read_rest, rest_of, read_sak, announced, ats_fits, read_ats}
 use Rattle.uid.specs.declared.UidSize.{UidSize}
 use Rattle.uid.specs.declared.UidSize.TheVariants.{Single, Double, Triple}
-use Rattle.selection.specs.declared.AtqaRead.TheVariants.{Atqa}
 use Rattle.selection.specs.declared.RestSays.TheVariants.{Whole}
-use Rattle.selection.specs.declared.SakRead.TheVariants.{Sak}
-use Rattle.selection.specs.declared.AtsRead.TheVariants.{Index}
 
 -- ---- NVB and the split
 
@@ -72,7 +69,7 @@ data_frame (b ∷ l) = rw (data_frame l)
 
 -- ---- SAK: "The answer is SAK and CRC_A"
 
-pub reads_sak : (b : ℕ) → b < 256 → read_sak (sak_frame b) ≡ Sak b
+pub reads_sak : (b : ℕ) → b < 256 → read_sak (sak_frame b) ≡ Ok b
 unfolding read_sak sak_frame
 reads_sak b h =
     let l : List ℕ = with_crc (b ∷ []) in
@@ -94,7 +91,7 @@ reads_sak b h =
 
 -- ---- ATQA: "04 00, 44 00 or 84 00 for 4, 7, 10 bytes"
 
-pub reads_atqa : (z : UidSize) → read_atqa (atqa z) ≡ Atqa
+pub reads_atqa : (z : UidSize) → read_atqa (atqa z) ≡ (Ok tt)
 unfolding read_atqa atqa standard air_byte bits_of odd ones first_wrong faulty clean is_nil same
 reads_atqa Single = refl
 reads_atqa Double = refl
@@ -139,7 +136,7 @@ size_least i =
     at_least (16 ∷ 24 ∷ 32 ∷ 40 ∷ 48 ∷ 64 ∷ 96 ∷ 128 ∷ []) i
     (omega arith, (omega arith, (omega arith, (omega arith, (omega arith, (omega arith, (omega arith, (omega arith, tt))))))))
 
-pub reads_ats : (own i : ℕ) → i < 16 → read_ats own (ats i) ≡ Index (at_most8 i)
+pub reads_ats : (own i : ℕ) → i < 16 → read_ats own (ats i) ≡ Ok (at_most8 i)
 unfolding read_ats ats ats_fits announced
 reads_ats own i h =
     let l : List ℕ = with_crc (0x02 ∷ i ∷ []) in

@@ -1,5 +1,5 @@
 -- What a level's 45 bits say, and how the answer to ANTICOLLISION is read by it. Assumes nothing.
-use Rattle.std.specs.Prelude.{◌≡◌, refl, Bool, not, ◌&&◌, List, [], ◌∷◌, ◌++◌, ℕ, zero, suc, ◌+◌, ◌-◌, ◌*◌, ◌/◌, ◌≤◌, ◌<◌, take, drop, get_or, replicate, eqb, ltb}
+use Rattle.std.specs.Prelude.{◌≡◌, refl, Bool, not, ◌&&◌, List, [], ◌∷◌, ◌++◌, ℕ, zero, suc, ◌+◌, ◌-◌, ◌*◌, ◌/◌, ◌≤◌, ◌<◌, take, drop, get_or, replicate, eqb, ltb, Ok, Err}
 use Rattle.std.proofs.Common.{sym, ◌∙◌, append-nil, arith, length-append, length-take, drop_of_length-le}
 use Rattle.std.proofs.Math.Bool.{true, false}
 use Rattle.std.proofs.Math.ListN.{length}
@@ -9,7 +9,6 @@ use Rattle.frame.specs.Frame.{standard, data_of, bytes_of, faulty}
 use Rattle.uid.specs.Uid.{level, check}
 use Rattle.selection.specs.Selection.{cut}
 use Rattle.selection.specs.Heard.{not_rest, rest_place, rest_of, read_rest, read_sak}
-use Rattle.selection.specs.declared.SakRead.TheVariants.{Sak, NotSak}
 use Rattle.crc.specs.Crc.{crc_good, with_crc}
 use Rattle.rows.proofs.RowLaws.{overlay_all}
 use Rattle.frame.proofs.WrongLaws.{found_wrong, found_none}
@@ -174,10 +173,10 @@ module _ (h bytes : List ℕ) (n : length h ≡ 27) (clear : clean h ≡ true) (
   some : length h ≡ 0 → ⊥
   some e = omega arith
 
-  pub sak_crc : crc_good bytes ≡ false → read_sak h ≡ NotSak Crc
+  pub sak_crc : crc_good bytes ≡ false → read_sak h ≡ Err Crc
   unfolding read_sak
   sak_crc e = rw (nil_no h some, eq-eqb (length h) 27 n, clear, sound, crc_is false e)
 
-  pub sak_good : crc_good bytes ≡ true → read_sak h ≡ Sak (get_or bytes 0 0)
+  pub sak_good : crc_good bytes ≡ true → read_sak h ≡ Ok (get_or bytes 0 0)
   unfolding read_sak
   sak_good e = rw (nil_no h some, eq-eqb (length h) 27 n, clear, sound, crc_is true e, three)

@@ -5,57 +5,58 @@ ghost use Rattle.uid.specs.Uid.{level};
 ghost use Rattle.frame.specs.Frame.{data_of};
 ghost use Rattle.selection.specs.Level.{first_collided, level_says};
 ghost use Rattle.selection.specs.Heard.{read_atqa, not_rest, rest_place, read_rest, read_sak};
-ghost use Rattle.selection.specs.Says.{atqa_says, rest_says, sak_says};
+ghost use Rattle.selection.specs.Says.{rest_says};
+ghost use Rattle.refusal.specs.Refusal.{made_says, number_says};
 
-use crate::{AtqaRead, Rest, RestSays, SakRead};
+use crate::{Rest, RestSays};
 use refusal::Refusal;
 
 // ATQA. A collided bit counts as 1, so it is enough that b1 to b5 are not all zeros.
-pub fn read_atqa(row: &[u8]) -> AtqaRead
+pub fn read_atqa(row: &[u8]) -> Result<(), Refusal>
     ensures value { result ≡ read_atqa row.now }
-    ensures result_value { atqa_says result ≡ atqa_says (read_atqa row.now) }
+    ensures result_value { made_says result ≡ made_says (read_atqa row.now) }
 {
     if row.len() == 0 {
-        return AtqaRead::NotAtqa(Refusal::Silence);
+        return Err(Refusal::Silence);
     }
     if row.len() != 18 {
-        return AtqaRead::NotAtqa(Refusal::Length);
+        return Err(Refusal::Length);
     }
     let p = frame::within::first_wrong(row, 0, 2);
     if p < 2 {
-        return AtqaRead::NotAtqa(Refusal::Parity(p as u8));
+        return Err(Refusal::Parity(p as u8));
     }
     let none = [0u8; 5];
     if rows::is_same(&row[..5], &none) {
-        return AtqaRead::NotAtqa(Refusal::Forbidden);
+        return Err(Refusal::Forbidden);
     }
-    AtqaRead::Atqa
+    Ok(())
 }
 
 // SAK and CRC_A.
-pub fn read_sak(row: &[u8]) -> SakRead
+pub fn read_sak(row: &[u8]) -> Result<u8, Refusal>
     ensures value { result ≡ read_sak row.now }
-    ensures result_value { sak_says result ≡ sak_says (read_sak row.now) }
+    ensures result_value { number_says result ≡ number_says (read_sak row.now) }
 {
     if row.len() == 0 {
-        return SakRead::NotSak(Refusal::Silence);
+        return Err(Refusal::Silence);
     }
     if row.len() != 27 {
-        return SakRead::NotSak(Refusal::Length);
+        return Err(Refusal::Length);
     }
     if !rows::is_clean(row) {
-        return SakRead::NotSak(Refusal::Collision);
+        return Err(Refusal::Collision);
     }
     let p = frame::within::first_wrong(row, 0, 3);
     if p < 3 {
-        return SakRead::NotSak(Refusal::Parity(p as u8));
+        return Err(Refusal::Parity(p as u8));
     }
     let mut bytes = [0u8; 3];
     frame::within::bytes_of(row, 3, &mut bytes);
     if !crc::is_good(&bytes) {
-        return SakRead::NotSak(Refusal::Crc);
+        return Err(Refusal::Crc);
     }
-    SakRead::Sak(bytes[0])
+    Ok(bytes[0])
 }
 
 fn not_rest(e: Refusal) -> Rest

@@ -11,13 +11,6 @@ pub mod within;
 
 use refusal::Refusal;
 
-// What an ATQA says.
-#[derive(Clone, Copy)]
-pub enum AtqaRead {
-    Atqa,
-    NotAtqa(Refusal),
-}
-
 // What the answer to ANTICOLLISION says: the level's bits are all known, or the first of them collided at a position below 32.
 #[derive(Clone, Copy)]
 pub enum RestSays {
@@ -32,17 +25,4 @@ pub struct Rest {
     pub says: RestSays,
     pub five: [u8; 5],
     pub known: u8,
-}
-
-#[derive(Clone, Copy)]
-pub enum SakRead {
-    Sak(u8),
-    NotSak(Refusal),
-}
-
-// What an ATS says: the card's size index.
-#[derive(Clone, Copy)]
-pub enum AtsRead {
-    Index(u8),
-    NotAts(Refusal),
 }

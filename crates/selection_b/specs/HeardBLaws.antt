@@ -1,5 +1,5 @@
 -- Laws for the code that reads what the reader hears: the tests, one by one. Assumes nothing.
-use Rattle.std.specs.Prelude.{◌≡◌, refl, ◌≢◌, ℕ, ◌-◌, ◌/◌, ◌%◌, true, false, List, take, get_or, replicate}
+use Rattle.std.specs.Prelude.{◌≡◌, refl, ◌≢◌, ℕ, ◌-◌, ◌/◌, ◌%◌, true, false, List, take, get_or, replicate, Result, Ok, Err}
 use Rattle.std.proofs.Common.{sym, ap, ◌∙◌, length-take-le}
 use Rattle.std.proofs.Math.ListN.{length}
 use Rattle.std.proofs.lemmas.List.{length-replicate}
@@ -19,11 +19,6 @@ use Rattle.refusal.specs.Refusal.{Said}
 use Rattle.refusal.specs.declared.Refusal.{Refusal}
 use Rattle.refusal.specs.declared.Refusal.TheVariants.{Length, Silence, Collision, Crc, Forbidden}
 use Rattle.selection_b.specs.declared.Held.TheVariants.{None, More}
-use Rattle.selection_b.specs.declared.SlotSays.TheVariants.{Holds, NotSlot}
-use Rattle.selection_b.specs.declared.ByteRead.{ByteRead}
-use Rattle.selection_b.specs.declared.ByteRead.TheVariants.{Byte, NotByte}
-use Rattle.selection_b.specs.declared.AttribRead.TheVariants.{Mbli, NotAttached}
-use Rattle.selection_b.specs.declared.HltbRead.TheVariants.{Obeys, NotHalted}
 
 -- bytes that are written over a row of their number
 pub bytes_whole : (n : ℕ) (f held : List ℕ) → held ≡ overlay (replicate n 0) 0 (bytes_of n f) → held ≡ bytes_of n f
@@ -34,7 +29,7 @@ bytes_whole n f held e = e ∙ overlay_all (replicate n 0) (bytes_of n f) (rw (l
 nil : (h : List ℕ) → length h ≡ 0 → is_nil h ≡ true
 nil h e = rw (is_nil_law h e) (unfold is_nil in refl)
 
-pub slot_none : (h : List ℕ) → length h ≡ 0 → nobody (Holds None) ≡ read_slot h
+pub slot_none : (h : List ℕ) → length h ≡ 0 → nobody (Ok None) ≡ read_slot h
 unfolding read_slot
 slot_none h e = rw (nil h e)
 
@@ -42,11 +37,11 @@ module _ (h : List ℕ) (some : length h ≢ 0) where
   not_none : is_nil h ≡ false
   not_none = not_nil h (omega (arith, some))
 
-  pub slot_length : length h ≢ 112 → nobody (NotSlot Length) ≡ read_slot h
+  pub slot_length : length h ≢ 112 → nobody (Err Length) ≡ read_slot h
   unfolding read_slot
   slot_length n = rw (not_none, ne_eqb (length h) 112 n)
 
-  pub slot_more : length h ≡ 112 → clean h ≡ false → nobody (Holds More) ≡ read_slot h
+  pub slot_more : length h ≡ 112 → clean h ≡ false → nobody (Ok More) ≡ read_slot h
   unfolding read_slot
   slot_more n c = rw (not_none, eq-eqb (length h) 112 n, c)
 
@@ -54,11 +49,11 @@ module _ (h : List ℕ) (some : length h ≢ 0) where
   unfolding read_slot
   slot_clean n c = rw (not_none, eq-eqb (length h) 112 n, c)
 
-  pub byte_length : length h ≢ 24 → NotByte Length ≡ read_byte h
+  pub byte_length : length h ≢ 24 → Err Length ≡ read_byte h
   unfolding read_byte read_b
   byte_length n = rw (not_none, ne_eqb (length h) 24 n)
 
-  pub byte_collided : length h ≡ 24 → clean h ≡ false → NotByte Collision ≡ read_byte h
+  pub byte_collided : length h ≡ 24 → clean h ≡ false → Err Collision ≡ read_byte h
   unfolding read_byte read_b
   byte_collided n c = rw (not_none, eq-eqb (length h) 24 n, c)
 
@@ -66,18 +61,18 @@ module _ (h : List ℕ) (some : length h ≢ 0) where
   unfolding read_byte read_b
   byte_clean n c = rw (not_none, eq-eqb (length h) 24 n, c)
 
-pub byte_silence : (h : List ℕ) → length h ≡ 0 → NotByte Silence ≡ read_byte h
+pub byte_silence : (h : List ℕ) → length h ≡ 0 → Err Silence ≡ read_byte h
 unfolding read_byte
 byte_silence h e = rw (nil h e)
 
 -- ---- held bytes l that are those of a row
 
 module _ (l m : List ℕ) (e : l ≡ m) where
-  pub slot_crc : crc_good_b l ≡ false → nobody (NotSlot Crc) ≡ slot_of (without_crc_b m)
+  pub slot_crc : crc_good_b l ≡ false → nobody (Err Crc) ≡ slot_of (without_crc_b m)
   unfolding without_crc_b
   slot_crc c = rw (← e, c)
 
-  pub slot_forbidden : length l ≡ 14 → crc_good_b l ≡ true → get_or l 0 0 ≢ 0x50 → nobody (NotSlot Forbidden) ≡ slot_of (without_crc_b m)
+  pub slot_forbidden : length l ≡ 14 → crc_good_b l ≡ true → get_or l 0 0 ≢ 0x50 → nobody (Err Forbidden) ≡ slot_of (without_crc_b m)
   unfolding without_crc_b
   slot_forbidden n c f = rw (← e, c, get_or-take (length l - 2) l 0 0 (omega arith), ne_eqb (get_or l 0 0) 0x50 f)
 
@@ -87,38 +82,38 @@ module _ (l m : List ℕ) (e : l ≡ m) where
       let z : length l - 2 ≡ 12 = omega arith in
       rw (← e, c, get_or-take (length l - 2) l 0 0 (omega arith), eq-eqb (get_or l 0 0) 0x50 f, z) (ap alone (g ∙ overlay_all (replicate 12 0) (take 12 l) (sym (length-take-le 12 l (omega arith)))))
 
-  pub byte_crc : crc_good_b l ≡ false → NotByte Crc ≡ byte_of (without_crc_b m)
+  pub byte_crc : crc_good_b l ≡ false → Err Crc ≡ byte_of (without_crc_b m)
   unfolding without_crc_b
   byte_crc c = rw (← e, c)
 
-  pub byte_one : length l ≡ 3 → crc_good_b l ≡ true → Byte (get_or l 0 0) ≡ byte_of (without_crc_b m)
+  pub byte_one : length l ≡ 3 → crc_good_b l ≡ true → Ok (get_or l 0 0) ≡ byte_of (without_crc_b m)
   unfolding without_crc_b
   byte_one n c = rw (← e, c, get_or-take (length l - 2) l 0 0 (omega arith))
 
 -- ---- answers of one byte
 
-module _ (h : List ℕ) (a : ByteRead) (e : a ≡ read_byte h) where
-  pub attrib_forbidden : (b : ℕ) → a ≡ Byte b → b % 16 ≢ 0 → NotAttached Forbidden ≡ read_attrib h
+module _ (h : List ℕ) (a : Result ℕ Refusal) (e : a ≡ read_byte h) where
+  pub attrib_forbidden : (b : ℕ) → a ≡ Ok b → b % 16 ≢ 0 → Err Forbidden ≡ read_attrib h
   unfolding read_attrib
   attrib_forbidden b f n = rw (← e, f, ne_eqb (b % 16) 0 n)
 
-  pub attrib_mbli : (b : ℕ) → a ≡ Byte b → b % 16 ≡ 0 → Mbli (b / 16) ≡ read_attrib h
+  pub attrib_mbli : (b : ℕ) → a ≡ Ok b → b % 16 ≡ 0 → Ok (b / 16) ≡ read_attrib h
   unfolding read_attrib
   attrib_mbli b f n = rw (← e, f, eq-eqb (b % 16) 0 n)
 
-  pub attrib_not : (x : Refusal) → a ≡ NotByte x → NotAttached x ≡ read_attrib h
+  pub attrib_not : (x : Refusal) → a ≡ Err x → Err x ≡ read_attrib h
   unfolding read_attrib
   attrib_not x f = rw (← e, f)
 
-  pub hltb_forbidden : (b : ℕ) → a ≡ Byte b → b ≢ 0 → NotHalted Forbidden ≡ read_hltb h
+  pub hltb_forbidden : (b : ℕ) → a ≡ Ok b → b ≢ 0 → Err Forbidden ≡ read_hltb h
   unfolding read_hltb
   hltb_forbidden b f n = rw (← e, f, ne_eqb b 0 n)
 
-  pub hltb_obeys : (b : ℕ) → a ≡ Byte b → b ≡ 0 → Obeys ≡ read_hltb h
+  pub hltb_obeys : (b : ℕ) → a ≡ Ok b → b ≡ 0 → (Ok tt) ≡ read_hltb h
   unfolding read_hltb
   hltb_obeys b f n = rw (← e, f, eq-eqb b 0 n)
 
-  pub hltb_not : (x : Refusal) → a ≡ NotByte x → NotHalted x ≡ read_hltb h
+  pub hltb_not : (x : Refusal) → a ≡ Err x → Err x ≡ read_hltb h
   unfolding read_hltb
   hltb_not x f = rw (← e, f)
 

@@ -1,5 +1,5 @@
 -- Each answer of a card that is written is read back by the reader as what was written. Assumes nothing.
-use Rattle.std.specs.Prelude.{◌≡◌, refl, false}
+use Rattle.std.specs.Prelude.{◌≡◌, refl, false, Ok}
 use Prim.Native.Nat.{ℕ, ◌*◌, ◌/◌, ◌%◌, ◌<◌}
 use mathlib.Core.List.{List, [], ◌∷◌, ◌++◌}
 use Rattle.std.proofs.Math.ListN.{length}
@@ -12,8 +12,6 @@ use Rattle.frame_b.specs.FrameB.{frame_b}
 use Rattle.frame_b.specs.FrameBLaws.{length_frame, clean_frame, bytes_frame, without_with, read_frame_law}
 use Rattle.selection_b.specs.TypeB.{Parts, atqb_bytes, done}
 use Rattle.selection_b.specs.HeardB.{read_slot, alone, read_byte, read_attrib, read_hltb}
-use Rattle.selection_b.specs.declared.AttribRead.TheVariants.{Mbli}
-use Rattle.selection_b.specs.declared.HltbRead.TheVariants.{Obeys}
 
 some_frame : (l : List ℕ) → is_nil (frame_b l) ≡ false
 some_frame l = not_nil (frame_b l) (omega (arith, length_frame l))
@@ -36,7 +34,7 @@ module _ (u a p : List ℕ) (h : Parts u a p) where
       rw (some_frame l, n, clean_frame l, bytes_frame 12 l bytes_atqb length_atqb, without_with l) (unfold atqb_bytes in refl)
 
 -- the answer to ATTRIB, with MBLI m and CID 0
-pub reads_attrib : (m : ℕ) → m < 16 → read_attrib (frame_b (16 * m ∷ [])) ≡ Mbli m
+pub reads_attrib : (m : ℕ) → m < 16 → read_attrib (frame_b (16 * m ∷ [])) ≡ Ok m
 unfolding read_attrib read_byte
 reads_attrib m h =
     let l : List ℕ = 16 * m ∷ [] in
@@ -44,11 +42,11 @@ reads_attrib m h =
     rw (some_frame l, read_frame_law 1 l (omega arith, tt) refl, eq-eqb (16 * m % 16) 0 (omega arith), e)
 
 -- our card's
-pub reads_attached : read_attrib done ≡ Mbli 0
+pub reads_attached : read_attrib done ≡ Ok 0
 unfolding done
 reads_attached = reads_attrib 0 (omega arith)
 
 -- the answer to HLTB
-pub reads_halted : read_hltb done ≡ Obeys
+pub reads_halted : read_hltb done ≡ (Ok tt)
 unfolding read_hltb read_byte done
 reads_halted = rw (some_frame (0x00 ∷ []), read_frame_law 1 (0x00 ∷ []) (omega arith, tt) refl)

@@ -4,12 +4,13 @@ ghost use Rattle.rows.specs.Rows.{clean};
 ghost use Rattle.frame.specs.Frame.{bytes_of};
 ghost use Rattle.frame_b.specs.FrameB.{without_crc_b};
 ghost use Rattle.selection_b.specs.HeardB.{nobody, slot_of, read_slot, byte_of, read_byte, read_attrib, read_hltb};
-ghost use Rattle.selection_b.specs.SaysB.{slot_says, attrib_says, hltb_says};
+ghost use Rattle.selection_b.specs.SaysB.{slot_says};
+ghost use Rattle.refusal.specs.Refusal.{made_says, number_says};
 
-use crate::{AttribRead, ByteRead, Held, HltbRead, SlotRead, SlotSays};
+use crate::{Held, SlotRead};
 use refusal::Refusal;
 
-fn nobody(s: SlotSays) -> SlotRead
+fn nobody(s: Result<Held, Refusal>) -> SlotRead
     ensures { result ≡ nobody s }
 {
     let atqb = [0u8; 12];
@@ -27,15 +28,15 @@ fn slot_in(row: &[u8]) -> SlotRead
     let mut held = [0u8; 14];
     frame_b::within::bytes_of(row, 14, &mut held);
     if !crc::is_good_b(&held) {
-        return nobody(SlotSays::NotSlot(Refusal::Crc));
+        return nobody(Err(Refusal::Crc));
     }
     if held[0] != 0x50 {
-        return nobody(SlotSays::NotSlot(Refusal::Forbidden));
+        return nobody(Err(Refusal::Forbidden));
     }
     let mut atqb = [0u8; 12];
     rows::within::put(&mut atqb, 0, &held[..12]);
     SlotRead {
-        says: SlotSays::Holds(Held::One),
+        says: Ok(Held::One),
         atqb: atqb,
     }
 }
@@ -46,76 +47,76 @@ pub fn read_slot(row: &[u8]) -> SlotRead
     ensures result_value { slot_says result ≡ slot_says (read_slot row.now) }
 {
     if row.len() == 0 {
-        return nobody(SlotSays::Holds(Held::None));
+        return nobody(Ok(Held::None));
     }
     if row.len() != 112 {
-        return nobody(SlotSays::NotSlot(Refusal::Length));
+        return nobody(Err(Refusal::Length));
     }
     if !rows::is_clean(row) {
-        return nobody(SlotSays::Holds(Held::More));
+        return nobody(Ok(Held::More));
     }
     slot_in(row)
 }
 
 // A row of 24 bits, none of them collided.
-fn byte_in(row: &[u8]) -> ByteRead
+fn byte_in(row: &[u8]) -> Result<u8, Refusal>
     requires { (length row.now ≡ 24) × (clean row.now ≡ true) }
     ensures { result ≡ byte_of (without_crc_b (bytes_of 3 row.now)) }
 {
     let mut held = [0u8; 3];
     frame_b::within::bytes_of(row, 3, &mut held);
     if !crc::is_good_b(&held) {
-        return ByteRead::NotByte(Refusal::Crc);
+        return Err(Refusal::Crc);
     }
-    ByteRead::Byte(held[0])
+    Ok(held[0])
 }
 
 // An answer of one byte and CRC_B.
-fn read_byte(row: &[u8]) -> ByteRead
+fn read_byte(row: &[u8]) -> Result<u8, Refusal>
     ensures { result ≡ read_byte row.now }
 {
     if row.len() == 0 {
-        return ByteRead::NotByte(Refusal::Silence);
+        return Err(Refusal::Silence);
     }
     if row.len() != 24 {
-        return ByteRead::NotByte(Refusal::Length);
+        return Err(Refusal::Length);
     }
     if !rows::is_clean(row) {
-        return ByteRead::NotByte(Refusal::Collision);
+        return Err(Refusal::Collision);
     }
     byte_in(row)
 }
 
 // The answer to ATTRIB.
-pub fn read_attrib(row: &[u8]) -> AttribRead
+pub fn read_attrib(row: &[u8]) -> Result<u8, Refusal>
     ensures value { result ≡ read_attrib row.now }
-    ensures result_value { attrib_says result ≡ attrib_says (read_attrib row.now) }
+    ensures result_value { number_says result ≡ number_says (read_attrib row.now) }
 {
     let a = read_byte(row);
     match a {
-        ByteRead::Byte(b) => {
+        Ok(b) => {
             if b % 16 != 0 {
-                return AttribRead::NotAttached(Refusal::Forbidden);
+                return Err(Refusal::Forbidden);
             }
-            AttribRead::Mbli(b / 16)
+            Ok(b / 16)
         }
-        ByteRead::NotByte(e) => AttribRead::NotAttached(e),
+        Err(e) => Err(e),
     }
 }
 
 // The answer to HLTB.
-pub fn read_hltb(row: &[u8]) -> HltbRead
+pub fn read_hltb(row: &[u8]) -> Result<(), Refusal>
     ensures value { result ≡ read_hltb row.now }
-    ensures result_value { hltb_says result ≡ hltb_says (read_hltb row.now) }
+    ensures result_value { made_says result ≡ made_says (read_hltb row.now) }
 {
     let a = read_byte(row);
     match a {
-        ByteRead::Byte(b) => {
+        Ok(b) => {
             if b != 0x00 {
-                return HltbRead::NotHalted(Refusal::Forbidden);
+                return Err(Refusal::Forbidden);
             }
-            HltbRead::Obeys
+            Ok(())
         }
-        ByteRead::NotByte(e) => HltbRead::NotHalted(e),
+        Err(e) => Err(e),
     }
 }

@@ -1,5 +1,5 @@
 -- The claim of document 02, T-05, holds. Assumes nothing.
-use Rattle.std.specs.Prelude.{◌≡◌, Bool, true, get_or}
+use Rattle.std.specs.Prelude.{◌≡◌, Bool, true, get_or, Ok}
 use Rattle.std.proofs.Math.Path.{refl, ap}
 use Rattle.std.proofs.Common.{◌∙◌, add-one, not-suc-le-zero, length-append, lt-ltb, le-ltb, ne_eqb}
 use Prim.Native.Nat.{ℕ, zero, suc, ◌+◌, ◌*◌, ◌≤◌, ◌<◌}
@@ -21,7 +21,6 @@ use Rattle.slots_rules.specs.TermsB.{apart}
 use Rattle.slots_rules.specs.Claim.{in_slot, told, slots_from, Asked, Typed, Terms, Claim}
 use Rattle.slots_rules.proofs.SlotLaws.{OfCard, sent, reads_slot, merge_slot, slot_all, apart_slot}
 use Rattle.slots_rules.proofs.StepLaws.{Fits, at, first_cards, first_heard, next_cards, next_heard_law, last_cards}
-use Rattle.selection_b.specs.declared.SlotSays.TheVariants.{Holds}
 use Rattle.selection_b.specs.declared.SlotRead.{SlotRead}
 use Rattle.card_b.specs.declared.CardB.{CardB}
 use Rattle.reader_b.specs.declared.PhaseB.TheVariants.{Ready, Slot}
@@ -42,7 +41,7 @@ module _ (wake : Bool) (n afi : ℕ) (good : is_slots n ≡ true) (byte : afi < 
     ended : o.last.reader ≡ blank Ready
 
   -- what the reader reads in slot s
-  reads : (s : ℕ) → ◌≡◌ {A = SlotRead} (read_slot (merge (map (sent s) ds))) (record { says = Holds (told_of s ds).0; atqb = (told_of s ds).1 })
+  reads : (s : ℕ) → ◌≡◌ {A = SlotRead} (read_slot (merge (map (sent s) ds))) (record { says = Ok (told_of s ds).0; atqb = (told_of s ds).1 })
   reads s =
       ap read_slot (merge_slot s ds)
       ∙ reads_slot (in_slot s ds) (slot_all OfCard s ds (all_weaken {F = Fits n afi} ds (λ d h. h.parts) all)) (apart_slot s ds different)

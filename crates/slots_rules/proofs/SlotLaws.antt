@@ -1,6 +1,6 @@
 -- What is heard in a slot: nothing of no card, its ATQB of one card, and a collision of more, since two PUPIs that differ collide in some bit.
 -- Assumes nothing.
-use Rattle.std.specs.Prelude.{◌≡◌, ◌≢◌, ℕ, Bool, true, false, cond, not, ◌||◌, List, [], ◌∷◌, ◌++◌, map, length, eqb}
+use Rattle.std.specs.Prelude.{◌≡◌, ◌≢◌, ℕ, Bool, true, false, cond, not, ◌||◌, List, [], ◌∷◌, ◌++◌, map, length, eqb, Ok}
 use Rattle.std.proofs.Math.Path.{refl}
 use Rattle.std.proofs.Common.{sym, ap, ◌∙◌, true≢false, arith}
 use Rattle.std.proofs.lemmas.Bool.{not-true}
@@ -19,7 +19,6 @@ use Rattle.field.specs.MergeLaws.{join_nil, length_merge, clean_merge}
 use Rattle.slots_rules.specs.TermsB.{apart}
 use Rattle.slots_rules.specs.Claim.{in_slot, told}
 use Rattle.selection_b.specs.declared.Held.TheVariants.{More}
-use Rattle.selection_b.specs.declared.SlotSays.TheVariants.{Holds}
 use Rattle.selection_b.specs.declared.SlotRead.{SlotRead}
 use Rattle.card_b.specs.declared.CardB.{CardB}
 use Rattle.field_b.specs.declared.Drawn.{Drawn}
@@ -65,12 +64,12 @@ atqbs_collide c e cs t n = go (clean (merge (map atqb_row (c ∷ e ∷ cs)))) re
     go false q = refl
 
 -- a row of an ATQB's length with a collided bit
-reads_more : (h : List ℕ) → length h ≡ 112 → clean h ≡ false → read_slot h ≡ nobody (Holds More)
+reads_more : (h : List ℕ) → length h ≡ 112 → clean h ≡ false → read_slot h ≡ nobody (Ok More)
 unfolding read_slot
 reads_more h n c = rw (not_nil h (omega arith), n, c)
 
 -- what the reader reads where the cards of a slot answer together
-pub reads_slot : (cs : List CardB) → All OfCard cs → Apart cs → ◌≡◌ {A = SlotRead} (read_slot (merge (map atqb_row cs))) (record { says = Holds (told cs).0; atqb = (told cs).1 })
+pub reads_slot : (cs : List CardB) → All OfCard cs → Apart cs → ◌≡◌ {A = SlotRead} (read_slot (merge (map atqb_row cs))) (record { says = Ok (told cs).0; atqb = (told cs).1 })
 reads_slot [] t a = unfold read_slot merge is_nil in refl
 reads_slot (c ∷ []) t a =
     let e : merge (map atqb_row (c ∷ [])) ≡ atqb_row c = unfold merge in join_nil (atqb_row c) in

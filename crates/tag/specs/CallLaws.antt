@@ -5,11 +5,11 @@ use Rattle.rows.specs.Rows.{clean}
 use Rattle.rows.specs.HeardLaws.{clean_take, clean_drop}
 use Rattle.frame_v.specs.FrameV.{bytes_in, sound}
 use Rattle.frame_v.specs.FrameVLaws.{sound_is}
-use Rattle.refusal.specs.Refusal.{declining}
+use Rattle.refusal.specs.Refusal.{declining, sent_says}
 use Rattle.refusal.specs.declared.Refusal.TheVariants.{Room, Argument}
 use Rattle.tag.specs.Memory.{geometry}
 use Rattle.tag.specs.Tag.{takes, answers, takes_eof, answers_eof}
-use Rattle.tag.specs.Calls.{room_for, is_short, answer_of, taken, refused, take_call, take_says, eof_call, eof_says, answer_says}
+use Rattle.tag.specs.Calls.{room_for, is_short, answer_of, taken, refused, take_call, take_says, eof_call, eof_says}
 use Rattle.request_v.specs.declared.Tag.{Tag}
 use Rattle.tag.specs.declared.TakenV.{TakenV}
 
@@ -62,28 +62,28 @@ not_short t m l r e =
 
 -- ---- what the answers say, in the table's numbers
 
-pub take_says_law : (t : Tag) (f memory locks out : List ℕ) → answer_says (take_call t f memory locks out).answer ≡ take_says t f memory locks out
+pub take_says_law : (t : Tag) (f memory locks out : List ℕ) → sent_says (take_call t f memory locks out).answer ≡ take_says t f memory locks out
 unfolding take_call
 take_says_law t f memory locks out = go (is_short t (length memory) (length locks) (length out)) (not (geometry t.blocks t.size))
   where
     go : (a b : Bool)
-        → answer_says (cond a (refused t Room) (cond b (refused t Argument) (taken (takes t locks f) (answers t memory locks f)))).answer
-        ≡ cond a (declining 1) (cond b (declining 6) (answer_says (answer_of (length (answers t memory locks f)))))
+        → sent_says (cond a (refused t Room) (cond b (refused t Argument) (taken (takes t locks f) (answers t memory locks f)))).answer
+        ≡ cond a (declining 1) (cond b (declining 6) (sent_says (answer_of (length (answers t memory locks f)))))
     go true b = refl
     go false true = refl
     go false false = refl
 
-pub eof_says_law : (t : Tag) (room : ℕ) → answer_says (eof_call t room).answer ≡ eof_says t room
+pub eof_says_law : (t : Tag) (room : ℕ) → sent_says (eof_call t room).answer ≡ eof_says t room
 unfolding eof_call
 eof_says_law t room = go (ltb room 96)
   where
-    go : (a : Bool) → answer_says (cond a (refused t Room) (taken (takes_eof t) (answers_eof t))).answer ≡ cond a (declining 1) (answer_says (answer_of (length (answers_eof t))))
+    go : (a : Bool) → sent_says (cond a (refused t Room) (taken (takes_eof t) (answers_eof t))).answer ≡ cond a (declining 1) (sent_says (answer_of (length (answers_eof t))))
     go true = refl
     go false = refl
 
 pub takes_too : (t : Tag) (f memory locks out : List ℕ) {r : TakenV} {A B C : Type 0} → r ≡ take_call t f memory locks out → A × (B × C)
-    → (r ≡ take_call t f memory locks out) × (A × (B × (C × (answer_says r.answer ≡ take_says t f memory locks out))))
-takes_too t f memory locks out e h = (e, (h.0, (h.1.0, (h.1.1, ap (λ r. answer_says r.answer) e ∙ take_says_law t f memory locks out))))
+    → (r ≡ take_call t f memory locks out) × (A × (B × (C × (sent_says r.answer ≡ take_says t f memory locks out))))
+takes_too t f memory locks out e h = (e, (h.0, (h.1.0, (h.1.1, ap (λ r. sent_says r.answer) e ∙ take_says_law t f memory locks out))))
 
-pub eof_too : (t : Tag) (room : ℕ) {r : TakenV} {A : Type 0} → r ≡ eof_call t room → A → (r ≡ eof_call t room) × (A × (answer_says r.answer ≡ eof_says t room))
-eof_too t room e h = (e, (h, ap (λ r. answer_says r.answer) e ∙ eof_says_law t room))
+pub eof_too : (t : Tag) (room : ℕ) {r : TakenV} {A : Type 0} → r ≡ eof_call t room → A → (r ≡ eof_call t room) × (A × (sent_says r.answer ≡ eof_says t room))
+eof_too t room e h = (e, (h, ap (λ r. sent_says r.answer) e ∙ eof_says_law t room))

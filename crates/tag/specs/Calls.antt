@@ -1,15 +1,13 @@
 -- The tag's calls: a row with the memory, the locks and the room for the answer, all lent; an EOF; power.
-use Rattle.std.specs.Prelude.{ℕ, ◌+◌, ◌*◌, max, Bool, cond, not, ◌||◌, List, [], ◌∷◌, length, eqb, ltb}
+use Rattle.std.specs.Prelude.{ℕ, ◌+◌, ◌*◌, max, Bool, cond, not, ◌||◌, List, [], ◌∷◌, length, eqb, ltb, Result, Ok, Err, Option, Some, None}
 use Rattle.rows.specs.Rows.{overlay}
 use Rattle.request_v.specs.Request.{deed_of}
 use Rattle.request_v.specs.declared.Tag.{Tag}
 use Rattle.tag.specs.Memory.{geometry}
 use Rattle.tag.specs.Tag.{takes, answers, memory_after, locks_after, takes_eof, answers_eof}
-use Rattle.refusal.specs.Refusal.{Said, giving, refusal_says, decline_if}
+use Rattle.refusal.specs.Refusal.{Said, giving, refusal_says, decline_if, sent_says}
 use Rattle.refusal.specs.declared.Refusal.{Refusal}
 use Rattle.refusal.specs.declared.Refusal.TheVariants.{Room, Argument}
-use Rattle.tag.specs.declared.AnswerV.{AnswerV}
-use Rattle.tag.specs.declared.AnswerV.TheVariants.{Sends, Silent, NotTaken}
 use Rattle.tag.specs.declared.TakenV.{TakenV}
 
 -- the answer to an inventory has 12 bytes, the longest to a read all blocks with their status, in a frame
@@ -21,14 +19,14 @@ unfoldable pub is_short : Tag → ℕ → ℕ → ℕ → Bool
 is_short t memory locks room = ltb memory (t.blocks * t.size) || (ltb locks t.blocks || ltb room (room_for t))
 
 -- so many bits at the front of the lent row
-abbrev pub answer_of : ℕ → AnswerV
-answer_of n = cond (eqb n 0) Silent (Sends n)
+abbrev pub answer_of : ℕ → Result (Option ℕ) Refusal
+answer_of n = cond (eqb n 0) (Ok None) (Ok (Some n))
 
 abbrev pub taken : Tag → List ℕ → TakenV
 taken t r = record { tag = t; answer = answer_of (length r) }
 
 abbrev pub refused : Tag → Refusal → TakenV
-refused t e = record { tag = t; answer = NotTaken e }
+refused t e = record { tag = t; answer = Err e }
 
 -- 1: lent memory, locks or room shorter than asked; 6: "up to 256 blocks of up to 32 bytes"; both change nothing
 abbrev pub tested {ℓ} : {A : Type ℓ} → Tag → List ℕ → List ℕ → List ℕ → A → A → A → A
@@ -58,17 +56,13 @@ eof_row t out = cond (ltb (length out) 96) out (overlay out 0 (answers_eof t))
 
 -- ---- what an answer says, in the table's numbers: the bits that the tag sends, if any
 
-abbrev pub answer_says : AnswerV → Said
-answer_says (Sends n) = giving (n ∷ [])
-answer_says Silent = giving []
-answer_says (NotTaken e) = refusal_says e
 
 -- "A call tests .. 1, 6"
 abbrev pub take_says : Tag → List ℕ → List ℕ → List ℕ → List ℕ → Said
 take_says t f memory locks out =
     decline_if (is_short t (length memory) (length locks) (length out)) 1
     (decline_if (not (geometry t.blocks t.size)) 6
-    (answer_says (answer_of (length (answers t memory locks f)))))
+    (sent_says (answer_of (length (answers t memory locks f)))))
 
 abbrev pub eof_says : Tag → ℕ → Said
-eof_says t room = decline_if (ltb room 96) 1 (answer_says (answer_of (length (answers_eof t))))
+eof_says t room = decline_if (ltb room 96) 1 (sent_says (answer_of (length (answers_eof t))))

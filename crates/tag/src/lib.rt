@@ -5,24 +5,17 @@ pub mod within;
 
 ghost use Rattle.std.specs.Prelude.{◌≡◌, length};
 ghost use Rattle.tag.specs.Tag.{power_on, power_off};
-ghost use Rattle.tag.specs.Calls.{take_call, take_memory, take_locks, take_row, take_says, eof_call, eof_row, eof_says, answer_says};
+ghost use Rattle.tag.specs.Calls.{take_call, take_memory, take_locks, take_row, take_says, eof_call, eof_row, eof_says};
+ghost use Rattle.refusal.specs.Refusal.{sent_says};
 
 use refusal::Refusal;
 use request_v::{StateV, Tag};
-
-// What a tag answers: so many bits at the front of the lent row, or nothing.
-#[derive(Clone, Copy)]
-pub enum AnswerV {
-    Sends(usize),
-    Silent,
-    NotTaken(Refusal),
-}
 
 // A tag after a row or an EOF.
 #[derive(Clone, Copy)]
 pub struct TakenV {
     pub tag: Tag,
-    pub answer: AnswerV,
+    pub answer: Result<Option<usize>, Refusal>,
 }
 
 // Power comes: a tag that was Off is Ready.
@@ -47,18 +40,18 @@ pub fn take(t: Tag, row: &[u8], memory: &mut [u8], locks: &mut [u8], out: &mut [
     ensures memory_after { memory.new ≡ take_memory t row.now memory.old locks.old out.old }
     ensures locks_after { locks.new ≡ take_locks t row.now memory.old locks.old out.old }
     ensures out_after { out.new ≡ take_row t row.now memory.old locks.old out.old }
-    ensures answer_value { answer_says result.answer ≡ take_says t row.now memory.old locks.old out.old }
+    ensures answer_value { sent_says result.answer ≡ take_says t row.now memory.old locks.old out.old }
 {
     if within::is_short(t, memory.len(), locks.len(), out.len()) {
         return TakenV {
             tag: t,
-            answer: AnswerV::NotTaken(Refusal::Room),
+            answer: Err(Refusal::Room),
         };
     }
     if !within::is_geometry(t.blocks, t.size) {
         return TakenV {
             tag: t,
-            answer: AnswerV::NotTaken(Refusal::Argument),
+            answer: Err(Refusal::Argument),
         };
     }
     within::take_rules(t, row, memory, locks, out)
@@ -68,12 +61,12 @@ pub fn take(t: Tag, row: &[u8], memory: &mut [u8], locks: &mut [u8], out: &mut [
 pub fn eof(t: Tag, out: &mut [u8]) -> TakenV
     ensures value { result ≡ eof_call t (length out.old) }
     ensures out_after { out.new ≡ eof_row t out.old }
-    ensures answer_value { answer_says result.answer ≡ eof_says t (length out.old) }
+    ensures answer_value { sent_says result.answer ≡ eof_says t (length out.old) }
 {
     if out.len() < 96 {
         return TakenV {
             tag: t,
-            answer: AnswerV::NotTaken(Refusal::Room),
+            answer: Err(Refusal::Room),
         };
     }
     within::eof_rules(t, out)

@@ -10,7 +10,8 @@ ghost use Rattle.request_v.specs.Request.{deed_of};
 ghost use Rattle.tag.specs.Calls.{room_for, is_short, answer_of, taken};
 ghost use Rattle.tag.specs.Safe.{Safe};
 
-use crate::{AnswerV, TakenV};
+use refusal::Refusal;
+use crate::TakenV;
 use request_v::{Deed, StateV, Tag};
 
 // ---- states
@@ -340,13 +341,13 @@ pub fn is_short(t: Tag, memory: usize, locks: usize, room: usize) -> bool
     room < room_for(t)
 }
 
-pub fn answer_of(n: usize) -> AnswerV
+pub fn answer_of(n: usize) -> Result<Option<usize>, Refusal>
     ensures { result ≡ answer_of n }
 {
     if n == 0 {
-        return AnswerV::Silent;
+        return Ok(None);
     }
-    AnswerV::Sends(n)
+    Ok(Some(n))
 }
 
 // ---- the rules
@@ -400,11 +401,11 @@ pub fn eof_rules(t: Tag, out: &mut [u8]) -> TakenV
     if w == 0 {
         return TakenV {
             tag: with_state(t, waiting(0, y)),
-            answer: AnswerV::Silent,
+            answer: Ok(None),
         };
     }
     TakenV {
         tag: with_state(t, waiting(w - 1, y)),
-        answer: AnswerV::Silent,
+        answer: Ok(None),
     }
 }

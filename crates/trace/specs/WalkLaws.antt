@@ -1,5 +1,5 @@
 -- Laws of the loop over the records: what is left of the check after a turn. Assumes nothing.
-use Rattle.std.specs.Prelude.{◌≡◌, refl, ℕ, zero, suc, ◌+◌, ◌-◌, ◌*◌, ◌≤◌, ◌<◌, Bool, true, false, cond, ◌&&◌, ◌||◌, List, length, leb, ltb}
+use Rattle.std.specs.Prelude.{◌≡◌, refl, ℕ, zero, suc, ◌+◌, ◌-◌, ◌*◌, ◌≤◌, ◌<◌, Bool, true, false, cond, ◌&&◌, ◌||◌, List, length, leb, ltb, Result, Ok, Err}
 use Rattle.std.proofs.Common.{sym, ap, ◌∙◌, arith, leb-false, ltb-false}
 use Rattle.std.proofs.lemmas.Bool.{false≢true}
 use Rattle.limits.specs.Limits.{most_cards}
@@ -13,13 +13,12 @@ use Rattle.reader.specs.declared.Reader.{Reader}
 use Rattle.reader.specs.declared.Turn.{Turn}
 use Rattle.refusal.specs.declared.Refusal.TheVariants.{Argument, NotDue}
 use Rattle.trace_rules.specs.declared.Checked.{Checked}
-use Rattle.trace_rules.specs.declared.Passed.{Passed}
-use Rattle.trace_rules.specs.declared.Passed.TheVariants.{Behind, Not}
 use Rattle.trace_rules.specs.declared.Place.{Place}
 use Rattle.trace_rules.specs.declared.Says.{Says}
 use Rattle.trace_rules.specs.declared.Says.TheVariants.{Goes, Content, Faults}
 use Rattle.trace_rules.specs.declared.Stepped.{Stepped}
 use Rattle.trace.specs.Loops.{is_going, goes_on, last_of}
+use Rattle.refusal.specs.declared.Refusal.{Refusal}
 
 -- ---- what is left after a turn that says s, i records being before it
 
@@ -91,14 +90,14 @@ few_answered l p at r Finishes h = go (ltb at (length l))
     go false = h
 few_answered l p at r (Declines e) h = h
 
-few_heard : (l : List ℕ) (p : Place) (x : Record) (q : Passed) → p.found ≤ most_cards → (heard_then l p x q).place.found ≤ most_cards
+few_heard : (l : List ℕ) (p : Place) (x : Record) (q : Result ℕ Refusal) → p.found ≤ most_cards → (heard_then l p x q).place.found ≤ most_cards
 unfolding turned
-few_heard l p x (Behind at) h = few_answered l p at (hear p.reader (heard_row l x)).reader (hear p.reader (heard_row l x)).answer h
-few_heard l p x (Not e) h = h
+few_heard l p x (Ok at) h = few_answered l p at (hear p.reader (heard_row l x)).reader (hear p.reader (heard_row l x)).answer h
+few_heard l p x (Err e) h = h
 
-few_sent : (w : ℕ) (l : List ℕ) (p : Place) (q : Passed) → p.found ≤ most_cards → (sent_then w l p q).place.found ≤ most_cards
-few_sent w l p (Behind at) h = few_heard l p (record_at w l at) (heard_passed (record_at w l at)) h
-few_sent w l p (Not e) h = h
+few_sent : (w : ℕ) (l : List ℕ) (p : Place) (q : Result ℕ Refusal) → p.found ≤ most_cards → (sent_then w l p q).place.found ≤ most_cards
+few_sent w l p (Ok at) h = few_heard l p (record_at w l at) (heard_passed (record_at w l at)) h
+few_sent w l p (Err e) h = h
 
 few_follow : (i : ℕ) (p : Place) (c : Checked) (x : Says) → p.found ≤ most_cards → c.found ≤ most_cards → (follow i p c x).found ≤ most_cards
 few_follow i p c Goes h k = k

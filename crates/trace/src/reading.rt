@@ -8,7 +8,6 @@ ghost use Rattle.trace.specs.Reads.{heard_bits, heard_of};
 
 use air_log::Record;
 use refusal::Refusal;
-use trace_rules::Passed;
 
 // The longest row that a record has.
 const MOST_BITS: usize = 8191;
@@ -17,7 +16,7 @@ const MOST_BITS: usize = 8191;
 #[derive(Clone, Copy)]
 pub struct Heard {
     pub bits: usize,
-    pub passed: Passed,
+    pub passed: Result<usize, Refusal>,
 }
 
 // The bits of a row that starts at a byte of the log, at the front of out.
@@ -64,7 +63,7 @@ fn holds(log: &[u8], start: usize, n: usize, row: &[u8]) -> bool
 }
 
 // A reader's record is due, with this frame.
-pub fn sent_at(log: &[u8], stamp: usize, at: usize, frame: &[u8]) -> Passed
+pub fn sent_at(log: &[u8], stamp: usize, at: usize, frame: &[u8]) -> Result<usize, Refusal>
     ensures { result ≡ sent_passed log.now frame.now (record_at stamp log.now at) }
 {
     let x = trace_reader::read_at(log, stamp, at);
@@ -75,29 +74,29 @@ pub fn sent_at(log: &[u8], stamp: usize, at: usize, frame: &[u8]) -> Passed
             next: next,
         } => {
             if holds(log, start, bits, frame) {
-                return Passed::Behind(next);
+                return Ok(next);
             }
-            Passed::Not(Refusal::Forbidden)
+            Err(Refusal::Forbidden)
         }
         Record::Clean {
             start: _,
             bits: _,
             next: _,
-        } => Passed::Not(Refusal::Forbidden),
+        } => Err(Refusal::Forbidden),
         Record::Collided {
             start: _,
             marks: _,
             bits: _,
             next: _,
-        } => Passed::Not(Refusal::Forbidden),
-        Record::Silence { next: _ } => Passed::Not(Refusal::Forbidden),
-        Record::End => Passed::Not(Refusal::Length),
-        Record::Cut => Passed::Not(Refusal::Length),
-        Record::Malformed => Passed::Not(Refusal::Forbidden),
+        } => Err(Refusal::Forbidden),
+        Record::Silence { next: _ } => Err(Refusal::Forbidden),
+        Record::End => Err(Refusal::Length),
+        Record::Cut => Err(Refusal::Length),
+        Record::Malformed => Err(Refusal::Forbidden),
     }
 }
 
-fn heard_of(bits: usize, passed: Passed) -> Heard
+fn heard_of(bits: usize, passed: Result<usize, Refusal>) -> Heard
     ensures { result ≡ heard_bits bits passed }
 {
     Heard {
@@ -118,14 +117,14 @@ pub fn heard_at(log: &[u8], stamp: usize, at: usize, row: &mut [u8]) -> Heard
             start: _,
             bits: _,
             next: _,
-        } => heard_of(0, Passed::Not(Refusal::Forbidden)),
+        } => heard_of(0, Err(Refusal::Forbidden)),
         Record::Clean {
             start: start,
             bits: bits,
             next: next,
         } => {
             put_bits(log, start, bits, row);
-            heard_of(bits, Passed::Behind(next))
+            heard_of(bits, Ok(next))
         }
         Record::Collided {
             start: start,
@@ -134,11 +133,11 @@ pub fn heard_at(log: &[u8], stamp: usize, at: usize, row: &mut [u8]) -> Heard
             next: next,
         } => {
             put_marked(log, start, marks, bits, row);
-            heard_of(bits, Passed::Behind(next))
+            heard_of(bits, Ok(next))
         }
-        Record::Silence { next: next } => heard_of(0, Passed::Behind(next)),
-        Record::End => heard_of(0, Passed::Not(Refusal::Length)),
-        Record::Cut => heard_of(0, Passed::Not(Refusal::Length)),
-        Record::Malformed => heard_of(0, Passed::Not(Refusal::Forbidden)),
+        Record::Silence { next: next } => heard_of(0, Ok(next)),
+        Record::End => heard_of(0, Err(Refusal::Length)),
+        Record::Cut => heard_of(0, Err(Refusal::Length)),
+        Record::Malformed => heard_of(0, Err(Refusal::Forbidden)),
     }
 }

@@ -12,7 +12,7 @@ use card::Card;
 use limits::MOST_CARDS;
 use reader::{Phase, Turn};
 use refusal::Refusal;
-use trace_rules::{Compared, Passed, Verdict};
+use trace_rules::{Compared, Verdict};
 
 // After an exchange of the sweep: the reader's turn, the cards, and the exchange's records held to those of the log.
 #[derive(Clone, Copy)]
@@ -32,8 +32,8 @@ fn heard_as(log: &[u8], stamp: usize, at: usize, heard: &[u8]) -> Compared
     let passed = h.passed;
     if rows::is_same(&row[..n], heard) {
         return match passed {
-            Passed::Behind(next) => Compared::Same(next),
-            Passed::Not(_) => Compared::Second,
+            Ok(next) => Compared::Same(next),
+            Err(_) => Compared::Second,
         };
     }
     Compared::Second
@@ -45,8 +45,8 @@ fn compare(log: &[u8], stamp: usize, at: usize, frame: &[u8], heard: &[u8]) -> C
 {
     let passed = crate::reading::sent_at(log, stamp, at, frame);
     match passed {
-        Passed::Behind(next) => heard_as(log, stamp, next, heard),
-        Passed::Not(_) => Compared::First,
+        Ok(next) => heard_as(log, stamp, next, heard),
+        Err(_) => Compared::First,
     }
 }
 

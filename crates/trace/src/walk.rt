@@ -9,7 +9,7 @@ use card::{Card, CardState};
 use limits::MOST_CARDS;
 use reader::{Answer, Phase, Reader, Turn};
 use refusal::Refusal;
-use trace_rules::{Checked, Passed, Place, Says, Stepped, Verdict};
+use trace_rules::{Checked, Place, Says, Stepped, Verdict};
 use uid::{Uid, UidSize};
 
 fn no_card() -> Card
@@ -171,8 +171,8 @@ fn heard_step(log: &[u8], stamp: usize, at: usize, p: Place) -> Stepped
     let passed = h.passed;
     let r = p.reader;
     match passed {
-        Passed::Behind(next) => turned(log, p, next, reader::within::hear_rules(r, &row[..n])),
-        Passed::Not(e) => faults(p, 1, e),
+        Ok(next) => turned(log, p, next, reader::within::hear_rules(r, &row[..n])),
+        Err(e) => faults(p, 1, e),
     }
 }
 
@@ -186,8 +186,8 @@ fn step(log: &[u8], stamp: usize, p: Place) -> Stepped
     let bits = reader::within::frame_bits(r);
     let passed = crate::reading::sent_at(log, stamp, p.at, &frame[..bits]);
     match passed {
-        Passed::Behind(at) => heard_step(log, stamp, at, p),
-        Passed::Not(e) => faults(p, 0, e),
+        Ok(at) => heard_step(log, stamp, at, p),
+        Err(e) => faults(p, 0, e),
     }
 }
 

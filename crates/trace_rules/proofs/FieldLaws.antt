@@ -1,5 +1,5 @@
 -- The cards that a check lists are a field that a sweep takes, all of them idle. Assumes nothing.
-use Rattle.std.specs.Prelude.{◌≡◌, refl, ℕ, zero, suc, ◌+◌, ◌≤◌, ◌<◌, Bool, true, false, cond, not, ◌&&◌, ◌||◌, List, [], ◌∷◌, ◌++◌, length, leb, ltb}
+use Rattle.std.specs.Prelude.{◌≡◌, refl, ℕ, zero, suc, ◌+◌, ◌≤◌, ◌<◌, Bool, true, false, cond, not, ◌&&◌, ◌||◌, List, [], ◌∷◌, ◌++◌, length, leb, ltb, Result, Ok, Err}
 use Rattle.std.proofs.Common.{sym, ◌∙◌, add-one, arith, length-set, take-suc-set, length-take-le, le-leb, leb-false}
 use Rattle.std.proofs.lemmas.Bool.{false≢true}
 use Rattle.rows.specs.ListLaws.{both, all_append, same_sound, same_refl}
@@ -21,13 +21,12 @@ use Rattle.trace_rules.specs.Trace.{heard_row, sent_passed, heard_passed, goes, 
 use Rattle.trace_rules.specs.Check.{cards_of}
 use Rattle.trace_rules.proofs.SweptLaws.{Sweeping, Stays, hear_stays, begin_sweeping}
 use Rattle.trace_rules.specs.declared.Checked.{Checked}
-use Rattle.trace_rules.specs.declared.Passed.{Passed}
-use Rattle.trace_rules.specs.declared.Passed.TheVariants.{Behind, Not}
 use Rattle.trace_rules.specs.declared.Place.{Place}
 use Rattle.trace_rules.specs.declared.Says.{Says}
 use Rattle.trace_rules.specs.declared.Says.TheVariants.{Goes, Content, Faults}
 use Rattle.trace_rules.specs.declared.Stepped.{Stepped}
 use Rattle.trace_rules.specs.declared.Verdict.TheVariants.{Clean}
+use Rattle.refusal.specs.declared.Refusal.{Refusal}
 
 -- ---- one card more
 
@@ -138,16 +137,16 @@ left_answered l p at r Selects q s v = tt
 left_answered l p at r Finishes q s v = left_ends l p at r q
 left_answered l p at r (Declines e) q s v = tt
 
-left_heard : (l : List ℕ) (p : Place) (x : Record) (k : Passed) → Sweeping p.reader → Listing p → Left (heard_then l p x k)
+left_heard : (l : List ℕ) (p : Place) (x : Record) (k : Result ℕ Refusal) → Sweeping p.reader → Listing p → Left (heard_then l p x k)
 unfolding turned
-left_heard l p x (Behind at) s q =
+left_heard l p x (Ok at) s q =
     let t = hear p.reader (heard_row l x) in
     left_answered l p at t.reader t.answer q (hear_stays p.reader s (heard_row l x)) (completed_valid p.reader s.five s.ten (heard_row l x))
-left_heard l p x (Not e) s q = tt
+left_heard l p x (Err e) s q = tt
 
-left_sent : (w : ℕ) (l : List ℕ) (p : Place) (k : Passed) → Sweeping p.reader → Listing p → Left (sent_then w l p k)
-left_sent w l p (Behind at) s q = left_heard l p (record_at w l at) (heard_passed (record_at w l at)) s q
-left_sent w l p (Not e) s q = tt
+left_sent : (w : ℕ) (l : List ℕ) (p : Place) (k : Result ℕ Refusal) → Sweeping p.reader → Listing p → Left (sent_then w l p k)
+left_sent w l p (Ok at) s q = left_heard l p (record_at w l at) (heard_passed (record_at w l at)) s q
+left_sent w l p (Err e) s q = tt
 
 left_step : (w : ℕ) (l : List ℕ) (p : Place) → Sweeping p.reader → Listing p → Left (step w l p)
 unfolding step

@@ -1,5 +1,5 @@
 -- The two records of an exchange, where a log has them: they are read as that exchange. Assumes nothing.
-use Rattle.std.specs.Prelude.{◌≡◌, refl, ℕ, ◌+◌, ◌*◌, ◌≤◌, ◌<◌, Bool, true, false, List, [], ◌∷◌, ◌++◌, length, drop}
+use Rattle.std.specs.Prelude.{◌≡◌, refl, ℕ, ◌+◌, ◌*◌, ◌≤◌, ◌<◌, Bool, true, false, List, [], ◌∷◌, ◌++◌, length, drop, Ok}
 use Rattle.std.proofs.Common.{sym, ap, ◌∙◌, arith, drop-drop, drop_at}
 use Rattle.rows.specs.ListLaws.{same_refl}
 use Rattle.rows.specs.Rows.{Bits, clean}
@@ -14,7 +14,6 @@ use Rattle.trace_rules.specs.Check.{compared}
 use Rattle.trace_rules.specs.HeardLaws.{Three, marked_back}
 use Rattle.trace_rules.specs.Promise.{Begins}
 use Rattle.trace_rules.specs.declared.Compared.TheVariants.{Same}
-use Rattle.trace_rules.specs.declared.Passed.TheVariants.{Behind}
 use Rattle.trace_rules.specs.declared.Place.{Place}
 
 -- an exchange whose records can be read
@@ -32,7 +31,7 @@ past l at s q e = sym (drop-drop (length s) at l) ∙ ap (drop (length s)) e ∙
 -- what was heard, by a record of a place
 record Heard (w : ℕ) (l : List ℕ) (at : ℕ) (h q : List ℕ) : Type 0 where
   next : ℕ
-  passed : heard_passed (record_at w l at) ≡ Behind next
+  passed : heard_passed (record_at w l at) ≡ Ok next
   row : heard_row l (record_at w l at) ≡ h
   behind : drop next l ≡ q
 
@@ -65,7 +64,7 @@ module _ (l : List ℕ) (at : ℕ) (x : List ℕ) where
 -- both records, from a place on
 record Both (w : ℕ) (l : List ℕ) (at : ℕ) (e : Exchange) (q : List ℕ) : Type 0 where
   middle : ℕ
-  sent : sent_passed l e.sent (record_at w l at) ≡ Behind middle
+  sent : sent_passed l e.sent (record_at w l at) ≡ Ok middle
   heard : Heard w l middle e.heard q
 
 both_there : (w : ℕ) (l : List ℕ) (at : ℕ) (e : Exchange) (F : List ℕ → Type 0) → Readable e → (b : Begins w F e (drop at l)) → Both w l at e b.rest

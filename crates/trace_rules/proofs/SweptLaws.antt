@@ -1,5 +1,5 @@
 -- The reader of a sweep stays one: what it sends are the frames of a sweep, and its rows keep their lengths. Assumes nothing.
-use Rattle.std.specs.Prelude.{◌≡◌, ℕ, ◌+◌, ◌-◌, ◌*◌, ◌/◌, ◌≤◌, ◌<◌, Bool, true, false, cond, not, ◌&&◌, List, [], ◌++◌, length, take, drop, get_or, eqb, ltb}
+use Rattle.std.specs.Prelude.{◌≡◌, ℕ, ◌+◌, ◌-◌, ◌*◌, ◌/◌, ◌≤◌, ◌<◌, Bool, true, false, cond, not, ◌&&◌, List, [], ◌++◌, length, take, drop, get_or, eqb, ltb, Result, Ok, Err}
 use Rattle.std.proofs.Math.Path.{refl}
 use Rattle.std.proofs.Common.{arith, length-append, length-take, length-drop}
 use Rattle.rows.specs.EachLaws.{length_fill}
@@ -13,13 +13,9 @@ use Rattle.selection.specs.Selection.{cut}
 use Rattle.selection.specs.SelectionLaws.{length_reqa, length_hlta, length_anti, length_select}
 use Rattle.reader.specs.Reader.{frame_in, frame, uid, reader, blank, sends, finds, opens, longer, completes, after_atqa, hear_atqa, after_rest, hear_rest, after_sak, b3, contradicts, sak_heard, hear_sak, hear_silence, hear_in, hear}
 use Rattle.refusal.specs.declared.Refusal.TheVariants.{Silence, Length, Parity, Check, Collision}
-use Rattle.selection.specs.declared.AtqaRead.{AtqaRead}
-use Rattle.selection.specs.declared.AtqaRead.TheVariants.{Atqa, NotAtqa}
 use Rattle.selection.specs.declared.Rest.{Rest}
 use Rattle.selection.specs.declared.RestSays.{RestSays}
 use Rattle.selection.specs.declared.RestSays.TheVariants.{Whole, Collided, NotRest}
-use Rattle.selection.specs.declared.SakRead.{SakRead}
-use Rattle.selection.specs.declared.SakRead.TheVariants.{Sak, NotSak}
 use Rattle.uid.specs.declared.Level.{Level}
 use Rattle.uid.specs.declared.Level.TheVariants.{One, Two, Three}
 use Rattle.uid.specs.declared.Uid.{Uid}
@@ -30,6 +26,7 @@ use Rattle.reader.specs.declared.Reader.{Reader}
 use Rattle.reader.specs.declared.Answer.{Answer}
 use Rattle.reader.specs.declared.Answer.TheVariants.{Sends, Finds, Selects, Finishes, Declines}
 use Rattle.reader.specs.declared.Turn.{Turn}
+use Rattle.refusal.specs.declared.Refusal.{Refusal}
 
 -- REQA, ANTICOLLISION, SELECT or HLTA is out
 abbrev pub InSweep : Phase → Type 0
@@ -137,9 +134,9 @@ unfolding sends
 begin_stays = record { phase_ok = tt; sweeps = refl; five = refl; ten = none_ten; few = tt }
 
 module _ (r : Reader) (q : Sweeping r) (h : List ℕ) where
-  atqa_stays : (a : AtqaRead) → Stays (after_atqa r.sweeps a)
-  atqa_stays Atqa = opens_stays One r.sweeps (uid Single []) q.sweeps none_ten
-  atqa_stays (NotAtqa e) = tt
+  atqa_stays : (a : Result Unit Refusal) → Stays (after_atqa r.sweeps a)
+  atqa_stays (Ok tt) = opens_stays One r.sweeps (uid Single []) q.sweeps none_ten
+  atqa_stays (Err e) = tt
 
   rest_stays : (l : Level) (s : RestSays) → (read_rest r.known r.five h).says ≡ s → Stays (after_rest l r (read_rest r.known r.five h) s)
   unfolding sends
@@ -156,9 +153,9 @@ module _ (r : Reader) (q : Sweeping r) (h : List ℕ) where
   after_stays Two b false = completes_stays r.sweeps _ b (ten_longer Two r 0)
   after_stays Three b false = completes_stays r.sweeps _ b (ten_longer Three r 0)
 
-  sak_stays : (l : Level) (a : SakRead) → Stays (sak_heard l r a)
-  sak_stays l (Sak b) = either (contradicts l (b3 b) (get_or r.five 0 0)) _ _ tt (after_stays l b (b3 b))
-  sak_stays l (NotSak e) = tt
+  sak_stays : (l : Level) (a : Result ℕ Refusal) → Stays (sak_heard l r a)
+  sak_stays l (Ok b) = either (contradicts l (b3 b) (get_or r.five 0 0)) _ _ tt (after_stays l b (b3 b))
+  sak_stays l (Err e) = tt
 
   in_stays : (p : Phase) → InSweep p → Stays (hear_in p r h)
   unfolding hear_atqa hear_rest hear_sak hear_silence

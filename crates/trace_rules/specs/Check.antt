@@ -1,7 +1,7 @@
 -- T-12: the check of a whole log. "If the reader is content throughout, it is the first record that differs from the sweep over the listed cards (speaking
 -- blocks where the last SAK is 20), with 9." "The first input byte, ahead of the log, is 0 for one without ticks, 1 with; another or none is 6 at 0; a log over
 -- 40,960 bytes is 1 at 0, ahead of all."
-use Rattle.std.specs.Prelude.{ℕ, suc, ◌+◌, cond, ◌||◌, List, [], ◌∷◌, ◌++◌, length, take, drop, get_or, leb, ltb}
+use Rattle.std.specs.Prelude.{ℕ, suc, ◌+◌, cond, ◌||◌, List, [], ◌∷◌, ◌++◌, length, take, drop, get_or, leb, ltb, Result, Ok, Err}
 use Rattle.rows.specs.Rows.{same, is_nil}
 use Rattle.limits.specs.Limits.{log_room}
 use Rattle.refusal.specs.Refusal.{Said, giving, number_of, place_of}
@@ -16,8 +16,6 @@ use Rattle.refusal.specs.declared.Refusal.TheVariants.{Room, Argument, Forbidden
 use Rattle.trace_rules.specs.declared.Verdict.{Verdict}
 use Rattle.trace_rules.specs.declared.Verdict.TheVariants.{Clean, Fault}
 use Rattle.trace_rules.specs.declared.Checked.{Checked}
-use Rattle.trace_rules.specs.declared.Passed.{Passed}
-use Rattle.trace_rules.specs.declared.Passed.TheVariants.{Behind, Not}
 use Rattle.trace_rules.specs.declared.Compared.{Compared}
 use Rattle.trace_rules.specs.declared.Compared.TheVariants.{Same, First, Second}
 use Rattle.trace_rules.specs.Trace.{stamp_size, heard_row, sent_passed, heard_passed, start, checked, walk}
@@ -25,17 +23,17 @@ use Rattle.trace_rules.specs.Trace.{stamp_size, heard_row, sent_passed, heard_pa
 -- ---- the sweep over the listed cards
 
 -- the record x holds the row h as what was heard
-abbrev pub heard_as : List ℕ → List ℕ → Record → Passed
-heard_as l h x = cond (same (heard_row l x) h) (heard_passed x) (Not Forbidden)
+abbrev pub heard_as : List ℕ → List ℕ → Record → Result ℕ Refusal
+heard_as l h x = cond (same (heard_row l x) h) (heard_passed x) (Err Forbidden)
 
 -- the two records of an exchange, held to those at a place
-abbrev pub heard_compared : Passed → Compared
-heard_compared (Behind at) = Same at
-heard_compared (Not e) = Second
+abbrev pub heard_compared : Result ℕ Refusal → Compared
+heard_compared (Ok at) = Same at
+heard_compared (Err e) = Second
 
-abbrev pub sent_compared : ℕ → List ℕ → List ℕ → Passed → Compared
-sent_compared w l h (Behind at) = heard_compared (heard_as l h (record_at w l at))
-sent_compared w l h (Not e) = First
+abbrev pub sent_compared : ℕ → List ℕ → List ℕ → Result ℕ Refusal → Compared
+sent_compared w l h (Ok at) = heard_compared (heard_as l h (record_at w l at))
+sent_compared w l h (Err e) = First
 
 unfoldable pub compared : ℕ → List ℕ → Exchange → ℕ → Compared
 compared w l e at = sent_compared w l e.heard (sent_passed l e.sent (record_at w l at))

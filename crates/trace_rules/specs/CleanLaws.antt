@@ -2,7 +2,7 @@
 use Rattle.std.proofs.Math.Path.{◌≡◌, refl, ap}
 use Rattle.std.proofs.Common.{◌∙◌, arith, leb-true}
 use Prim.Native.Nat.{ℕ, zero, suc, ◌+◌, ◌<◌}
-use Rattle.std.specs.Prelude.{Bool, length, get_or}
+use Rattle.std.specs.Prelude.{Bool, length, get_or, Result, Ok, Err}
 use Rattle.std.proofs.Math.Bool.{true, false, cond}
 use mathlib.Core.List.{List, [], ◌∷◌, ◌++◌}
 use Rattle.std.proofs.Math.Dec.{leb}
@@ -21,9 +21,8 @@ use Rattle.trace_rules.specs.BytesBackLaws.{stamp, stamp_wide, sent_again, clean
 use Rattle.trace_rules.specs.WholeLaws.{Whole, whole}
 use Rattle.trace_rules.specs.declared.Compared.{Compared}
 use Rattle.trace_rules.specs.declared.Compared.TheVariants.{Same, First, Second}
-use Rattle.trace_rules.specs.declared.Passed.{Passed}
-use Rattle.trace_rules.specs.declared.Passed.TheVariants.{Behind, Not}
 use Rattle.trace_rules.specs.declared.Verdict.TheVariants.{Clean, Fault}
+use Rattle.refusal.specs.declared.Refusal.{Refusal}
 
 -- a byte of a log; 0 past its end
 pub byte_at : (l : List ℕ) (i : ℕ) → Bytes l → get_or l i 0 < 256
@@ -38,10 +37,10 @@ record Read (w : ℕ) (l : List ℕ) (at next : ℕ) (F : List ℕ → List ℕ)
   bytes : drop at l ≡ F stamp_is ++ drop next l
 
 module _ (w : ℕ) (l : List ℕ) (b : Bytes l) (at : ℕ) where
-  sent_read : (f : List ℕ) (next : ℕ) (x : Record) → Whole w l at x → sent_passed l f x ≡ Behind next → Read w l at next (λ s. sent_record s f)
+  sent_read : (f : List ℕ) (next : ℕ) (x : Record) → Whole w l at x → sent_passed l f x ≡ Ok next → Read w l at next (λ s. sent_record s f)
   sent_read f next (Sent start n end) h e = go (same (row_at l start n) f) refl e
     where
-      go : (t : Bool) → same (row_at l start n) f ≡ t → cond t (Behind end) (Not Forbidden) ≡ Behind next → Read w l at next (λ s. sent_record s f)
+      go : (t : Bool) → same (row_at l start n) f ≡ t → cond t (Ok end) (Err Forbidden) ≡ Ok next → Read w l at next (λ s. sent_record s f)
       go true q e =
           let k : end ≡ next = cc in
           record {
@@ -57,7 +56,7 @@ module _ (w : ℕ) (l : List ℕ) (b : Bytes l) (at : ℕ) where
   sent_read f next Cut h e = let z : ◌≡◌ {A = ℕ} 0 1 = cc in absurd (omega arith)
   sent_read f next Malformed h e = let z : ◌≡◌ {A = ℕ} 0 1 = cc in absurd (omega arith)
 
-  heard_read : (next : ℕ) (x : Record) → Whole w l at x → heard_passed x ≡ Behind next → Read w l at next (λ s. heard_record s (heard_row l x))
+  heard_read : (next : ℕ) (x : Record) → Whole w l at x → heard_passed x ≡ Ok next → Read w l at next (λ s. heard_record s (heard_row l x))
   heard_read next (Sent start n end) h e = let z : ◌≡◌ {A = ℕ} 0 1 = cc in absurd (omega arith)
   heard_read next (Plain start n end) h e =
       let k : end ≡ next = cc in
@@ -84,13 +83,13 @@ module _ (w : ℕ) (l : List ℕ) (b : Bytes l) (at : ℕ) where
   heard_read next Cut h e = let z : ◌≡◌ {A = ℕ} 0 1 = cc in absurd (omega arith)
   heard_read next Malformed h e = let z : ◌≡◌ {A = ℕ} 0 1 = cc in absurd (omega arith)
 
-  heard_as_law : (f : List ℕ) (next : ℕ) → heard_as l f (record_at w l at) ≡ Behind next → Read w l at next (λ s. heard_record s f)
+  heard_as_law : (f : List ℕ) (next : ℕ) → heard_as l f (record_at w l at) ≡ Ok next → Read w l at next (λ s. heard_record s f)
   heard_as_law f next e = go (same (heard_row l x) f) refl e
     where
       x : Record
       x = record_at w l at
 
-      go : (t : Bool) → same (heard_row l x) f ≡ t → cond t (heard_passed x) (Not Forbidden) ≡ Behind next → Read w l at next (λ s. heard_record s f)
+      go : (t : Bool) → same (heard_row l x) f ≡ t → cond t (heard_passed x) (Err Forbidden) ≡ Ok next → Read w l at next (λ s. heard_record s f)
       go true q e = rw (same_sound (heard_row l x) f q) at (heard_read next x (whole w l at (byte_at l at b)) e)
       go false q e = let z : ◌≡◌ {A = ℕ} 0 1 = cc in absurd (omega arith)
 
@@ -105,15 +104,15 @@ module _ (w : ℕ) (l : List ℕ) (b : Bytes l) where
   unfolding compared
   compared_says at next e h = go (sent_passed l e.sent (record_at w l at)) refl h
     where
-      go₂ : (m : ℕ) → sent_passed l e.sent (record_at w l at) ≡ Behind m → (p : Passed) → heard_as l e.heard (record_at w l m) ≡ p → heard_compared p ≡ Same next → Both w l at next e
-      go₂ m q (Behind n) r h =
+      go₂ : (m : ℕ) → sent_passed l e.sent (record_at w l at) ≡ Ok m → (p : Result ℕ Refusal) → heard_as l e.heard (record_at w l m) ≡ p → heard_compared p ≡ Same next → Both w l at next e
+      go₂ m q (Ok n) r h =
           let k : n ≡ next = cc in
           record { middle = m; sent = sent_read w l b at e.sent m (record_at w l at) (whole w l at (byte_at l at b)) q; heard = heard_as_law w l b m e.heard next (rw (← k) r) }
-      go₂ m q (Not x) r h = let z : ◌≡◌ {A = ℕ} 0 1 = cc in absurd (omega arith)
+      go₂ m q (Err x) r h = let z : ◌≡◌ {A = ℕ} 0 1 = cc in absurd (omega arith)
 
-      go : (p : Passed) → sent_passed l e.sent (record_at w l at) ≡ p → sent_compared w l e.heard p ≡ Same next → Both w l at next e
-      go (Behind m) q h = go₂ m q (heard_as l e.heard (record_at w l m)) refl h
-      go (Not x) q h = let z : ◌≡◌ {A = ℕ} 0 1 = cc in absurd (omega arith)
+      go : (p : Result ℕ Refusal) → sent_passed l e.sent (record_at w l at) ≡ p → sent_compared w l e.heard p ≡ Same next → Both w l at next e
+      go (Ok m) q h = go₂ m q (heard_as l e.heard (record_at w l m)) refl h
+      go (Err x) q h = let z : ◌≡◌ {A = ℕ} 0 1 = cc in absurd (omega arith)
 
   -- a log that does not differ from some exchanges has just their records
   pub log_of : (i : ℕ) (es : List Exchange) (at : ℕ) → differs w l i es at ≡ Clean → LogOf w es (drop at l)

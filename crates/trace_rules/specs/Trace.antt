@@ -2,7 +2,7 @@
 -- reader declines, with its number; a reader frame that ours would not have sent, or a record malformed or out of turn, is 9 ahead of the reader's tests,
 -- a card that is repeated or past the limit is 6 at its last SAK, and bytes after the end, cut or not, are 11." "A cut record, ahead of its other faults, or a
 -- log that stops before the sweep's end, is 2 at that index."
-use Rattle.std.specs.Prelude.{ℕ, zero, suc, ◌+◌, Bool, true, false, cond, ◌||◌, List, [], ◌∷◌, length, take, replicate, set, eqb, leb, ltb}
+use Rattle.std.specs.Prelude.{ℕ, zero, suc, ◌+◌, Bool, true, false, cond, ◌||◌, List, [], ◌∷◌, length, take, replicate, set, eqb, leb, ltb, Result, Ok, Err}
 use Rattle.rows.specs.Rows.{any, same}
 use Rattle.limits.specs.Limits.{most_cards}
 use Rattle.uid.specs.Uid.{uid_bytes}
@@ -25,8 +25,6 @@ use Rattle.uid.specs.declared.UidSize.TheVariants.{Single}
 use Rattle.trace_rules.specs.declared.Verdict.{Verdict}
 use Rattle.trace_rules.specs.declared.Verdict.TheVariants.{Clean as Good, Fault}
 use Rattle.trace_rules.specs.declared.Checked.{Checked}
-use Rattle.trace_rules.specs.declared.Passed.{Passed}
-use Rattle.trace_rules.specs.declared.Passed.TheVariants.{Behind, Not}
 use Rattle.trace_rules.specs.declared.Place.{Place}
 use Rattle.trace_rules.specs.declared.Says.{Says}
 use Rattle.trace_rules.specs.declared.Says.TheVariants.{Goes, Content, Faults}
@@ -55,24 +53,24 @@ heard_row l Cut = []
 heard_row l Malformed = []
 
 -- the reader's frame f is due
-abbrev pub sent_passed : List ℕ → List ℕ → Record → Passed
-sent_passed l f (Sent start bits next) = cond (same (row_at l start bits) f) (Behind next) (Not Forbidden)
-sent_passed l f (Clean start bits next) = Not Forbidden
-sent_passed l f (Collided start marks bits next) = Not Forbidden
-sent_passed l f (Silence next) = Not Forbidden
-sent_passed l f End = Not Length
-sent_passed l f Cut = Not Length
-sent_passed l f Malformed = Not Forbidden
+abbrev pub sent_passed : List ℕ → List ℕ → Record → Result ℕ Refusal
+sent_passed l f (Sent start bits next) = cond (same (row_at l start bits) f) (Ok next) (Err Forbidden)
+sent_passed l f (Clean start bits next) = Err Forbidden
+sent_passed l f (Collided start marks bits next) = Err Forbidden
+sent_passed l f (Silence next) = Err Forbidden
+sent_passed l f End = Err Length
+sent_passed l f Cut = Err Length
+sent_passed l f Malformed = Err Forbidden
 
 -- what was heard is due
-abbrev pub heard_passed : Record → Passed
-heard_passed (Sent start bits next) = Not Forbidden
-heard_passed (Clean start bits next) = Behind next
-heard_passed (Collided start marks bits next) = Behind next
-heard_passed (Silence next) = Behind next
-heard_passed End = Not Length
-heard_passed Cut = Not Length
-heard_passed Malformed = Not Forbidden
+abbrev pub heard_passed : Record → Result ℕ Refusal
+heard_passed (Sent start bits next) = Err Forbidden
+heard_passed (Clean start bits next) = Ok next
+heard_passed (Collided start marks bits next) = Ok next
+heard_passed (Silence next) = Ok next
+heard_passed End = Err Length
+heard_passed Cut = Err Length
+heard_passed Malformed = Err Forbidden
 
 -- ---- two records: the frame that the reader has sent, and what was heard
 
@@ -126,13 +124,13 @@ unfoldable pub turned : List ℕ → Place → ℕ → Turn → Stepped
 turned l p at t = answered l p at t.reader t.answer
 
 -- what was heard stands in a record
-abbrev pub heard_then : List ℕ → Place → Record → Passed → Stepped
-heard_then l p x (Behind next) = turned l p next (hear p.reader (heard_row l x))
-heard_then l p x (Not e) = faults p 1 e
+abbrev pub heard_then : List ℕ → Place → Record → Result ℕ Refusal → Stepped
+heard_then l p x (Ok next) = turned l p next (hear p.reader (heard_row l x))
+heard_then l p x (Err e) = faults p 1 e
 
-abbrev pub sent_then : ℕ → List ℕ → Place → Passed → Stepped
-sent_then w l p (Behind at) = heard_then l p (record_at w l at) (heard_passed (record_at w l at))
-sent_then w l p (Not e) = faults p 0 e
+abbrev pub sent_then : ℕ → List ℕ → Place → Result ℕ Refusal → Stepped
+sent_then w l p (Ok at) = heard_then l p (record_at w l at) (heard_passed (record_at w l at))
+sent_then w l p (Err e) = faults p 0 e
 
 -- in a log l whose records have stamps of w bytes
 unfoldable pub step : ℕ → List ℕ → Place → Stepped

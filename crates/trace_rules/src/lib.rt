@@ -24,13 +24,6 @@ pub struct Checked {
     pub found: usize,
 }
 
-// A record where one is due: passed, with the place behind it; or why it is at fault.
-#[derive(Clone, Copy)]
-pub enum Passed {
-    Behind(usize),
-    Not(Refusal),
-}
-
 // Where a check is: a reader's record is due at a place of the log, the reader has sent its frame, and so many cards were found.
 #[derive(Clone, Copy)]
 pub struct Place {

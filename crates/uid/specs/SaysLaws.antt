@@ -1,13 +1,14 @@
 -- What the calls answer, in the numbers of document 01's table: which number is given when. Assumes nothing.
-use Rattle.std.specs.Prelude.{◌≡◌, refl, ℕ, ◌-◌, ◌≤◌, ◌<◌, Bool, true, false, cond, not, ◌&&◌, ◌||◌, List, [], ◌∷◌, length, get_or, replicate, eqb}
+use Rattle.std.specs.Prelude.{◌≡◌, refl, ℕ, ◌-◌, ◌≤◌, ◌<◌, Bool, true, false, cond, not, ◌&&◌, ◌||◌, List, [], ◌∷◌, length, get_or, replicate, eqb, Result, Err}
 use Rattle.std.proofs.Common.{ap, ◌∙◌, lt-ltb, le-ltb, eqb-true, arith}
 use Rattle.std.proofs.Math.ListN.{get_or-append}
 use Rattle.rows.specs.Rows.{fill}
-use Rattle.refusal.specs.Refusal.{giving, declining, decline_if}
+use Rattle.refusal.specs.Refusal.{giving, declining, decline_if, made_says}
 use Rattle.uid.specs.Uid.{valid, row_of}
-use Rattle.uid.specs.Calls.{sized, refused_uid, checked, new_uid, valid_bytes, made_says, new_says, air_says}
+use Rattle.uid.specs.Calls.{sized, checked, new_uid, valid_bytes, new_says, air_says}
 use Rattle.uid.specs.declared.Uid.{Uid}
-use Rattle.uid.specs.declared.NewUid.{NewUid}
+use Rattle.refusal.specs.declared.Refusal.{Refusal}
+use Rattle.refusal.specs.declared.Refusal.TheVariants.{Argument}
 use Rattle.uid.specs.declared.UidSize.TheVariants.{Single, Double, Triple}
 
 -- ---- the on-air row: 1, "lent room shorter than asked", and only then
@@ -20,7 +21,7 @@ air_has_room room u h = rw (le-ltb room 120 h)
 
 -- ---- a UID from bytes: 6, "invalid .. UID", and only then
 
-checked_says_law : (u : Uid) (b : Bool) → valid u ≡ b → made_says (checked u).made ≡ decline_if (not b) 6 (giving [])
+checked_says_law : (u : Uid) (b : Bool) → valid u ≡ b → made_says (checked u) ≡ decline_if (not b) 6 (giving [])
 unfolding checked
 checked_says_law u true e = rw e
 checked_says_law u false e = rw e
@@ -30,7 +31,7 @@ fill_at_law : (l : List ℕ) (i : ℕ) → i < length l → get_or (fill 10 l) i
 unfolding fill
 fill_at_law l i h = get_or-append l (replicate (10 - length l) 0) 0 i h
 
-pub new_says_law : (l : List ℕ) → made_says (new_uid l).made ≡ new_says l
+pub new_says_law : (l : List ℕ) → made_says (new_uid l) ≡ new_says l
 unfolding new_uid valid_bytes valid
 new_says_law l = go (eqb (length l) 4) (eqb (length l) 7) (eqb (length l) 10) refl refl refl
   where
@@ -49,7 +50,7 @@ new_says_law l = go (eqb (length l) 4) (eqb (length l) 7) (eqb (length l) 10) re
     second false = refl
 
     go : (a b c : Bool) → eqb (length l) 4 ≡ a → eqb (length l) 7 ≡ b → eqb (length l) 10 ≡ c
-        → made_says (cond a (checked (sized Single l)) (cond b (checked (sized Double l)) (cond c (checked (sized Triple l)) refused_uid))).made
+        → made_says (cond a (checked (sized Single l)) (cond b (checked (sized Double l)) (cond c (checked (sized Triple l)) (Err Argument))))
         ≡ decline_if (not (a && u0 || b && u3 || c)) 6 (giving [])
     go true true c e f g = absurd (omega (arith, eqb-true (length l) 4 e, eqb-true (length l) 7 f))
     go true false true e f g = absurd (omega (arith, eqb-true (length l) 4 e, eqb-true (length l) 10 g))
@@ -62,5 +63,5 @@ new_says_law l = go (eqb (length l) 4) (eqb (length l) 7) (eqb (length l) 10) re
     go false false false e f g = refl
 
 -- a UID that is made as the definition makes it says what the definition says
-pub made_says_law : (l : List ℕ) (r : NewUid) → r ≡ new_uid l → (r ≡ new_uid l) × (made_says r.made ≡ new_says l)
-made_says_law l r e = (e, ap (λ (x : NewUid). made_says x.made) e ∙ new_says_law l)
+pub made_says_law : (l : List ℕ) (r : Result Uid Refusal) → r ≡ new_uid l → (r ≡ new_uid l) × (made_says r ≡ new_says l)
+made_says_law l r e = (e, ap made_says e ∙ new_says_law l)

@@ -4,7 +4,8 @@
 ghost use Rattle.std.specs.Prelude.{◌≡◌, [], ◌∷◌, length};
 ghost use Rattle.rows.specs.Rows.{same};
 ghost use Rattle.uid.specs.Uid.{level_count, byte_count, uid_bytes, check, three_levels, valid};
-ghost use Rattle.uid.specs.Calls.{new_uid, made_says, new_says, air_row_says, air_says, air_row_after};
+ghost use Rattle.uid.specs.Calls.{new_uid, new_says, air_says, air_row_after};
+ghost use Rattle.refusal.specs.Refusal.{made_says, number_says};
 
 use refusal::Refusal;
 
@@ -32,27 +33,6 @@ pub enum Level {
 pub struct Uid {
     pub size: UidSize,
     pub bytes: [u8; 10],
-}
-
-// Whether something could be made of what was handed in.
-#[derive(Clone, Copy)]
-pub enum Made {
-    Good,
-    NotMade(Refusal),
-}
-
-// A UID from bytes; where it is refused the UID is four zeros.
-#[derive(Clone, Copy)]
-pub struct NewUid {
-    pub uid: Uid,
-    pub made: Made,
-}
-
-// Bits of the on-air row that were written at the front of the lent row; or why not, and the row is unchanged.
-#[derive(Clone, Copy)]
-pub enum AirRow {
-    Bits(usize),
-    NoRoom(Refusal),
 }
 
 // The number of levels of a UID of this size.
@@ -124,23 +104,16 @@ pub fn is_valid(u: Uid) -> bool
 }
 
 // A UID from bytes, or 6: "one of these lengths", and the rest of what valid means.
-pub fn new_uid(bytes: &[u8]) -> NewUid
+pub fn new_uid(bytes: &[u8]) -> Result<Uid, Refusal>
     ensures value { result ≡ new_uid bytes.now }
-    ensures made_value { made_says result.made ≡ new_says bytes.now }
+    ensures made_value { made_says result ≡ new_says bytes.now }
 {
-    if bytes.len() == 4 {
-        let u = within::sized(UidSize::Single, bytes);
-        return within::checked(u);
+    match bytes.len() {
+        4 => within::checked(within::sized(UidSize::Single, bytes)),
+        7 => within::checked(within::sized(UidSize::Double, bytes)),
+        10 => within::checked(within::sized(UidSize::Triple, bytes)),
+        _ => Err(Refusal::Argument),
     }
-    if bytes.len() == 7 {
-        let u = within::sized(UidSize::Double, bytes);
-        return within::checked(u);
-    }
-    if bytes.len() == 10 {
-        let u = within::sized(UidSize::Triple, bytes);
-        return within::checked(u);
-    }
-    within::refused_uid()
 }
 
 // Are two UIDs the same, in length and in each byte that counts?
@@ -157,16 +130,16 @@ pub fn same_uid(a: Uid, b: Uid) -> bool
 }
 
 // "The on-air row of a UID is its levels in air order, parity left out". It asks for room for the longest.
-pub fn air_row(u: Uid, out: &mut [u8]) -> AirRow
-    ensures result_value { air_row_says result ≡ air_says (length out.old) u }
+pub fn air_row(u: Uid, out: &mut [u8]) -> Result<usize, Refusal>
+    ensures result_value { number_says result ≡ air_says (length out.old) u }
     ensures out_after { out.new ≡ air_row_after result u out.old }
 {
     if out.len() < 120 {
-        return AirRow::NoRoom(Refusal::Room);
+        return Err(Refusal::Room);
     }
     let s = u.size;
     let n = level_count(s);
     let ls = levels(u);
     within::put_levels(out, ls, n);
-    AirRow::Bits(40 * n)
+    Ok(40 * n)
 }

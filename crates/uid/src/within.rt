@@ -3,9 +3,9 @@ ghost use Rattle.std.specs.Prelude.{◌≡◌, [], ◌∷◌, map, ◌+◌, ◌*
 ghost use Rattle.rows.specs.Rows.{overlay};
 ghost use Rattle.frame.specs.Frame.{air_bits};
 ghost use Rattle.uid.specs.Uid.{level, air};
-ghost use Rattle.uid.specs.Calls.{sized, checked, refused_uid};
+ghost use Rattle.uid.specs.Calls.{sized, checked};
 
-use super::{Made, NewUid, Uid, UidSize};
+use super::{Uid, UidSize};
 use refusal::Refusal;
 
 // A level's five bytes, from its four.
@@ -28,32 +28,15 @@ pub fn sized(size: UidSize, bytes: &[u8]) -> Uid
     }
 }
 
-// What is handed back where no UID can be made: 6.
-pub fn refused_uid() -> NewUid
-    ensures { result ≡ refused_uid }
-{
-    let zeros = [0u8; 10];
-    let none = Uid {
-        size: UidSize::Single,
-        bytes: zeros,
-    };
-    NewUid {
-        uid: none,
-        made: Made::NotMade(Refusal::Argument),
-    }
-}
-
 // A UID that is valid, or 6.
-pub fn checked(u: Uid) -> NewUid
+pub fn checked(u: Uid) -> Result<Uid, Refusal>
     ensures { result ≡ checked u }
 {
     if super::is_valid(u) {
-        return NewUid {
-            uid: u,
-            made: Made::Good,
-        };
+        Ok(u)
+    } else {
+        Err(Refusal::Argument)
     }
-    refused_uid()
 }
 
 // A level in air order, parity left out, written into out from index at on.

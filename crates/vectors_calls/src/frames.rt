@@ -1,8 +1,7 @@
 // Frames written and read, and a UID's on-air row, with so much room.
+use refusal::Refusal;
 use crate::Given;
 use bench_talk::Answer;
-use frame::{Received, Written};
-use uid::AirRow;
 
 // `write ROOM BYTES`, `write_crc ROOM BYTES`, `write_short ROOM`, `read ROOM`, `read_crc ROOM`, `air_row ROOM`
 pub fn line(k: usize, g: Given) -> Answer {
@@ -38,10 +37,10 @@ fn write_short(room: usize) -> Answer {
     written(frame::write_short(0x26, bench_talk::room(&mut row, room)))
 }
 
-fn written(w: Written) -> Answer {
+fn written(w: Result<usize, Refusal>) -> Answer {
     match w {
-        Written::Bits(n) => count(0, n),
-        Written::NotWritten(e) => bench_lines::refused(e),
+        Ok(n) => count(0, n),
+        Err(e) => bench_lines::refused(e),
     }
 }
 
@@ -58,10 +57,10 @@ fn read_crc(room: usize) -> Answer {
     received(frame::read_crc(&hlta, bench_talk::room(&mut bytes, room)))
 }
 
-fn received(r: Received) -> Answer {
+fn received(r: Result<usize, Refusal>) -> Answer {
     match r {
-        Received::Bytes(n) => count(1, n),
-        Received::NotReceived(e) => bench_lines::refused(e),
+        Ok(n) => count(1, n),
+        Err(e) => bench_lines::refused(e),
     }
 }
 
@@ -71,7 +70,7 @@ fn air_row(room: usize) -> Answer {
     let u = new.uid;
     let r = uid::air_row(u, bench_talk::room(&mut row, room));
     match r {
-        AirRow::Bits(n) => count(0, n),
-        AirRow::NoRoom(e) => bench_lines::refused(e),
+        Ok(n) => count(0, n),
+        Err(e) => bench_lines::refused(e),
     }
 }

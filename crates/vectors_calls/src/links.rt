@@ -2,7 +2,6 @@
 use crate::Given;
 use bench_talk::Answer;
 use card_link::{CardTurn, LinkCard};
-use frame::Written;
 use reader_link::{LinkAnswer, LinkReader, LinkTurn};
 
 // A row: so many bits at the front.
@@ -48,7 +47,7 @@ fn frame_of(hex: &[u8]) -> Row {
         return Row { bits, count: 0 };
     }
     let w = frame::write_crc(bench::front(&bytes, n), &mut bits);
-    let Written::Bits(count) = w else {
+    let Ok(count) = w else {
         return Row { bits, count: 0 };
     };
     Row { bits, count }

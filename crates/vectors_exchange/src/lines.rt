@@ -3,7 +3,6 @@ use crate::exchanges::Given;
 use crate::{Bench, Reply, answers, exchanges, losses};
 use bench_ends::Ends;
 use card_link::LinkCard;
-use uid::Made;
 
 pub fn script(bench: Bench, text: &[u8]) -> Reply {
     let k = bench_talk::which(b"ends exchange lossy", 3, bench::word(text, 0));
@@ -37,12 +36,9 @@ fn new_ends(bench: Bench, text: &[u8]) -> Reply {
         return none(bench);
     }
     let bytes = w.uid;
-    let new = card_link::whole::new_card(bench::front(&bytes, w.length), w.blocks, w.index);
-    let made = new.made;
-    let card = new.card;
-    match made {
-        Made::Good => opened(bench, card, bench_lines::within_byte(index)),
-        Made::NotMade(e) => Reply {
+    match card_link::whole::new_card(bench::front(&bytes, w.length), w.blocks, w.index) {
+        Ok(card) => opened(bench, card, bench_lines::within_byte(index)),
+        Err(e) => Reply {
             bench,
             answer: bench_lines::refused(e),
         },

@@ -1,7 +1,7 @@
 // The answers. None where the line is not understood.
+use refusal::Refusal;
 use bench_talk::Answer;
-use frame::{Received, ReceivedShort, Written};
-use uid::{AirRow, Made, Uid};
+use uid::Uid;
 
 // The words of the answers, by their numbers in the list of said.
 const ROW: usize = 0;
@@ -75,35 +75,32 @@ fn crc(value: &[u8]) -> Answer {
     written(w, &row)
 }
 
-fn written(w: Written, row: &[u8]) -> Answer {
+fn written(w: Result<usize, Refusal>, row: &[u8]) -> Answer {
     match w {
-        Written::Bits(n) => bench_talk::row(said(bench_talk::none(), ROW), bench::front(row, n)),
-        Written::NotWritten(e) => bench_lines::refused(e),
+        Ok(n) => bench_talk::row(said(bench_talk::none(), ROW), bench::front(row, n)),
+        Err(e) => bench_lines::refused(e),
     }
 }
 
-fn received(r: Received, bytes: &[u8]) -> Answer {
+fn received(r: Result<usize, Refusal>, bytes: &[u8]) -> Answer {
     match r {
-        Received::Bytes(n) => hex(BYTES, bench::front(bytes, n)),
-        Received::NotReceived(e) => bench_lines::refused(e),
+        Ok(n) => hex(BYTES, bench::front(bytes, n)),
+        Err(e) => bench_lines::refused(e),
     }
 }
 
 fn read_short(row: &[u8]) -> Answer {
     let r = frame::read_short(row);
     match r {
-        ReceivedShort::Byte(b) => hex(SHORT, &[b]),
-        ReceivedShort::NotShort(e) => bench_lines::refused(e),
+        Ok(b) => hex(SHORT, &[b]),
+        Err(e) => bench_lines::refused(e),
     }
 }
 
 fn uid(value: &[u8]) -> Answer {
-    let new = uid::new_uid(value);
-    let made = new.made;
-    let u = new.uid;
-    match made {
-        Made::Good => on_air(levels(u), u),
-        Made::NotMade(e) => bench_lines::refused(e),
+    match uid::new_uid(value) {
+        Ok(u) => on_air(levels(u), u),
+        Err(e) => bench_lines::refused(e),
     }
 }
 
@@ -127,8 +124,8 @@ fn on_air(a: Answer, u: Uid) -> Answer {
     let mut row = [0u8; 120];
     let r = uid::air_row(u, &mut row);
     match r {
-        AirRow::Bits(n) => bench_talk::row(said(a, ROW), bench::front(&row, n)),
-        AirRow::NoRoom(e) => bench_lines::refused(e),
+        Ok(n) => bench_talk::row(said(a, ROW), bench::front(&row, n)),
+        Err(e) => bench_lines::refused(e),
     }
 }
 

@@ -1,5 +1,5 @@
 -- Laws of the call: which of its tests applies. Where it declines, the reader, the UID or the field is not within the terms. Assumes nothing.
-use Rattle.std.specs.Prelude.{◌≡◌, refl, ℕ, ◌≤◌, ◌<◌, Bool, true, false, cond, ◌||◌, List, length, take, eqb}
+use Rattle.std.specs.Prelude.{◌≡◌, refl, ℕ, ◌≤◌, ◌<◌, Bool, true, false, cond, ◌||◌, List, length, take, eqb, Result, Ok, Err}
 use Rattle.std.proofs.Common.{sym, ◌∙◌, arith}
 use Rattle.std.proofs.Math.Path.{ap}
 use Rattle.std.proofs.Math.Bool.{not, false≢true}
@@ -7,7 +7,7 @@ use Rattle.std.proofs.Math.Dec.{ltb}
 use borrow.Author.Tests.{lt-ltb, le-ltb}
 use Rattle.limits.specs.Limits.{most_cards}
 use Rattle.refusal.specs.Refusal.{declining}
-use Rattle.uid.specs.Calls.{sized, refused_uid, checked, new_uid, valid_bytes}
+use Rattle.uid.specs.Calls.{sized, checked, new_uid, valid_bytes, uid_of}
 use Rattle.uid.specs.Uid.{valid}
 use Rattle.reader.specs.Calls.{turn_says}
 use Rattle.reader.specs.KnownLaws.{made_valid}
@@ -16,7 +16,6 @@ use Rattle.sweep_rules.specs.Run.{Out}
 use Rattle.sweep_rules.specs.Terms.{within}
 use Rattle.wake_rules.specs.Claim.{Wakes}
 use Rattle.wake_rules.specs.Wake.{wake}
-use Rattle.uid.specs.declared.Made.TheVariants.{Good, NotMade}
 use Rattle.uid.specs.declared.Uid.{Uid}
 use Rattle.uid.specs.declared.UidSize.TheVariants.{Single, Double, Triple}
 use Rattle.card.specs.declared.Card.{Card}
@@ -28,30 +27,29 @@ use Rattle.wake.specs.Wake.{refused, done, wake_of}
 use Rattle.wake.specs.declared.Woken.{Woken}
 
 -- a UID that is made is valid, and one that is not is not
-pub valid_made : (l : List ℕ) → (new_uid l).made ≡ Good → valid_bytes l ≡ true
-valid_made l e = go (valid_bytes l) (sym e ∙ made_valid l)
+pub valid_made : (l : List ℕ) (u : Uid) → new_uid l ≡ Ok u → (valid_bytes l ≡ true) × (uid_of l ≡ u)
+valid_made l u e = (go (valid_bytes l) (sym e ∙ made_valid l), rw e)
   where
-    go : (v : Bool) → Good ≡ cond v Good (NotMade Argument) → v ≡ true
+    go : (v : Bool) → Ok u ≡ cond v (Ok (uid_of l)) (Err Argument) → v ≡ true
     go true h = refl
     go false h = cc
 
-pub valid_not : (l : List ℕ) (x : Refusal) → (new_uid l).made ≡ NotMade x → valid_bytes l ≡ false
+pub valid_not : (l : List ℕ) (x : Refusal) → new_uid l ≡ Err x → valid_bytes l ≡ false
 valid_not l x e = go (valid_bytes l) (sym e ∙ made_valid l)
   where
-    go : (v : Bool) → NotMade x ≡ cond v Good (NotMade Argument) → v ≡ false
+    go : (v : Bool) → Err x ≡ cond v (Ok (uid_of l)) (Err Argument) → v ≡ false
     go true h = cc
     go false h = refl
 
-made_of : (u : Uid) (v : Bool) → valid u ≡ v → (cond v (record { uid = u; made = Good }) refused_uid).made ≡ Good → valid (cond v (record { uid = u; made = Good }) refused_uid).uid ≡ true
-made_of u true e h = e
-made_of u false e h = cc
-
-pub valid_uid : (l : List ℕ) → (new_uid l).made ≡ Good → valid (new_uid l).uid ≡ true
+pub valid_uid : (l : List ℕ) (u : Uid) → new_uid l ≡ Ok u → valid u ≡ true
 unfolding new_uid checked
-valid_uid l = go (eqb (length l) 4) (eqb (length l) 7) (eqb (length l) 10)
+valid_uid l u = go (eqb (length l) 4) (eqb (length l) 7) (eqb (length l) 10)
   where
-    go : (a b c : Bool) → (cond a (checked (sized Single l)) (cond b (checked (sized Double l)) (cond c (checked (sized Triple l)) refused_uid))).made ≡ Good
-        → valid (cond a (checked (sized Single l)) (cond b (checked (sized Double l)) (cond c (checked (sized Triple l)) refused_uid))).uid ≡ true
+    made_of : (w : Uid) (v : Bool) → valid w ≡ v → cond v (Ok w) (Err Argument) ≡ Ok u → valid u ≡ true
+    made_of w true e h = let z : w ≡ u = cc in rw z at e
+    made_of w false e h = cc
+
+    go : (a b c : Bool) → cond a (checked (sized Single l)) (cond b (checked (sized Double l)) (cond c (checked (sized Triple l)) (Err Argument))) ≡ Ok u → valid u ≡ true
     go true b c h = made_of (sized Single l) _ refl h
     go false true c h = made_of (sized Double l) _ refl h
     go false false true h = made_of (sized Triple l) _ refl h
@@ -68,7 +66,7 @@ module _ (r : Reader) (l : List ℕ) (cards : List Card) (n : ℕ) where
   call_says_law s e = ap woken_says e ∙ go (not (is_new r.phase)) (not (valid_bytes l) || ltb most_cards n || not (within (take n cards)))
     where
       o : Out
-      o = wake (new_uid l).uid (take n cards)
+      o = wake (uid_of l) (take n cards)
 
       go : (a b : Bool) → woken_says (cond a (refused r cards NotDue) (cond b (refused r cards Argument) (done cards n o))) ≡ cond a (declining 11) (cond b (declining 6) (turn_says o.last))
       go true b = refl
@@ -98,9 +96,9 @@ module _ (r : Reader) (l : List ℕ) (cards : List Card) (n : ℕ) where
         no_field s h k = declines Argument s h (rw (new, uid, le-ltb most_cards n few, k)) (λ t. false≢true (sym k ∙ t.field))
 
         -- the run of the rules, of which the claim holds
-        pub runs : (s : Woken) → s ≡ done cards n (wake (new_uid l).uid (take n cards)) → within (take n cards) ≡ true
-            → Wakes (take n cards) (new_uid l).uid (wake (new_uid l).uid (take n cards)) → Promised r l cards n s
+        pub runs : (s : Woken) → s ≡ done cards n (wake (uid_of l) (take n cards)) → within (take n cards) ≡ true
+            → Wakes (take n cards) (uid_of l) (wake (uid_of l) (take n cards)) → Promised r l cards n s
         unfolding wake_of
         runs s e field c =
-            let k : done cards n (wake (new_uid l).uid (take n cards)) ≡ wake_of r l cards n = rw (new, uid, le-ltb most_cards n few, field) in
+            let k : done cards n (wake (uid_of l) (take n cards)) ≡ wake_of r l cards n = rw (new, uid, le-ltb most_cards n few, field) in
             (e ∙ k, record { says = call_says_law s (e ∙ k); run = λ t. e; claim = λ t. c })

@@ -2,7 +2,7 @@
 use Rattle.std.specs.Prelude.{◌≡◌, ℕ, ◌≤◌, true, not, ◌||◌, List, take, ltb}
 use Rattle.limits.specs.Limits.{most_cards}
 use Rattle.refusal.specs.Refusal.{Said, decline_if}
-use Rattle.uid.specs.Calls.{new_uid, valid_bytes}
+use Rattle.uid.specs.Calls.{new_uid, valid_bytes, uid_of}
 use Rattle.reader.specs.Reader.{is_new}
 use Rattle.reader.specs.Calls.{answer_says, turn_says}
 use Rattle.sweep_rules.specs.Terms.{within}
@@ -31,12 +31,12 @@ abbrev pub wake_says : Reader → List ℕ → List Card → ℕ → Said
 wake_says r l cards n =
     decline_if (not (is_new r.phase)) 11
     (decline_if (not (valid_bytes l) || ltb most_cards n || not (within (take n cards))) 6
-    (turn_says (wake (new_uid l).uid (take n cards)).last))
+    (turn_says (wake (uid_of l) (take n cards)).last))
 
 -- ---- what the call promises: s is what it gives
 pub record Wakens (r : Reader) (l : List ℕ) (cs : List Card) (n : ℕ) (s : Woken) : Type 0 where
   pub says : woken_says s ≡ wake_says r l cs n
   -- within the terms it is the run of the rules over the field
-  pub run : Terms r l cs n → s ≡ done cs n (wake (new_uid l).uid (take n cs))
+  pub run : Terms r l cs n → s ≡ done cs n (wake (uid_of l) (take n cs))
   -- .. and of that run T-03's claim holds
-  pub claim : Terms r l cs n → Wakes (take n cs) (new_uid l).uid (wake (new_uid l).uid (take n cs))
+  pub claim : Terms r l cs n → Wakes (take n cs) (uid_of l) (wake (uid_of l) (take n cs))

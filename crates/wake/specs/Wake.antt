@@ -1,7 +1,7 @@
 -- T-03: the call over an array of cards, of which the first n are the field. What the run is stands in crate wake_rules.
 use Rattle.std.specs.Prelude.{ℕ, not, cond, ◌||◌, List, ◌++◌, length, take, drop, ltb}
 use Rattle.limits.specs.Limits.{most_cards}
-use Rattle.uid.specs.Calls.{new_uid, valid_bytes}
+use Rattle.uid.specs.Calls.{new_uid, valid_bytes, uid_of}
 use Rattle.reader.specs.Reader.{is_new}
 use Rattle.sweep_rules.specs.Run.{Out}
 use Rattle.sweep_rules.specs.Terms.{within}
@@ -26,4 +26,4 @@ unfoldable pub wake_of : Reader → List ℕ → List Card → ℕ → Woken
 wake_of r l cards n =
     cond (not (is_new r.phase)) (refused r cards NotDue)
     (cond (not (valid_bytes l) || ltb most_cards n || not (within (take n cards))) (refused r cards Argument)
-    (done cards n (wake (new_uid l).uid (take n cards))))
+    (done cards n (wake (uid_of l) (take n cards))))

@@ -9,7 +9,6 @@ use card::Card;
 use limits::MOST_CARDS;
 use reader::{Answer, Reader};
 use refusal::Refusal;
-use uid::Made;
 
 // One exchange, and the loop. Only the crates of this repository call them.
 pub mod within;
@@ -46,13 +45,10 @@ pub fn wake(r: Reader, bytes: &[u8], cards: [Card; MOST_CARDS], n: usize) -> Wok
     if !reader::within::is_new(phase) {
         return refused(r, cards, Refusal::NotDue);
     }
-    let new = uid::new_uid(bytes);
-    let made = new.made;
-    let u = new.uid;
-    match made {
-        Made::Good => {}
-        Made::NotMade(_) => return refused(r, cards, Refusal::Argument),
-    }
+    let u = match uid::new_uid(bytes) {
+        Ok(u) => u,
+        Err(_) => return refused(r, cards, Refusal::Argument),
+    };
     if n > MOST_CARDS {
         return refused(r, cards, Refusal::Argument);
     }

@@ -10,7 +10,7 @@ use Rattle.std.proofs.Math.Dec.{ltb}
 use borrow.Author.Tests.{lt-ltb, le-ltb}
 use Rattle.limits.specs.Limits.{most_cards}
 use Rattle.uid.specs.Uid.{uid_bytes}
-use Rattle.uid.specs.Calls.{new_uid, valid_bytes}
+use Rattle.uid.specs.Calls.{new_uid, valid_bytes, uid_of}
 use Rattle.reader.specs.Calls.{turn_says}
 use Rattle.reader.specs.Reader.{is_new, frame, hear, wakes}
 use Rattle.field.specs.Field.{all_take, heard_from}
@@ -43,7 +43,7 @@ pub woken_cards : (r : Reader) (l : List ℕ) (h : List Card) (n : ℕ) → leng
 unfolding wake_of done
 woken_cards r l h n = go (not (is_new r.phase)) (not (valid_bytes l) || ltb most_cards n || not (within (take n h)))
   where
-    go : (a b : Bool) → length (cond a (refused r h NotDue) (cond b (refused r h Argument) (done h n (wake (new_uid l).uid (take n h))))).cards ≡ length h
+    go : (a b : Bool) → length (cond a (refused r h NotDue) (cond b (refused r h Argument) (done h n (wake (uid_of l) (take n h))))).cards ≡ length h
     go true b = refl
     go false true = refl
     go false false = rw (length-append, wake_cards, ← length-append, take-append-drop)
@@ -61,11 +61,11 @@ module _ (r : Reader) (l : List ℕ) (h ys : List Card) (n : ℕ) (long : length
   none = drop_of_length-le ys {i = n} (omega (arith, long))
 
   -- within the terms the call is the run
-  runs : Terms r l ys n → wake_of r l ys n ≡ done ys n (wake (new_uid l).uid (take n ys))
+  runs : Terms r l ys n → wake_of r l ys n ≡ done ys n (wake (uid_of l) (take n ys))
   unfolding wake_of
   runs t = rw (t.new, t.uid, le-ltb most_cards n t.few, t.field)
 
-  promised : (s : Woken) → s ≡ wake_of r l ys n → woken_says s ≡ wake_says r l ys n → (Terms r l ys n → Wakes (take n ys) (new_uid l).uid (wake (new_uid l).uid (take n ys))) → Promised r l ys n s
+  promised : (s : Woken) → s ≡ wake_of r l ys n → woken_says s ≡ wake_says r l ys n → (Terms r l ys n → Wakes (take n ys) (uid_of l) (wake (uid_of l) (take n ys))) → Promised r l ys n s
   promised s e says claim = (e, record { says = says; run = λ t. e ∙ runs t; claim = claim })
 
   -- more cards than the limit: the row stays as it was
@@ -75,13 +75,13 @@ module _ (r : Reader) (l : List ℕ) (h ys : List Card) (n : ℕ) (long : length
       promised (woken_row (row_of w) ys) (rw (lt-ltb most_cards n many) (go (not (is_new r.phase)) (not (valid_bytes l)) (not (within (take n h))) (not (within (take n ys)))))
       (k.says ∙ rw (lt-ltb most_cards n many) (same (not (is_new r.phase)) (not (valid_bytes l)) (not (within (take n h))) (not (within (take n ys))))) (λ t. absurd (omega (arith, t.few)))
     where
-      go : (a b x y : Bool) → woken_row (row_of (cond a (refused r h NotDue) (cond (b || true || x) (refused r h Argument) (done h n (wake (new_uid l).uid (take n h)))))) ys
-          ≡ cond a (refused r ys NotDue) (cond (b || true || y) (refused r ys Argument) (done ys n (wake (new_uid l).uid (take n ys))))
+      go : (a b x y : Bool) → woken_row (row_of (cond a (refused r h NotDue) (cond (b || true || x) (refused r h Argument) (done h n (wake (uid_of l) (take n h)))))) ys
+          ≡ cond a (refused r ys NotDue) (cond (b || true || y) (refused r ys Argument) (done ys n (wake (uid_of l) (take n ys))))
       go true b x y = refl
       go false true x y = refl
       go false false x y = refl
 
-      same : (a b x y : Bool) → decline_if a 11 (decline_if (b || true || x) 6 (turn_says (wake (new_uid l).uid (take n h)).last)) ≡ decline_if a 11 (decline_if (b || true || y) 6 (turn_says (wake (new_uid l).uid (take n ys)).last))
+      same : (a b x y : Bool) → decline_if a 11 (decline_if (b || true || x) 6 (turn_says (wake (uid_of l) (take n h)).last)) ≡ decline_if a 11 (decline_if (b || true || y) 6 (turn_says (wake (uid_of l) (take n ys)).last))
       same true b x y = refl
       same false true x y = refl
       same false false x y = refl
@@ -92,11 +92,11 @@ module _ (r : Reader) (l : List ℕ) (h ys : List Card) (n : ℕ) (long : length
     one = whole ∙ sym first
 
     abbrev o : Out
-    o = wake (new_uid l).uid (take n h)
+    o = wake (uid_of l) (take n h)
 
     cards_are : take n (o.cards ++ drop n h) ≡ o.cards ++ drop n ys
     cards_are =
-        let e : length o.cards ≡ n = wake_cards (new_uid l).uid (take n h) ∙ ap length first ∙ long in
+        let e : length o.cards ≡ n = wake_cards (uid_of l) (take n h) ∙ ap length first ∙ long in
         take_at o.cards (drop n h) n e ∙ sym (ap (λ k. o.cards ++ k) none ∙ append-nil o.cards)
 
     is_call : woken_row (row_of w) (take n w.cards) ≡ wake_of r l ys n
@@ -115,8 +115,8 @@ module _ (r : Reader) (l : List ℕ) (h ys : List Card) (n : ℕ) (long : length
     pub carried : Wakens r l h n w → Promised r l ys n (woken_row (row_of w) (take n w.cards))
     carried k =
         promised (woken_row (row_of w) (take n w.cards)) is_call
-        (k.says ∙ ap (λ x. decline_if (not (is_new r.phase)) 11 (decline_if (not (valid_bytes l) || ltb most_cards n || not (within x)) 6 (turn_says (wake (new_uid l).uid x).last))) (sym one))
-        (λ t. subst (λ x. Wakes x (new_uid l).uid (wake (new_uid l).uid x)) (sym one) (k.claim (terms_too t)))
+        (k.says ∙ ap (λ x. decline_if (not (is_new r.phase)) 11 (decline_if (not (valid_bytes l) || ltb most_cards n || not (within x)) 6 (turn_says (wake (uid_of l) x).last))) (sym one))
+        (λ t. subst (λ x. Wakes x (uid_of l) (wake (uid_of l) x)) (sym one) (k.claim (terms_too t)))
 
 -- ---- what a turn says, branch by branch
 

@@ -1,4 +1,5 @@
 -- T-03's claim, over the rules: the run level by level, where the UID is there and where it is not. Assumes nothing.
+use Rattle.std.specs.Prelude.{Ok}
 use mathlib.Core.Path.{◌≡◌, refl, sym, ap, ◌∙◌}
 use mathlib.Core.Logic.{◌≢◌}
 use Prim.Native.Nat.{ℕ, zero, suc, ◌+◌, ◌-◌, ◌≤◌, ◌<◌}
@@ -37,8 +38,6 @@ use Rattle.wake_rules.specs.Claim as typed
 use Rattle.wake_rules.specs.Claim.{last_sak, chosen, Chosen, Absent, Wakes}
 use Rattle.wake_rules.proofs.Known.{pick_five}
 use Rattle.wake_rules.proofs.Stage.{hear_none, hear_one, standing, is_in, ready_for, standing_none, standing_one, turn_wupa, hear_wupa_law, turn_more, hear_more, turn_last, hear_last, own_in, other_out}
-use Rattle.selection.specs.declared.AtqaRead.TheVariants.{Atqa}
-use Rattle.selection.specs.declared.SakRead.TheVariants.{Sak}
 use Rattle.uid.specs.declared.Uid.{Uid}
 use Rattle.card.specs.declared.Card.{Card}
 use Rattle.reader.specs.declared.Phase.TheVariants.{Selected, WupaSent, UidSelectSent}
@@ -139,7 +138,7 @@ frame_wupa : (u : Uid) → frame (waking u) ≡ wupa
 unfolding frame waking
 frame_wupa u = refl
 
-hears_atqa : (u : Uid) (h : List ℕ) → read_atqa h ≡ Atqa → hear (waking u) h ≡ picks (lvl 0) u
+hears_atqa : (u : Uid) (h : List ℕ) → read_atqa h ≡ (Ok tt) → hear (waking u) h ≡ picks (lvl 0) u
 unfolding hear hear_wupa waking lvl
 hears_atqa u h e = rw e
 
@@ -179,7 +178,7 @@ module _ (u : Uid) (s : Sound u) where
       fits : misfits (lvl j) u false ≡ false
       fits = fits_is (lvl j) u false s.is_valid (rw (place_lvl j (omega (arith, few))) (le-ltb (suc j) (length (levels u)) (omega arith)))
 
-      go : (b : Bool) → uid_sak_heard (lvl j) u (Sak (cond b 0x20 0x00)) ≡ completes false u (cond b 0x20 0x00)
+      go : (b : Bool) → uid_sak_heard (lvl j) u (Ok (cond b 0x20 0x00)) ≡ completes false u (cond b 0x20 0x00)
       go true = sak_ends (lvl j) u 0x20 fits refl
       go false = sak_ends (lvl j) u 0x00 fits refl
 

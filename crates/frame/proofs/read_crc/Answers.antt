@@ -1,9 +1,9 @@
 -- `frame::read_crc` meets its contract, by that of `read_crc_within`: what it answers, in the table's numbers. Assumes nothing.
 use mathlib.Core.Path.{ap, ◌∙◌}
-use Rattle.frame.specs.Calls.{received_says}
 use Rattle.frame.proofs.SaysLaws.{says_read}
 use borrow.Author.Rules.{rules}
 use Rattle.frame.proofs.read_crc.Goals as goal
+use Rattle.refusal.specs.Refusal.{number_says}
 
 pub returns : goal.returns
-returns c = record { result_value = ap received_says c.read_crc_within.ensures.value ∙ says_read _ _; out_after = c.read_crc_within.ensures.out_after }
+returns c = record { result_value = ap number_says c.read_crc_within.ensures.value ∙ says_read _ _; out_after = c.read_crc_within.ensures.out_after }

@@ -1,13 +1,13 @@
 -- `uid::air_row` meets its contract: where there is room, what the loop over levels wrote is the on-air row. Assumes nothing.
+use Rattle.std.specs.Prelude.{Ok}
 use borrow.Author.Rules.{rules}
 use mathlib.Core.Path.{refl, sym, ap, ◌∙◌}
 use native.Mathlib.Omega.{arith}
-use Rattle.uid.specs.Calls.{air_row_says}
 use Rattle.uid.specs.SaysLaws.{air_no_room, air_has_room}
 use Rattle.uid.specs.BytesAtLaws.{levels_most}
 use Rattle.uid.specs.AirLaws.{row_made}
-use Rattle.uid.specs.declared.AirRow.TheVariants.{Bits}
 use Rattle.uid.proofs.air_row.Goals as goal
+use Rattle.refusal.specs.Refusal.{number_says}
 
 pub returns-then-out-lt120 : goal.returns-then-out-lt120
 returns-then-out-lt120 c = record { result_value = sym (air_no_room _ c.args.u c.if-out-lt120.true); out_after = refl }
@@ -21,4 +21,4 @@ overflow_mul-result c = omega (arith, levels_most c.args.u.size, c.level_count-n
 pub returns : goal.returns
 returns c = let u = c.args.u in
     let p = c.put_levels in
-    let r = row_made u _ _ c.level_count-n.ensures c.levels-ls.ensures in record { result_value = ap (λ n. air_row_says (Bits n)) (sym (rw r at p.ensures.rows_len)) ∙ sym (air_has_room _ u c.if-out-lt120.false); out_after = rw r at p.ensures.out_after }
+    let r = row_made u _ _ c.level_count-n.ensures c.levels-ls.ensures in record { result_value = ap (λ n. number_says (Ok n)) (sym (rw r at p.ensures.rows_len)) ∙ sym (air_has_room _ u c.if-out-lt120.false); out_after = rw r at p.ensures.out_after }

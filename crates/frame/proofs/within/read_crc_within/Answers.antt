@@ -15,17 +15,17 @@ returns-then-out-lt-MOST_BYTES c = record { value = simp (lt-ltb _ _ c.if-out-lt
 
 pub without_crc-requires : goal.without_crc-requires
 without_crc-requires c = let a = c.args in
-    let v = read_verdict 256 _ _ _ _ _ c.read_within-got.ensures.value c.in-Bytes.is c.read_within-got.ensures.out_after in
+    let v = read_verdict 256 _ _ _ _ _ c.read_within-got.ensures.value c.in-Ok.is c.read_within-got.ensures.out_after in
     let s = read_size 3 a.most a.row.now _ v.0 in
     (omega (arith, s.0, v.1), omega (arith, s.1, v.1), omega (arith, s.1, v.1))
 
-pub returns-in-NotReceived : goal.returns-in-NotReceived
+pub returns-in-Err : goal.returns-in-Err
 unfolding read_crc
-returns-in-NotReceived c = let a = c.args in
-    let v = refused_verdict 256 _ _ _ (omega arith) c.read_within-got.ensures.value c.in-NotReceived.is in record { value = rw (read_room _ (read_crc 3 a.most a.row.now) c.if-out-lt-MOST_BYTES.false, v); out_after = refl }
+returns-in-Err c = let a = c.args in
+    let v = refused_verdict 256 _ _ _ (omega arith) c.read_within-got.ensures.value c.in-Err.is in record { value = rw (read_room _ (read_crc 3 a.most a.row.now) c.if-out-lt-MOST_BYTES.false, v); out_after = refl }
 
-pub returns-in-Bytes : goal.returns-in-Bytes
+pub returns-in-Ok : goal.returns-in-Ok
 unfolding read_crc
-returns-in-Bytes c = let a = c.args in
-    let v = read_verdict 256 _ _ _ _ _ c.read_within-got.ensures.value c.in-Bytes.is c.read_within-got.ensures.out_after in
+returns-in-Ok c = let a = c.args in
+    let v = read_verdict 256 _ _ _ _ _ c.read_within-got.ensures.value c.in-Ok.is c.read_within-got.ensures.out_after in
     let w = c.without_crc.ensures in record { value = rw (read_room _ (read_crc 3 a.most a.row.now) c.if-out-lt-MOST_BYTES.false, v.0) w.value; out_after = rw v.0 w.out_after }

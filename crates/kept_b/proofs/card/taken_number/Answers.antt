@@ -2,5 +2,5 @@
 use borrow.Author.Rules.{rules}
 use Rattle.kept_b.proofs.card.taken_number.Goals as goal
 
-pub returns-in-NotTaken : goal.returns-in-NotTaken
-returns-in-NotTaken c = rw (c.refused.ensures, c.in-NotTaken.is)
+pub returns-in-Err : goal.returns-in-Err
+returns-in-Err c = rw (c.refused.ensures, c.in-Err.is)

@@ -1,14 +1,15 @@
--- `lacrivosum::card_calls::new_turn` meets its contract, by the laws `new_made` and `new_refused`. Assumes nothing.
-use Rattle.lacrivosum.specs.CardLibraryLaws.{new_made, new_refused}
-use borrow.Author.Rules.{rules}
+-- `lacrivosum::card_calls::new_turn` meets its contract, by the law `new_turn`. Assumes nothing.
+use Rattle.std.proofs.Common.{sym, ap, ◌∙◌}
+use Rattle.std.specs.Prelude.{Ok, Err}
+use Rattle.card_link.specs.CardCalls.{turn_of}
+use Rattle.lacrivosum.specs.CardLibrary.{new_by}
+use Rattle.lacrivosum.specs.CardLibraryLaws.{new_turn}
 use Rattle.lacrivosum.proofs.card_calls.new_turn.Goals as goal
 
-pub returns-in-Good : goal.returns-in-Good
-returns-in-Good c = let a = c.args in
-    let n = c.new_card-new.ensures in
-    new_made a.x a.uid.now a.blocks a.index _ _ _ _ c.speaks.ensures n.card_value n.link_value n.made_value c.in-Good.is c.quiet.ensures
+pub returns-in-Ok : goal.returns-in-Ok
+returns-in-Ok c = let a = c.args in
+    new_turn a.x a.uid.now a.blocks a.index _ _ _ c.speaks.ensures c.new_card.ensures.value (c.quiet.ensures ∙ ap (λ m. turn_of (new_by a.x m)) (sym c.in-Ok.is))
 
-pub returns-in-NotMade : goal.returns-in-NotMade
-returns-in-NotMade c = let a = c.args in
-    let n = c.new_card-new.ensures in
-    new_refused a.x a.uid.now a.blocks a.index _ _ _ c.speaks.ensures n.made_value c.in-NotMade.is
+pub returns-in-Err : goal.returns-in-Err
+returns-in-Err c = let a = c.args in
+    new_turn a.x a.uid.now a.blocks a.index _ _ _ c.speaks.ensures c.new_card.ensures.value (ap (λ m. turn_of (new_by a.x m)) (sym c.in-Err.is))

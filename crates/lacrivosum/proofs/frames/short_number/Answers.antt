@@ -1,12 +1,12 @@
 -- `lacrivosum::frames::short_number` meets its contract, case by case. Assumes nothing.
 use mathlib.Core.Path.{ap}
-use Rattle.frame.specs.Calls.{short_says}
 use Rattle.lacrivosum.specs.FrameLaws.{refused_said}
 use borrow.Author.Rules.{rules}
 use Rattle.lacrivosum.proofs.frames.short_number.Goals as goal
+use Rattle.refusal.specs.Refusal.{number_says}
 
-pub returns-in-Byte : goal.returns-in-Byte
-returns-in-Byte c = rw c.in-Byte.is
+pub returns-in-Ok : goal.returns-in-Ok
+returns-in-Ok c = rw c.in-Ok.is
 
-pub returns-in-NotShort : goal.returns-in-NotShort
-returns-in-NotShort c = refused_said _ c.in-NotShort.e _ (ap short_says c.in-NotShort.is) c.refused.ensures
+pub returns-in-Err : goal.returns-in-Err
+returns-in-Err c = refused_said _ c.in-Err.e _ (ap number_says c.in-Err.is) c.refused.ensures

@@ -4,10 +4,10 @@ use Rattle.reader.specs.KnownLaws.{wupa_at}
 use borrow.Author.Rules.{rules}
 use Rattle.reader.proofs.known.hear_wupa.Goals as goal
 
-pub returns-in-Atqa : goal.returns-in-Atqa
-returns-in-Atqa c = let a = c.args in
-    c.picks.ensures ∙ sym (wupa_at a.r a.row.now _ (sym c.read_atqa-a.ensures.value ∙ c.in-Atqa.is))
+pub returns-in-Ok : goal.returns-in-Ok
+returns-in-Ok c = let a = c.args in
+    c.picks.ensures ∙ sym (wupa_at a.r a.row.now _ (sym c.read_atqa-a.ensures.value ∙ c.in-Ok.is))
 
-pub returns-in-NotAtqa : goal.returns-in-NotAtqa
-returns-in-NotAtqa c = let a = c.args in
-    c.stop.ensures ∙ sym (wupa_at a.r a.row.now _ (sym c.read_atqa-a.ensures.value ∙ c.in-NotAtqa.is))
+pub returns-in-Err : goal.returns-in-Err
+returns-in-Err c = let a = c.args in
+    c.stop.ensures ∙ sym (wupa_at a.r a.row.now _ (sym c.read_atqa-a.ensures.value ∙ c.in-Err.is))

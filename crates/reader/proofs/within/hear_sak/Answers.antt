@@ -9,9 +9,9 @@ use Rattle.selection.proofs.heard.read_sak.Reads as read-sak-reads
 use Rattle.reader.proofs.within.hear_sak.Goals as goal
 
 -- src/within.rt:330:1
-pub returns-in-Sak : goal.returns-in-Sak
-returns-in-Sak c = let a = c.args in c.sak_heard.ensures ∙ sym (sak_at a.l a.r a.row.now _ (sym c.read_sak-a.ensures.value ∙ c.in-Sak.is))
+pub returns-in-Ok : goal.returns-in-Ok
+returns-in-Ok c = let a = c.args in c.sak_heard.ensures ∙ sym (sak_at a.l a.r a.row.now _ (sym c.read_sak-a.ensures.value ∙ c.in-Ok.is))
 
 -- src/within.rt:330:1
-pub returns-in-NotSak : goal.returns-in-NotSak
-returns-in-NotSak c = let a = c.args in c.stop.ensures ∙ sym (sak_at a.l a.r a.row.now _ (sym c.read_sak-a.ensures.value ∙ c.in-NotSak.is))
+pub returns-in-Err : goal.returns-in-Err
+returns-in-Err c = let a = c.args in c.stop.ensures ∙ sym (sak_at a.l a.r a.row.now _ (sym c.read_sak-a.ensures.value ∙ c.in-Err.is))

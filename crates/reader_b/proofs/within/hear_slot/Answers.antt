@@ -3,10 +3,10 @@ use mathlib.Core.Path.{◌∙◌}
 use Rattle.reader_b.specs.ReaderBLaws.{slot_holds, slot_stops}
 use Rattle.reader_b.proofs.within.hear_slot.Goals as goal
 
-pub returns-in-Holds : goal.returns-in-Holds
-returns-in-Holds c = let a = c.args in
-    c.hold.ensures ∙ slot_holds a.r _ _ a.row.now c.read_slot-s.ensures.value c.in-Holds.is
+pub returns-in-Ok : goal.returns-in-Ok
+returns-in-Ok c = let a = c.args in
+    c.hold.ensures ∙ slot_holds a.r _ _ a.row.now c.read_slot-s.ensures.value c.in-Ok.is
 
-pub returns-in-NotSlot : goal.returns-in-NotSlot
-returns-in-NotSlot c = let a = c.args in
-    c.stop.ensures ∙ slot_stops a.r _ _ a.row.now c.read_slot-s.ensures.value c.in-NotSlot.is
+pub returns-in-Err : goal.returns-in-Err
+returns-in-Err c = let a = c.args in
+    c.stop.ensures ∙ slot_stops a.r _ _ a.row.now c.read_slot-s.ensures.value c.in-Err.is

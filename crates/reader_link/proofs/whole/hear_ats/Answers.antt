@@ -3,5 +3,5 @@ use mathlib.Core.Path.{sym, ◌∙◌}
 use borrow.Author.Rules.{rules}
 use Rattle.reader_link.proofs.whole.hear_ats.Goals as goal
 
-pub returns-in-NotAts : goal.returns-in-NotAts
-returns-in-NotAts c = rw (c.over-stopped.ensures, sym c.read_ats-a.ensures.value ∙ c.in-NotAts.is)
+pub returns-in-Err : goal.returns-in-Err
+returns-in-Err c = rw (c.over-stopped.ensures, sym c.read_ats-a.ensures.value ∙ c.in-Err.is)

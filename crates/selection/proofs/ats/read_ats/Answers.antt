@@ -7,10 +7,10 @@ use Rattle.selection.specs.Heard.{read_ats}
 use Rattle.selection.specs.SizeLaws.{size_most}
 use Rattle.selection.specs.RestLaws.{nil_yes, nil_no}
 use Rattle.selection.specs.AtsLaws.{ats_fault, ats_good, ats_count}
-use Rattle.selection.specs.Says.{ats_says}
 use Rattle.selection.specs.SaysLaws.{with_says}
 use borrow.Author.Rules.{rules}
 use Rattle.selection.proofs.ats.read_ats.Goals as goal
+use Rattle.refusal.specs.Refusal.{number_says}
 
 pub returns-then-row-eq0 : goal.returns-then-row-eq0
 unfolding read_ats
@@ -22,28 +22,28 @@ read_crc_within-got-requires c = omega (arith, c.size_of-most.ensures, size_most
 pub slice_bounds-bytes-end : goal.slice_bounds-bytes-end
 slice_bounds-bytes-end c = let a = c.args in
     let r = c.read_crc_within-got in
-    ats_count a.own a.row.now _ _ (rw c.size_of-most.ensures at (sym r.ensures.value) ∙ c.in-Bytes.is)
-    (r.ensures.out_after ∙ ap₂ (λ x s. bytes_after x (read_crc 3 s a.row.now) (replicate 256 0)) c.in-Bytes.is c.size_of-most.ensures)
+    ats_count a.own a.row.now _ _ (rw c.size_of-most.ensures at (sym r.ensures.value) ∙ c.in-Ok.is)
+    (r.ensures.out_after ∙ ap₂ (λ x s. bytes_after x (read_crc 3 s a.row.now) (replicate 256 0)) c.in-Ok.is c.size_of-most.ensures)
 
 pub slice_bounds-read_bytes-end : goal.slice_bounds-read_bytes-end
 slice_bounds-read_bytes-end c = let a = c.args in
     let r = c.read_crc_within-got in
-    let m = ats_count a.own a.row.now _ _ (rw c.size_of-most.ensures at (sym r.ensures.value) ∙ c.in-Bytes.is)
-    (r.ensures.out_after ∙ ap₂ (λ x s. bytes_after x (read_crc 3 s a.row.now) (replicate 256 0)) c.in-Bytes.is c.size_of-most.ensures) in
+    let m = ats_count a.own a.row.now _ _ (rw c.size_of-most.ensures at (sym r.ensures.value) ∙ c.in-Ok.is)
+    (r.ensures.out_after ∙ ap₂ (λ x s. bytes_after x (read_crc 3 s a.row.now) (replicate 256 0)) c.in-Ok.is c.size_of-most.ensures) in
     rw length-take (omega (arith, m))
 
-pub returns-in-NotReceived : goal.returns-in-NotReceived
-returns-in-NotReceived c = let a = c.args in record { value = (with_says ats_says _ _ (sym (ats_fault a.own a.row.now _ (nil_no _ c.if-row-eq0.false) (rw c.size_of-most.ensures at (sym c.read_crc_within-got.ensures.value) ∙ c.in-NotReceived.is)))).0; result_value = (with_says ats_says _ _ (sym (ats_fault a.own a.row.now _ (nil_no _ c.if-row-eq0.false) (rw c.size_of-most.ensures at (sym c.read_crc_within-got.ensures.value) ∙ c.in-NotReceived.is)))).1 }
+pub returns-in-Err : goal.returns-in-Err
+returns-in-Err c = let a = c.args in record { value = (with_says number_says _ _ (sym (ats_fault a.own a.row.now _ (nil_no _ c.if-row-eq0.false) (rw c.size_of-most.ensures at (sym c.read_crc_within-got.ensures.value) ∙ c.in-Err.is)))).0; result_value = (with_says number_says _ _ (sym (ats_fault a.own a.row.now _ (nil_no _ c.if-row-eq0.false) (rw c.size_of-most.ensures at (sym c.read_crc_within-got.ensures.value) ∙ c.in-Err.is)))).1 }
 
-pub returns-in-Bytes : goal.returns-in-Bytes
-returns-in-Bytes c = let a = c.args in
+pub returns-in-Ok : goal.returns-in-Ok
+returns-in-Ok c = let a = c.args in
     let r = c.read_crc_within-got in record {
-      value = (with_says ats_says _ _
+      value = (with_says number_says _ _
           (c.read_bytes.ensures
-          ∙ ats_good a.own a.row.now _ _ (nil_no _ c.if-row-eq0.false) (rw c.size_of-most.ensures at (sym r.ensures.value) ∙ c.in-Bytes.is)
-          (r.ensures.out_after ∙ ap₂ (λ x s. bytes_after x (read_crc 3 s a.row.now) (replicate 256 0)) c.in-Bytes.is c.size_of-most.ensures))).0;
-      result_value = (with_says ats_says _ _
+          ∙ ats_good a.own a.row.now _ _ (nil_no _ c.if-row-eq0.false) (rw c.size_of-most.ensures at (sym r.ensures.value) ∙ c.in-Ok.is)
+          (r.ensures.out_after ∙ ap₂ (λ x s. bytes_after x (read_crc 3 s a.row.now) (replicate 256 0)) c.in-Ok.is c.size_of-most.ensures))).0;
+      result_value = (with_says number_says _ _
           (c.read_bytes.ensures
-          ∙ ats_good a.own a.row.now _ _ (nil_no _ c.if-row-eq0.false) (rw c.size_of-most.ensures at (sym r.ensures.value) ∙ c.in-Bytes.is)
-          (r.ensures.out_after ∙ ap₂ (λ x s. bytes_after x (read_crc 3 s a.row.now) (replicate 256 0)) c.in-Bytes.is c.size_of-most.ensures))).1;
+          ∙ ats_good a.own a.row.now _ _ (nil_no _ c.if-row-eq0.false) (rw c.size_of-most.ensures at (sym r.ensures.value) ∙ c.in-Ok.is)
+          (r.ensures.out_after ∙ ap₂ (λ x s. bytes_after x (read_crc 3 s a.row.now) (replicate 256 0)) c.in-Ok.is c.size_of-most.ensures))).1;
     }

@@ -1,8 +1,8 @@
+use Rattle.std.specs.Prelude.{Ok}
 use mathlib.Core.Path.{sym, ap, ◌∙◌}
 use native.Mathlib.Omega.{arith}
 use borrow.Author.Tests.{eq-eqb, ne_eqb, lt-ltb, le-ltb, le-leb, lt-leb}
 use Rattle.selection.specs.AtsLaws.{ats_none, ats_short, ats_is}
-use Rattle.selection.specs.declared.AtsRead.TheVariants.{Index}
 use borrow.Author.Rules.{rules}
 use Rattle.selection.proofs.ats.read_bytes.Goals as goal
 
@@ -25,4 +25,4 @@ pub returns-then-l-announced : goal.returns-then-l-announced
 returns-then-l-announced c = sym (ats_is c.args.l.now c.if-l-eq0.false c.if-l-eq1.false ∙ rw (eq-eqb _ _ c.if-tl-l.false, lt-ltb _ _ c.if-t0-ge128.false, ← c.announced.ensures, lt-leb _ _ c.if-l-announced.true))
 
 pub returns : goal.returns
-returns c = sym (ats_is c.args.l.now c.if-l-eq0.false c.if-l-eq1.false ∙ rw (eq-eqb _ _ c.if-tl-l.false, lt-ltb _ _ c.if-t0-ge128.false, ← c.announced.ensures, le-leb _ _ c.if-l-announced.false) (ap Index (sym c.at_most_8.ensures)))
+returns c = sym (ats_is c.args.l.now c.if-l-eq0.false c.if-l-eq1.false ∙ rw (eq-eqb _ _ c.if-tl-l.false, lt-ltb _ _ c.if-t0-ge128.false, ← c.announced.ensures, le-leb _ _ c.if-l-announced.false) (ap Ok (sym c.at_most_8.ensures)))

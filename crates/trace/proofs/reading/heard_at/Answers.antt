@@ -1,8 +1,8 @@
+use Rattle.std.specs.Prelude.{Ok}
 use mathlib.Core.Path.{◌≡◌, sym, ap, ◌∙◌}
 use native.Mathlib.Omega.{arith}
 use Rattle.rows.proofs.RowLaws.{overlay_nil}
 use Rattle.air_log.specs.Reading.{row_at}
-use Rattle.trace_rules.specs.declared.Passed.TheVariants.{Behind}
 use Rattle.trace.specs.Reads.{heard_bits}
 use Rattle.trace.specs.ReadLaws.{clean_held, collided_held, length_row, length_marked}
 use borrow.Author.Rules.{rules}
@@ -27,7 +27,7 @@ returns-in-Clean c =
     let x = c.in-Clean in
     let h = clean_held _ _ _ _ _ _ c.shared_slice_known-1.given (sym c.read_at-x.ensures ∙ x.is) in
     record {
-      value = rw (← c.read_at-x.ensures, x.is) (c.heard_of-in-Clean.ensures ∙ ap (λ n. heard_bits n (Behind x.next)) (sym (length_row c.args.log.now x.start x.bits h.0)));
+      value = rw (← c.read_at-x.ensures, x.is) (c.heard_of-in-Clean.ensures ∙ ap (λ n. heard_bits n (Ok x.next)) (sym (length_row c.args.log.now x.start x.bits h.0)));
       row_after = rw (← c.read_at-x.ensures, x.is) c.put_bits.ensures;
     }
 
@@ -36,7 +36,7 @@ returns-in-Collided c =
     let x = c.in-Collided in
     let h = collided_held _ _ _ _ _ _ c.shared_slice_known-1.given _ (sym c.read_at-x.ensures ∙ x.is) in
     record {
-      value = rw (← c.read_at-x.ensures, x.is) (c.heard_of-in-Collided.ensures ∙ ap (λ n. heard_bits n (Behind x.next)) (sym (length_marked (row_at c.args.log.now x.start x.bits) _ ∙ length_row c.args.log.now x.start x.bits h.0.0)));
+      value = rw (← c.read_at-x.ensures, x.is) (c.heard_of-in-Collided.ensures ∙ ap (λ n. heard_bits n (Ok x.next)) (sym (length_marked (row_at c.args.log.now x.start x.bits) _ ∙ length_row c.args.log.now x.start x.bits h.0.0)));
       row_after = rw (← c.read_at-x.ensures, x.is) c.put_marked.ensures;
     }
 

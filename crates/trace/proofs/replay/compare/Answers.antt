@@ -3,10 +3,10 @@ use Rattle.trace_rules.specs.Check.{compared}
 use borrow.Author.Rules.{rules}
 use Rattle.trace.proofs.replay.compare.Goals as goal
 
-pub returns-in-Behind : goal.returns-in-Behind
+pub returns-in-Ok : goal.returns-in-Ok
 unfolding compared
-returns-in-Behind c = rw (sym c.sent_at-passed.ensures ∙ c.in-Behind.is) c.heard_as.ensures
+returns-in-Ok c = rw (sym c.sent_at-passed.ensures ∙ c.in-Ok.is) c.heard_as.ensures
 
-pub returns-in-Not : goal.returns-in-Not
+pub returns-in-Err : goal.returns-in-Err
 unfolding compared
-returns-in-Not c = rw (sym c.sent_at-passed.ensures ∙ c.in-Not.is)
+returns-in-Err c = rw (sym c.sent_at-passed.ensures ∙ c.in-Err.is)

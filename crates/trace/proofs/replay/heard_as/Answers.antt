@@ -11,15 +11,15 @@ slice_bounds-row-end c = (front_of_law _ _ _ _ (ap (λ y. y.bits) c.heard_at-h.e
 pub slice_bounds-is_same-end : goal.slice_bounds-is_same-end
 slice_bounds-is_same-end c = rw length-take (omega (arith, (front_of_law _ _ _ _ (ap (λ y. y.bits) c.heard_at-h.ensures.value) c.heard_at-h.ensures.row_after).fits))
 
-pub returns-in-Behind : goal.returns-in-Behind
-returns-in-Behind c = let u = front_of_law _ _ _ _ (ap (λ y. y.bits) c.heard_at-h.ensures.value) c.heard_at-h.ensures.row_after in
+pub returns-in-Ok : goal.returns-in-Ok
+returns-in-Ok c = let u = front_of_law _ _ _ _ (ap (λ y. y.bits) c.heard_at-h.ensures.value) c.heard_at-h.ensures.row_after in
     let s = rw u.bits at (sym c.is_same.ensures ∙ c.if-is_same.true) in
-    rw (s, sym (ap (λ y. y.passed) c.heard_at-h.ensures.value) ∙ c.in-Behind.is)
+    rw (s, sym (ap (λ y. y.passed) c.heard_at-h.ensures.value) ∙ c.in-Ok.is)
 
-pub returns-in-Not : goal.returns-in-Not
-returns-in-Not c = let u = front_of_law _ _ _ _ (ap (λ y. y.bits) c.heard_at-h.ensures.value) c.heard_at-h.ensures.row_after in
+pub returns-in-Err : goal.returns-in-Err
+returns-in-Err c = let u = front_of_law _ _ _ _ (ap (λ y. y.bits) c.heard_at-h.ensures.value) c.heard_at-h.ensures.row_after in
     let s = rw u.bits at (sym c.is_same.ensures ∙ c.if-is_same.true) in
-    rw (s, sym (ap (λ y. y.passed) c.heard_at-h.ensures.value) ∙ c.in-Not.is)
+    rw (s, sym (ap (λ y. y.passed) c.heard_at-h.ensures.value) ∙ c.in-Err.is)
 
 pub returns : goal.returns
 returns c = let u = front_of_law _ _ _ _ (ap (λ y. y.bits) c.heard_at-h.ensures.value) c.heard_at-h.ensures.row_after in

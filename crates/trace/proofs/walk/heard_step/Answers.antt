@@ -13,11 +13,11 @@ slice_bounds-row-end c = (front_of_law _ _ _ _ (ap (λ y. y.bits) c.heard_at-h.e
 pub slice_bounds-hear_rules-end : goal.slice_bounds-hear_rules-end
 slice_bounds-hear_rules-end c = rw length-take (omega (arith, (front_of_law _ _ _ _ (ap (λ y. y.bits) c.heard_at-h.ensures.value) c.heard_at-h.ensures.row_after).fits))
 
-pub returns-in-Behind : goal.returns-in-Behind
-returns-in-Behind c = let a = c.args in
+pub returns-in-Ok : goal.returns-in-Ok
+returns-in-Ok c = let a = c.args in
     let u = front_of_law _ _ _ _ (ap (λ y. y.bits) c.heard_at-h.ensures.value) c.heard_at-h.ensures.row_after in
-    rw (sym (ap (λ y. y.passed) c.heard_at-h.ensures.value) ∙ c.in-Behind.is)
+    rw (sym (ap (λ y. y.passed) c.heard_at-h.ensures.value) ∙ c.in-Ok.is)
     (c.turned.ensures ∙ ap (turned a.log.now a.p _) (c.hear_rules.ensures ∙ ap (hear a.p.reader) u.bits))
 
-pub returns-in-Not : goal.returns-in-Not
-returns-in-Not c = rw (sym (ap (λ y. y.passed) c.heard_at-h.ensures.value) ∙ c.in-Not.is) c.faults.ensures
+pub returns-in-Err : goal.returns-in-Err
+returns-in-Err c = rw (sym (ap (λ y. y.passed) c.heard_at-h.ensures.value) ∙ c.in-Err.is) c.faults.ensures

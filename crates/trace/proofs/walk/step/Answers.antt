@@ -12,12 +12,12 @@ slice_bounds-frame-end c = (front_of_law _ _ _ _ c.frame_bits-bits.ensures c.put
 pub slice_bounds-sent_at-end : goal.slice_bounds-sent_at-end
 slice_bounds-sent_at-end c = rw length-take (omega (arith, (front_of_law _ _ _ _ c.frame_bits-bits.ensures c.put_frame.ensures).fits))
 
-pub returns-in-Behind : goal.returns-in-Behind
+pub returns-in-Ok : goal.returns-in-Ok
 unfolding step
-returns-in-Behind c = let u = front_of_law _ _ _ _ c.frame_bits-bits.ensures c.put_frame.ensures in
-    rw (rw u.bits at (sym c.sent_at-passed.ensures ∙ c.in-Behind.is)) c.heard_step.ensures
+returns-in-Ok c = let u = front_of_law _ _ _ _ c.frame_bits-bits.ensures c.put_frame.ensures in
+    rw (rw u.bits at (sym c.sent_at-passed.ensures ∙ c.in-Ok.is)) c.heard_step.ensures
 
-pub returns-in-Not : goal.returns-in-Not
+pub returns-in-Err : goal.returns-in-Err
 unfolding step
-returns-in-Not c = let u = front_of_law _ _ _ _ c.frame_bits-bits.ensures c.put_frame.ensures in
-    rw (rw u.bits at (sym c.sent_at-passed.ensures ∙ c.in-Not.is)) c.faults.ensures
+returns-in-Err c = let u = front_of_law _ _ _ _ c.frame_bits-bits.ensures c.put_frame.ensures in
+    rw (rw u.bits at (sym c.sent_at-passed.ensures ∙ c.in-Err.is)) c.faults.ensures

@@ -1,5 +1,4 @@
 -- `uid::within::checked` meets its contract. Assumes nothing.
-use borrow.Author.Rules.{rules}
 use mathlib.Core.Path.{sym, ◌∙◌}
 use Rattle.uid.specs.Calls.{checked}
 use Rattle.uid.proofs.within.checked.Goals as goal
@@ -8,6 +7,6 @@ pub returns-then-is_valid : goal.returns-then-is_valid
 unfolding checked
 returns-then-is_valid c = rw (sym c.is_valid.ensures ∙ c.if-is_valid.true)
 
-pub returns : goal.returns
+pub returns-else-is_valid : goal.returns-else-is_valid
 unfolding checked
-returns c = rw (sym c.is_valid.ensures ∙ c.if-is_valid.false, c.refused_uid.ensures)
+returns-else-is_valid c = rw (sym c.is_valid.ensures ∙ c.if-is_valid.false)
