@@ -99,14 +99,9 @@ pub fn read_short(row: &[u8]) -> Result<u8, Refusal>
 }
 
 // Is a row of n bits whole bytes with parity, least to most of them?
+#[tactic(auto, unfolding(crate::specs::Frame::whole_bytes))]
 fn is_whole(n: usize, least: usize, most: usize) -> bool
     ensures { result ≡ whole_bytes least most n }
 {
-    if n % 9 != 0 {
-        return false;
-    }
-    if n / 9 < least {
-        return false;
-    }
-    n / 9 <= most
+    n % 9 == 0 && least <= n / 9 && n / 9 <= most
 }

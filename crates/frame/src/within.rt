@@ -12,9 +12,8 @@ pub fn put_bytes(out: &mut [u8], at: usize, bytes: &[u8])
     requires { at + 9 * length bytes.now ≤ length out.old }
     ensures { out.new ≡ overlay out.old at (standard bytes.now) }
 {
-    for i in 0..bytes.len() {
-        let a = crate::air_byte(bytes[i]);
-        rows::within::put(out, at + 9 * i, &a);
+    for (i, &b) in bytes.iter().enumerate() {
+        rows::within::put(out, at + 9 * i, &crate::air_byte(b));
     }
 }
 
@@ -23,11 +22,7 @@ fn is_wrong(row: &[u8], at: usize) -> bool
     requires { at + 9 ≤ length row.now }
     ensures { result ≡ wrong_byte (drop at row.now) }
 {
-    if !rows::is_clean(&row[at..at + 8]) {
-        return false;
-    }
-    let b = parity::within::byte_at(row, at);
-    row[at + 8] != parity::odd_parity(b)
+    rows::is_clean(&row[at..at + 8]) && row[at + 8] != parity::odd_parity(parity::within::byte_at(row, at))
 }
 
 // The first of the n bytes at index at, from 0, that has no collided data bit and wrong parity; n where none is so. A collided parity bit is
@@ -122,9 +117,6 @@ pub fn read_crc_within(row: &[u8], most: usize, out: &mut [u8]) -> Result<usize,
         return Err(Refusal::Room);
     }
     let mut held = [0u8; limits::MOST_BYTES];
-    let got = read_within(row, 3, most, &mut held);
-    match got {
-        Err(e) => Err(e),
-        Ok(n) => without_crc(&held, n, out),
-    }
+    let n = read_within(row, 3, most, &mut held)?;
+    without_crc(&held, n, out)
 }

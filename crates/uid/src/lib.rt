@@ -68,10 +68,9 @@ pub fn check_byte(a: u8, b: u8, c: u8, d: u8) -> u8
 pub fn levels(u: Uid) -> [[u8; 5]; 3]
     ensures { result ≡ three_levels u }
 {
-    let size = u.size;
     let b = u.bytes;
     let none = [0u8; 5];
-    match size {
+    match u.size {
         UidSize::Single => {
             let l1 = within::level_row(b[0], b[1], b[2], b[3]);
             [l1, none, none]
@@ -94,9 +93,8 @@ pub fn levels(u: Uid) -> [[u8; 5]; 3]
 pub fn is_valid(u: Uid) -> bool
     ensures { result ≡ valid u }
 {
-    let size = u.size;
     let b = u.bytes;
-    match size {
+    match u.size {
         UidSize::Single => b[0] != 0x88,
         UidSize::Double => b[3] != 0x88,
         UidSize::Triple => true,
@@ -120,13 +118,9 @@ pub fn new_uid(bytes: &[u8]) -> Result<Uid, Refusal>
 pub fn same_uid(a: Uid, b: Uid) -> bool
     ensures { result ≡ same (uid_bytes a) (uid_bytes b) }
 {
-    let s = a.size;
-    let t = b.size;
-    let n = byte_count(s);
-    let m = byte_count(t);
-    let x = a.bytes;
-    let y = b.bytes;
-    rows::is_same(&x[..n], &y[..m])
+    let n = byte_count(a.size);
+    let m = byte_count(b.size);
+    rows::is_same(&a.bytes[..n], &b.bytes[..m])
 }
 
 // "The on-air row of a UID is its levels in air order, parity left out". It asks for room for the longest.
@@ -137,9 +131,7 @@ pub fn air_row(u: Uid, out: &mut [u8]) -> Result<usize, Refusal>
     if out.len() < 120 {
         return Err(Refusal::Room);
     }
-    let s = u.size;
-    let n = level_count(s);
-    let ls = levels(u);
-    within::put_levels(out, ls, n);
+    let n = level_count(u.size);
+    within::put_levels(out, &levels(u)[..n]);
     Ok(40 * n)
 }

@@ -23,7 +23,7 @@ pub fn sized(size: UidSize, bytes: &[u8]) -> Uid
     let mut ten = [0u8; 10];
     rows::within::put(&mut ten, 0, bytes);
     Uid {
-        size: size,
+        size,
         bytes: ten,
     }
 }
@@ -45,20 +45,18 @@ pub fn put_level(out: &mut [u8], at: usize, five: [u8; 5])
     ensures out_after { out.new ≡ overlay out.old at (air_bits five) }
     ensures five_len { length five ≡ 5 }
 {
-    for i in 0..5usize {
-        let bits = parity::bits_of(five[i]);
-        rows::within::put(out, at + 8 * i, &bits);
+    for (i, &b) in five.iter().enumerate() {
+        rows::within::put(out, at + 8 * i, &parity::bits_of(b));
     }
 }
 
-// The first n levels in air order, at the front of out.
-pub fn put_levels(out: &mut [u8], rows: [[u8; 5]; 3], n: usize)
-    requires { (n ≤ 3) × (120 ≤ length out.old) }
-    ensures out_after { out.new ≡ overlay out.old 0 (air (map air_bits (take n rows))) }
-    ensures rows_len { length (air (map air_bits (take n rows))) ≡ 40 * n }
+// The levels in air order, at the front of out.
+pub fn put_levels(out: &mut [u8], rows: &[[u8; 5]])
+    requires { 40 * length rows.now ≤ length out.old }
+    ensures out_after { out.new ≡ overlay out.old 0 (air (map air_bits rows.now)) }
+    ensures rows_len { length (air (map air_bits rows.now)) ≡ 40 * length rows.now }
 {
-    for i in 0..n {
-        let five = rows[i];
+    for (i, &five) in rows.iter().enumerate() {
         put_level(out, 40 * i, five);
     }
 }

@@ -1,7 +1,10 @@
 -- `uid::air_row` meets its contract: where there is room, what the loop over levels wrote is the on-air row. Assumes nothing.
 use Rattle.std.specs.Prelude.{Ok}
 use borrow.Author.Rules.{rules}
-use mathlib.Core.Path.{refl, sym, ap, ◌∙◌}
+use Prim.Native.Nat.{◌*◌}
+use lib.ListN.{length}
+use lib.Seq.{length-take-le}
+use mathlib.Core.Path.{◌≡◌, refl, sym, ap, ◌∙◌}
 use native.Mathlib.Omega.{arith}
 use Rattle.uid.specs.SaysLaws.{air_no_room, air_has_room}
 use Rattle.uid.specs.BytesAtLaws.{levels_most}
@@ -13,7 +16,9 @@ pub returns-then-out-lt120 : goal.returns-then-out-lt120
 returns-then-out-lt120 c = record { result_value = sym (air_no_room _ c.args.u c.if-out-lt120.true); out_after = refl }
 
 pub put_levels-requires : goal.put_levels-requires
-put_levels-requires c = (omega (arith, levels_most c.args.u.size, c.level_count-n.ensures), omega arith)
+put_levels-requires c =
+    let three : length c.levels.result ≡ 3 = search rules in
+    omega (arith, levels_most c.args.u.size, c.level_count-n.ensures, length-take-le c.level_count-n.result c.levels.result (omega (arith, levels_most c.args.u.size, c.level_count-n.ensures)))
 
 pub overflow_mul-result : goal.overflow_mul-result
 overflow_mul-result c = omega (arith, levels_most c.args.u.size, c.level_count-n.ensures)
@@ -21,4 +26,7 @@ overflow_mul-result c = omega (arith, levels_most c.args.u.size, c.level_count-n
 pub returns : goal.returns
 returns c = let u = c.args.u in
     let p = c.put_levels in
-    let r = row_made u _ _ c.level_count-n.ensures c.levels-ls.ensures in record { result_value = ap (λ n. number_says (Ok n)) (sym (rw r at p.ensures.rows_len)) ∙ sym (air_has_room _ u c.if-out-lt120.false); out_after = rw r at p.ensures.out_after }
+    let r = row_made u _ _ c.level_count-n.ensures c.levels.ensures in
+    let three : length c.levels.result ≡ 3 = search rules in
+    let n = length-take-le c.level_count-n.result c.levels.result (omega (arith, levels_most u.size, c.level_count-n.ensures)) in
+    record { result_value = ap (λ n. number_says (Ok n)) (sym (rw r at (p.ensures.rows_len ∙ ap (λ k. 40 * k) n))) ∙ sym (air_has_room _ u c.if-out-lt120.false); out_after = rw r at p.ensures.out_after }

@@ -16,7 +16,7 @@ unfolding air_bits
 loop-i-init c = (omega arith, search rules, refl, sym (overlay_nil _ _))
 
 pub put-requires : goal.put-requires
-put-requires c = omega (arith, ap length c.bits_of-bits.ensures ∙ length_bits 8 _)
+put-requires c = omega (arith, ap length c.bits_of.ensures ∙ length_bits 8 _)
 
 pub loop-i-preserved : goal.loop-i-preserved
 loop-i-preserved c = let p = c.put in
@@ -25,7 +25,7 @@ loop-i-preserved c = let p = c.put in
       omega arith,
       omega arith,
       omega (arith, p.auto.out),
-      rw (p.ensures, c.bits_of-bits.ensures, l.invariant.3) (bits_turn a.out.now a.at a.five l.i (omega arith) (omega arith)),
+      rw (p.ensures, c.bits_of.ensures, l.invariant.3) (bits_turn a.out.now a.at a.five l.i (omega arith) (omega arith)),
     )
 
 pub returns : goal.returns

@@ -13,7 +13,7 @@ use Rattle.uid.specs.AirLaws.{bits_turn}
 use Rattle.uid.proofs.within.put_level.Given as goal
 
 abbrev pub invariant-loop-i : goal.invariant-loop-i
-invariant-loop-i l = (l.i ≤ 5) × (length l.five ≡ 5) × (length l.out ≡ length l.initial.out) × (l.out ≡ overlay l.initial.out l.at (air_bits (take l.i l.five)))
+invariant-loop-i l = (l.i ≤ 5) × (length l.b-items ≡ 5) × (length l.out ≡ length l.initial.out) × (l.out ≡ overlay l.initial.out l.at (air_bits (take l.i l.b-items)))
 
 abbrev pub decreases-loop-i : goal.decreases-loop-i
 decreases-loop-i l = 5 - l.i

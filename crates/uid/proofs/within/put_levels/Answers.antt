@@ -1,9 +1,10 @@
 use borrow.Author.Rules.{rules}
 use Prim.Native.Nat.{◌≤◌, ◌*◌, ◌-◌}
-use mathlib.Core.Path.{◌≡◌, refl, sym}
+use mathlib.Core.Path.{◌≡◌, refl, sym, ap, ◌∙◌}
 use mathlib.Core.List.{map}
 use native.Mathlib.Omega.{arith}
 use lib.ListN.{length, take}
+use lib.Seq.{take_all}
 use Rattle.rows.specs.Rows.{overlay}
 use Rattle.rows.proofs.RowLaws.{overlay_nil}
 use Rattle.frame.specs.Frame.{air_bits}
@@ -13,16 +14,18 @@ use Rattle.uid.proofs.within.put_levels.Goals as goal
 
 pub loop-i-init : goal.loop-i-init
 unfolding air
-loop-i-init c = (omega arith, search rules, refl, refl, sym (overlay_nil _ _))
+loop-i-init c = (omega arith, refl, refl, sym (overlay_nil _ _))
 
 pub loop-i-preserved : goal.loop-i-preserved
 loop-i-preserved c = let p = c.put_level in
     let l = c.loop-i in
     let a = c.args in
-    let t = levels_turn a.out.now a.rows l.i (omega arith) l.invariant.3 p.ensures.five_len (omega arith) in
-    (omega arith, omega arith, omega (arith, p.auto.out), t.1, rw (p.ensures.out_after, l.invariant.4) t.0)
+    let t = levels_turn a.out.now a.rows.now l.i (omega arith) l.invariant.2 p.ensures.five_len (omega arith) in
+    (omega arith, omega (arith, p.auto.out), t.1, rw (p.ensures.out_after, l.invariant.3) t.0)
 
 pub returns : goal.returns
 returns c = let l = c.loop-i in
     let a = c.args in
-    let e : l.i ≡ a.n = omega arith in record { out_after = rw e at l.invariant.4; rows_len = rw e at l.invariant.3 }
+    let e : take l.i a.rows.now ≡ a.rows.now = take_all l.i a.rows.now (omega arith) in
+    let n : l.i ≡ length a.rows.now = omega arith in
+    record { out_after = rw e at l.invariant.3; rows_len = rw e at l.invariant.2 ∙ ap (λ k. 40 * k) n }

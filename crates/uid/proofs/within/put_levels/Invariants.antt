@@ -14,8 +14,8 @@ use Rattle.uid.proofs.within.put_levels.Given as goal
 
 abbrev pub invariant-loop-i : goal.invariant-loop-i
 invariant-loop-i l =
-    (l.i ≤ l.n) × (length l.rows ≡ 3) × (length l.out ≡ length l.initial.out) × (length (air (map air_bits (take l.i l.rows))) ≡ 40 * l.i)
+    (l.i ≤ length l.rows) × (length l.out ≡ length l.initial.out) × (length (air (map air_bits (take l.i l.rows))) ≡ 40 * l.i)
     × (l.out ≡ overlay l.initial.out 0 (air (map air_bits (take l.i l.rows))))
 
 abbrev pub decreases-loop-i : goal.decreases-loop-i
-decreases-loop-i l = l.n - l.i
+decreases-loop-i l = length l.rows - l.i
