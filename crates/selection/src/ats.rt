@@ -50,9 +50,6 @@ pub fn read_ats(own: u8, row: &[u8]) -> Result<u8, Refusal>
     }
     let most = crate::numbers::size_of(own);
     let mut bytes = [0u8; limits::MOST_BYTES];
-    let got = frame::within::read_crc_within(row, most, &mut bytes);
-    match got {
-        Err(e) => Err(e),
-        Ok(n) => read_bytes(&bytes[..n]),
-    }
+    let n = frame::within::read_crc_within(row, most, &mut bytes)?;
+    read_bytes(&bytes[..n])
 }

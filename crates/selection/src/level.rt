@@ -19,8 +19,8 @@ pub fn data_bits(w: [u8; 45]) -> [u8; 40]
 pub fn first_collided(h: &[u8]) -> usize
     ensures { result ≡ first_collided h.now }
 {
-    for i in 0..h.len() {
-        if h[i] > 1 {
+    for (i, &b) in h.iter().enumerate() {
+        if b > 1 {
             return i;
         }
     }

@@ -9,8 +9,8 @@ use Rattle.selection.proofs.level.first_collided.Goals as goal
 pub loop-i-init : goal.loop-i-init
 loop-i-init c = (omega arith, omega arith)
 
-pub returns-then-h-i-gt1 : goal.returns-then-h-i-gt1
-returns-then-h-i-gt1 c = let l = c.loop-i in
+pub returns-then-b-gt1 : goal.returns-then-b-gt1
+returns-then-b-gt1 c = let l = c.loop-i in
     let h = c.args.h.now in
     omega (arith, first_here h l.i (omega arith) (omega arith), l.invariant.1)
 
