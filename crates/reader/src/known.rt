@@ -11,15 +11,10 @@ use uid::{Level, Uid};
 pub fn wakes(u: Uid) -> Turn
     ensures { result ≡ wakes u }
 {
-    let r = Reader {
-        phase: Phase::WupaSent,
-        sweeps: false,
-        five: [0u8; 5],
-        known: 0,
+    within::sends(Reader {
         uid: u,
-        sak: 0,
-    };
-    within::sends(r)
+        ..within::blank(Phase::WupaSent, false)
+    })
 }
 
 // The call on a reader that is new: 6 where the bytes are no valid UID, and nothing changes.
@@ -39,27 +34,19 @@ pub fn wake_turn(r: Reader, bytes: &[u8]) -> Turn
 fn picks(l: Level, u: Uid) -> Turn
     ensures { result ≡ picks l u }
 {
-    let i = selection::numbers::place(l);
-    let three = uid::levels(u);
-    let five = three[i];
-    let r = Reader {
-        phase: Phase::UidSelectSent(l),
-        sweeps: false,
-        five: five,
+    within::sends(Reader {
+        five: uid::levels(u)[selection::numbers::place(l)],
         known: 40,
         uid: u,
-        sak: 0,
-    };
-    within::sends(r)
+        ..within::blank(Phase::UidSelectSent(l), false)
+    })
 }
 
 pub fn hear_wupa(r: Reader, row: &[u8]) -> Turn
     ensures { result ≡ hear_wupa r row.now }
 {
-    let u = r.uid;
-    let a = selection::heard::read_atqa(row);
-    match a {
-        Ok(()) => picks(Level::One, u),
+    match selection::heard::read_atqa(row) {
+        Ok(()) => picks(Level::One, r.uid),
         Err(e) => within::stop(e),
     }
 }
@@ -71,8 +58,7 @@ fn misfits(l: Level, u: Uid, more: bool) -> bool
     if !uid::is_valid(u) {
         return true;
     }
-    let z = u.size;
-    if selection::numbers::place(l) + 1 < uid::level_count(z) {
+    if selection::numbers::place(l) + 1 < uid::level_count(u.size) {
         return !more;
     }
     more
@@ -106,10 +92,8 @@ fn uid_sak_heard(l: Level, u: Uid, b: u8) -> Turn
 pub fn hear_uid_sak(l: Level, r: Reader, row: &[u8]) -> Turn
     ensures { result ≡ hear_uid_sak l r row.now }
 {
-    let u = r.uid;
-    let a = selection::heard::read_sak(row);
-    match a {
-        Ok(b) => uid_sak_heard(l, u, b),
+    match selection::heard::read_sak(row) {
+        Ok(b) => uid_sak_heard(l, r.uid, b),
         Err(e) => within::stop(e),
     }
 }

@@ -68,18 +68,10 @@ pub fn new_reader() -> Reader
 pub fn is_awaiting(p: Phase) -> bool
     ensures { result ≡ awaits p }
 {
-    match p {
-        Phase::New => false,
-        Phase::ReqaSent => true,
-        Phase::AnticollisionSent(_) => true,
-        Phase::SelectSent(_) => true,
-        Phase::HltaSent => true,
-        Phase::Selected => false,
-        Phase::Finished => false,
-        Phase::Stopped => false,
-        Phase::WupaSent => true,
-        Phase::UidSelectSent(_) => true,
-    }
+    !matches!(
+        p,
+        Phase::New | Phase::Selected | Phase::Finished | Phase::Stopped
+    )
 }
 
 fn declines(r: Reader, e: Refusal) -> Turn
@@ -97,8 +89,7 @@ fn begin(sweeps: bool, r: Reader, out: &mut [u8]) -> Turn
     ensures out_after { out.new ≡ row_after result out.old }
     ensures result_value { turn_says result ≡ begin_says sweeps r (length out.old) }
 {
-    let p = r.phase;
-    if !within::is_new(p) {
+    if !within::is_new(r.phase) {
         return declines(r, Refusal::NotDue);
     }
     if out.len() < limits::FRAME_ROOM {
@@ -133,8 +124,7 @@ pub fn wake(r: Reader, bytes: &[u8], out: &mut [u8]) -> Turn
     ensures out_after { out.new ≡ row_after result out.old }
     ensures result_value { turn_says result ≡ wake_says r bytes.now (length out.old) }
 {
-    let p = r.phase;
-    if !within::is_new(p) {
+    if !within::is_new(r.phase) {
         return declines(r, Refusal::NotDue);
     }
     if out.len() < limits::FRAME_ROOM {
@@ -153,8 +143,7 @@ pub fn hear(r: Reader, row: &[u8], out: &mut [u8]) -> Turn
     ensures result_value { turn_says result ≡ hear_says r row.now (length out.old) }
     ensures completed { Completed result.answer result.reader }
 {
-    let p = r.phase;
-    if !is_awaiting(p) {
+    if !is_awaiting(r.phase) {
         return declines(r, Refusal::NotDue);
     }
     if out.len() < limits::FRAME_ROOM {

@@ -25,13 +25,12 @@ fn no_uid() -> Uid
 pub fn blank(p: Phase, s: bool) -> Reader
     ensures { result ≡ blank p s }
 {
-    let u = no_uid();
     Reader {
         phase: p,
         sweeps: s,
         five: [0u8; 5],
         known: 0,
-        uid: u,
+        uid: no_uid(),
         sak: 0,
     }
 }
@@ -39,37 +38,19 @@ pub fn blank(p: Phase, s: bool) -> Reader
 pub fn is_new(p: Phase) -> bool
     ensures { result ≡ is_new p }
 {
-    match p {
-        Phase::New => true,
-        Phase::ReqaSent => false,
-        Phase::AnticollisionSent(_) => false,
-        Phase::SelectSent(_) => false,
-        Phase::HltaSent => false,
-        Phase::Selected => false,
-        Phase::Finished => false,
-        Phase::Stopped => false,
-        Phase::WupaSent => false,
-        Phase::UidSelectSent(_) => false,
-    }
+    matches!(p, Phase::New)
 }
 
 // How many bits the frame has that a reader has sent.
 pub fn frame_bits(r: Reader) -> usize
     ensures { result ≡ length (frame r) }
 {
-    let p = r.phase;
-    let k = r.known;
-    match p {
-        Phase::New => 0,
-        Phase::ReqaSent => 7,
-        Phase::AnticollisionSent(_) => selection::numbers::anticollision_bits(k),
-        Phase::SelectSent(_) => 81,
+    match r.phase {
+        Phase::ReqaSent | Phase::WupaSent => 7,
+        Phase::AnticollisionSent(_) => selection::numbers::anticollision_bits(r.known),
+        Phase::SelectSent(_) | Phase::UidSelectSent(_) => 81,
         Phase::HltaSent => 36,
-        Phase::Selected => 0,
-        Phase::Finished => 0,
-        Phase::Stopped => 0,
-        Phase::WupaSent => 7,
-        Phase::UidSelectSent(_) => 81,
+        Phase::New | Phase::Selected | Phase::Finished | Phase::Stopped => 0,
     }
 }
 
@@ -78,37 +59,19 @@ pub fn put_frame(r: Reader, out: &mut [u8])
     requires { 81 ≤ length out.old }
     ensures { out.new ≡ overlay out.old 0 (frame r) }
 {
-    let p = r.phase;
-    let k = r.known;
-    let five = r.five;
-    match p {
-        Phase::New => {}
-        Phase::ReqaSent => {
-            let row = selection::sent::reqa();
-            rows::within::put(out, 0, &row);
-        }
-        Phase::AnticollisionSent(l) => {
-            selection::within::put_anticollision(l, k, five, out);
-        }
-        Phase::SelectSent(l) => {
-            let row = selection::sent::select(l, five);
-            rows::within::put(out, 0, &row);
-        }
-        Phase::HltaSent => {
-            let row = selection::sent::hlta();
-            rows::within::put(out, 0, &row);
-        }
-        Phase::Selected => {}
-        Phase::Finished => {}
-        Phase::Stopped => {}
-        Phase::WupaSent => {
-            let row = selection::sent::wupa();
-            rows::within::put(out, 0, &row);
-        }
-        Phase::UidSelectSent(l) => {
-            let row = selection::sent::select(l, five);
-            rows::within::put(out, 0, &row);
-        }
+    match r.phase {
+        Phase::ReqaSent => rows::within::put(out, 0, &selection::sent::reqa()),
+        Phase::WupaSent => rows::within::put(out, 0, &selection::sent::wupa()),
+        Phase::AnticollisionSent(l) => selection::within::put_anticollision(
+            l, r.known, r.five, out,
+        ),
+        Phase::SelectSent(l) | Phase::UidSelectSent(l) => rows::within::put(
+            out,
+            0,
+            &selection::sent::select(l, r.five),
+        ),
+        Phase::HltaSent => rows::within::put(out, 0, &selection::sent::hlta()),
+        Phase::New | Phase::Selected | Phase::Finished | Phase::Stopped => {}
     }
 }
 
@@ -117,43 +80,35 @@ pub fn put_sent(t: Turn, out: &mut [u8])
     requires { 81 ≤ length out.old }
     ensures { out.new ≡ overlay out.old 0 (sent_by t.answer t.reader) }
 {
-    let a = t.answer;
-    let r = t.reader;
-    match a {
-        Answer::Sends(_) => put_frame(r, out),
-        Answer::Finds(_) => put_frame(r, out),
-        Answer::Selects => {}
-        Answer::Finishes => {}
-        Answer::Declines(_) => {}
+    match t.answer {
+        Answer::Sends(_) | Answer::Finds(_) => put_frame(t.reader, out),
+        Answer::Selects | Answer::Finishes | Answer::Declines(_) => {}
     }
 }
 
 pub fn sends(r: Reader) -> Turn
     ensures { result ≡ sends r }
 {
-    let n = frame_bits(r);
     Turn {
         reader: r,
-        answer: Answer::Sends(n),
+        answer: Answer::Sends(frame_bits(r)),
     }
 }
 
 fn finds(r: Reader) -> Turn
     ensures { result ≡ finds r }
 {
-    let n = frame_bits(r);
     Turn {
         reader: r,
-        answer: Answer::Finds(n),
+        answer: Answer::Finds(frame_bits(r)),
     }
 }
 
 pub fn stop(e: Refusal) -> Turn
     ensures { result ≡ stop e }
 {
-    let r = blank(Phase::Stopped, false);
     Turn {
-        reader: r,
+        reader: blank(Phase::Stopped, false),
         answer: Answer::Declines(e),
     }
 }
@@ -162,25 +117,17 @@ pub fn stop(e: Refusal) -> Turn
 fn opens(l: Level, s: bool, u: Uid) -> Turn
     ensures { result ≡ opens l s u }
 {
-    let r = Reader {
-        phase: Phase::AnticollisionSent(l),
-        sweeps: s,
-        five: [0u8; 5],
-        known: 0,
+    sends(Reader {
         uid: u,
-        sak: 0,
-    };
-    sends(r)
+        ..blank(Phase::AnticollisionSent(l), s)
+    })
 }
 
 // Silence after REQA ends a sweep.
 fn is_over(sweeps: bool, row: &[u8]) -> bool
     ensures { result ≡ (is_nil row.now && sweeps) }
 {
-    if row.len() == 0 {
-        return sweeps;
-    }
-    false
+    row.len() == 0 && sweeps
 }
 
 fn hear_atqa(r: Reader, row: &[u8]) -> Turn
@@ -188,14 +135,12 @@ fn hear_atqa(r: Reader, row: &[u8]) -> Turn
 {
     let s = r.sweeps;
     if is_over(s, row) {
-        let over = blank(Phase::Finished, false);
         return Turn {
-            reader: over,
+            reader: blank(Phase::Finished, false),
             answer: Answer::Finishes,
         };
     }
-    let a = selection::heard::read_atqa(row);
-    match a {
+    match selection::heard::read_atqa(row) {
         Ok(()) => opens(Level::One, s, no_uid()),
         Err(e) => stop(e),
     }
@@ -205,26 +150,20 @@ fn hear_atqa(r: Reader, row: &[u8]) -> Turn
 fn knows(p: Phase, r: Reader, x: Rest) -> Reader
     ensures { result ≡ reader p r.sweeps x.five x.known r.uid 0 }
 {
-    let five = x.five;
-    let u = r.uid;
     Reader {
         phase: p,
-        sweeps: r.sweeps,
-        five: five,
+        five: x.five,
         known: x.known,
-        uid: u,
         sak: 0,
+        ..r
     }
 }
 
 fn hear_rest(l: Level, r: Reader, row: &[u8]) -> Turn
     ensures { result ≡ hear_rest l r row.now }
 {
-    let k = r.known;
-    let five = r.five;
-    let x = selection::heard::read_rest(k, five, row);
-    let says = x.says;
-    match says {
+    let x = selection::heard::read_rest(r.known, r.five, row);
+    match x.says {
         RestSays::Whole => sends(knows(Phase::SelectSent(l), r, x)),
         RestSays::Collided => sends(knows(Phase::AnticollisionSent(l), r, x)),
         RestSays::NotRest(e) => stop(e),
@@ -237,16 +176,10 @@ fn longer(z: UidSize, l: Level, r: Reader, n: usize) -> Uid
     ensures { result ≡ uid z (longer l r n) }
 {
     let at = 3 * selection::numbers::place(l);
-    let five = r.five;
-    let u = r.uid;
-    let old = u.bytes;
     let mut bytes = [0u8; 10];
-    rows::within::put(&mut bytes, 0, &old[..at]);
-    rows::within::put(&mut bytes, at, &five[n..4]);
-    Uid {
-        size: z,
-        bytes: bytes,
-    }
+    rows::within::put(&mut bytes, 0, &r.uid.bytes[..at]);
+    rows::within::put(&mut bytes, at, &r.five[n..4]);
+    Uid { size: z, bytes }
 }
 
 // The UID is complete: in a sweep HLTA comes next.
@@ -254,26 +187,18 @@ pub fn completes(s: bool, u: Uid, b: u8) -> Turn
     ensures { result ≡ completes s u b }
 {
     if s {
-        let r = Reader {
-            phase: Phase::HltaSent,
-            sweeps: true,
-            five: [0u8; 5],
-            known: 0,
+        return finds(Reader {
             uid: u,
             sak: b,
-        };
-        return finds(r);
+            ..blank(Phase::HltaSent, true)
+        });
     }
-    let r = Reader {
-        phase: Phase::Selected,
-        sweeps: false,
-        five: [0u8; 5],
-        known: 0,
-        uid: u,
-        sak: b,
-    };
     Turn {
-        reader: r,
+        reader: Reader {
+            uid: u,
+            sak: b,
+            ..blank(Phase::Selected, false)
+        },
         answer: Answer::Selects,
     }
 }
@@ -319,9 +244,8 @@ fn contradicts(l: Level, more: bool, first: u8) -> bool
 fn sak_heard(l: Level, r: Reader, b: u8) -> Turn
     ensures { result ≡ sak_heard l r (Ok b) }
 {
-    let five = r.five;
     let more = b / 4 % 2 == 1;
-    if contradicts(l, more, five[0]) {
+    if contradicts(l, more, r.five[0]) {
         return stop(Refusal::Forbidden);
     }
     if more {
@@ -333,10 +257,9 @@ fn sak_heard(l: Level, r: Reader, b: u8) -> Turn
 fn hear_sak(l: Level, r: Reader, row: &[u8]) -> Turn
     ensures { result ≡ hear_sak l r row.now }
 {
-    let a = selection::heard::read_sak(row);
-    match a {
+    match selection::heard::read_sak(row) {
         Ok(b) => sak_heard(l, r, b),
-        Err(e) => stop(e),
+        Err(why) => stop(why),
     }
 }
 
@@ -362,17 +285,13 @@ fn not_due(r: Reader) -> Turn
 pub fn hear_rules(r: Reader, row: &[u8]) -> Turn
     ensures { result ≡ hear r row.now }
 {
-    let p = r.phase;
-    match p {
-        Phase::New => not_due(r),
+    match r.phase {
         Phase::ReqaSent => hear_atqa(r, row),
         Phase::AnticollisionSent(l) => hear_rest(l, r, row),
         Phase::SelectSent(l) => hear_sak(l, r, row),
         Phase::HltaSent => hear_silence(row),
-        Phase::Selected => not_due(r),
-        Phase::Finished => not_due(r),
-        Phase::Stopped => not_due(r),
         Phase::WupaSent => crate::known::hear_wupa(r, row),
         Phase::UidSelectSent(l) => crate::known::hear_uid_sak(l, r, row),
+        Phase::New | Phase::Selected | Phase::Finished | Phase::Stopped => not_due(r),
     }
 }

@@ -12,6 +12,10 @@ use Rattle.selection.specs.declared.RestSays.{RestSays}
 use Rattle.selection.specs.declared.RestSays.TheVariants.{Whole, Collided, NotRest}
 use Rattle.selection.specs.declared.Rest.{Rest}
 
+-- a row of n bits is awaited: silence is 7, and any other row 2
+abbrev pub awaited : ℕ → List ℕ → Result Unit Refusal
+awaited n h = cond (is_nil h) (Err Silence) (cond (not (eqb (length h) n)) (Err Length) (Ok tt))
+
 -- ATQA. "In ATQA collided bits count as 1, the length bits are not used, and at least one of b1 to b5 must be 1": b1 to b5 are all 0 only as
 -- five zeros
 unfoldable pub read_atqa : List ℕ → Result Unit Refusal
@@ -53,8 +57,7 @@ read_rest k five h =
 unfoldable pub read_sak : List ℕ → Result ℕ Refusal
 read_sak h =
     let bytes : List ℕ = bytes_of 3 (data_of 3 h) in
-    cond (is_nil h) (Err Silence)
-    (cond (not (eqb (length h) 27)) (Err Length)
+    cond (is_nil h) (Err Silence) (cond (not (eqb (length h) 27)) (Err Length)
     (cond (not (clean h)) (Err Collision)
     (cond (faulty 3 h) (Err (Parity (first_wrong 3 h)))
     (cond (not (same bytes (with_crc (take 1 bytes)))) (Err Crc)

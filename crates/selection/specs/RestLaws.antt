@@ -1,14 +1,14 @@
 -- What a level's 45 bits say, and how the answer to ANTICOLLISION is read by it. Assumes nothing.
-use Rattle.std.specs.Prelude.{◌≡◌, refl, Bool, not, ◌&&◌, List, [], ◌∷◌, ◌++◌, ℕ, zero, suc, ◌+◌, ◌-◌, ◌*◌, ◌/◌, ◌≤◌, ◌<◌, take, drop, get_or, replicate, eqb, ltb, Ok, Err}
-use Rattle.std.proofs.Common.{sym, ◌∙◌, append-nil, arith, length-append, length-take, drop_of_length-le}
+use Rattle.std.specs.Prelude.{◌≡◌, refl, Bool, cond, not, Result, ◌&&◌, List, [], ◌∷◌, ◌++◌, ℕ, zero, suc, ◌+◌, ◌-◌, ◌*◌, ◌/◌, ◌≤◌, ◌<◌, take, drop, get_or, replicate, eqb, ltb, Ok, Err}
+use Rattle.std.proofs.Common.{sym, ap, ◌∙◌, append-nil, arith, length-append, length-take, drop_of_length-le}
 use Rattle.std.proofs.Math.Bool.{true, false}
 use Rattle.std.proofs.Math.ListN.{length}
-use borrow.Author.Tests.{eq-eqb, ne_eqb, lt-ltb, le-ltb, ltb-true, ltb-false}
+use borrow.Author.Tests.{eq-eqb, eqb-true, ne_eqb, lt-ltb, le-ltb, ltb-true, ltb-false}
 use Rattle.rows.specs.Rows.{overlay, is_nil, clean, next, same, fill, Bits}
 use Rattle.frame.specs.Frame.{standard, data_of, bytes_of, faulty}
 use Rattle.uid.specs.Uid.{level, check}
 use Rattle.selection.specs.Selection.{cut}
-use Rattle.selection.specs.Heard.{not_rest, rest_place, rest_of, read_rest, read_sak}
+use Rattle.selection.specs.Heard.{awaited, not_rest, rest_place, rest_of, read_rest, read_sak}
 use Rattle.crc.specs.Crc.{crc_good, with_crc}
 use Rattle.rows.proofs.RowLaws.{overlay_all}
 use Rattle.frame.proofs.WrongLaws.{found_wrong, found_none}
@@ -20,6 +20,7 @@ use Rattle.rows.specs.ListLaws.{all_append}
 use Rattle.rows.specs.HeardLaws.{clean_bits}
 use Rattle.rows.specs.CleanLaws.{bits_clean}
 use Rattle.refusal.specs.declared.Refusal.TheVariants.{Length, Parity, Crc, Check, Silence, Collision}
+use Rattle.refusal.specs.declared.Refusal.{Refusal}
 use Rattle.selection.specs.declared.Rest.{Rest}
 use Rattle.selection.specs.declared.RestSays.TheVariants.{Whole, Collided}
 
@@ -32,6 +33,24 @@ pub nil_no : (h : List ℕ) → (length h ≡ 0 → ⊥) → is_nil h ≡ false
 unfolding is_nil
 nil_no [] n = absurd (n refl)
 nil_no (x ∷ h) n = refl
+
+-- a row that is awaited, and one that is not: the first two tests of what reads it
+pub awaited_yes : (n : ℕ) (h : List ℕ) (u : Unit) → awaited n h ≡ Ok u → (is_nil h ≡ false) × (length h ≡ n)
+awaited_yes n h u = go (is_nil h) (eqb (length h) n) refl refl
+  where
+    go : (a b : Bool) → is_nil h ≡ a → eqb (length h) n ≡ b → cond a (Err Silence) (cond (not b) (Err Length) (Ok tt)) ≡ Ok u → (is_nil h ≡ false) × (length h ≡ n)
+    go true b p q e = cc
+    go false true p q e = (p, eqb-true (length h) n q)
+    go false false p q e = cc
+
+pub awaited_no : {T : Type 0} (n : ℕ) (h : List ℕ) (e : Refusal) (r : Result T Refusal) → awaited n h ≡ Err e
+    → cond (is_nil h) (Err Silence) (cond (not (eqb (length h) n)) (Err Length) r) ≡ Err e
+awaited_no {T} n h e r = go (is_nil h) (eqb (length h) n)
+  where
+    go : (a b : Bool) → cond a (Err Silence) (cond (not b) (Err Length) (Ok tt)) ≡ Err e → cond a (Err Silence) (cond (not b) (Err Length) r) ≡ Err e
+    go true b k = let z : Silence ≡ e = cc in ap Err z
+    go false true k = cc
+    go false false k = let z : Length ≡ e = cc in ap Err z
 
 pub rest_silent : (k : ℕ) (five h : List ℕ) → length h ≡ 0 → read_rest k five h ≡ not_rest Silence
 unfolding read_rest

@@ -4,24 +4,32 @@ ghost use Rattle.rows.specs.Rows.{same};
 ghost use Rattle.uid.specs.Uid.{level};
 ghost use Rattle.frame.specs.Frame.{data_of};
 ghost use Rattle.selection.specs.Level.{first_collided, level_says};
-ghost use Rattle.selection.specs.Heard.{read_atqa, not_rest, rest_place, read_rest, read_sak};
+ghost use Rattle.selection.specs.Heard.{awaited, read_atqa, not_rest, rest_place, read_rest, read_sak};
 ghost use Rattle.selection.specs.Says.{rest_says};
 ghost use Rattle.refusal.specs.Refusal.{made_says, number_says};
 
 use crate::{Rest, RestSays};
 use refusal::Refusal;
 
+// A row of n bits is awaited: silence is 7, and any other row 2.
+fn awaited(row: &[u8], n: usize) -> Result<(), Refusal>
+    ensures { result ≡ awaited n row.now }
+{
+    if row.len() == 0 {
+        return Err(Refusal::Silence);
+    }
+    if row.len() != n {
+        return Err(Refusal::Length);
+    }
+    Ok(())
+}
+
 // ATQA. A collided bit counts as 1, so it is enough that b1 to b5 are not all zeros.
 pub fn read_atqa(row: &[u8]) -> Result<(), Refusal>
     ensures value { result ≡ read_atqa row.now }
     ensures result_value { made_says result ≡ made_says (read_atqa row.now) }
 {
-    if row.len() == 0 {
-        return Err(Refusal::Silence);
-    }
-    if row.len() != 18 {
-        return Err(Refusal::Length);
-    }
+    awaited(row, 18)?;
     let p = frame::within::first_wrong(row, 0, 2);
     if p < 2 {
         return Err(Refusal::Parity(p as u8));
@@ -38,12 +46,7 @@ pub fn read_sak(row: &[u8]) -> Result<u8, Refusal>
     ensures value { result ≡ read_sak row.now }
     ensures result_value { number_says result ≡ number_says (read_sak row.now) }
 {
-    if row.len() == 0 {
-        return Err(Refusal::Silence);
-    }
-    if row.len() != 27 {
-        return Err(Refusal::Length);
-    }
+    awaited(row, 27)?;
     if !rows::is_clean(row) {
         return Err(Refusal::Collision);
     }

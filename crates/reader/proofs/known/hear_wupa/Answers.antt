@@ -6,8 +6,8 @@ use Rattle.reader.proofs.known.hear_wupa.Goals as goal
 
 pub returns-in-Ok : goal.returns-in-Ok
 returns-in-Ok c = let a = c.args in
-    c.picks.ensures ∙ sym (wupa_at a.r a.row.now _ (sym c.read_atqa-a.ensures.value ∙ c.in-Ok.is))
+    c.picks.ensures ∙ sym (wupa_at a.r a.row.now _ (sym c.read_atqa.ensures.value ∙ c.in-Ok.is))
 
 pub returns-in-Err : goal.returns-in-Err
 returns-in-Err c = let a = c.args in
-    c.stop.ensures ∙ sym (wupa_at a.r a.row.now _ (sym c.read_atqa-a.ensures.value ∙ c.in-Err.is))
+    c.stop.ensures ∙ sym (wupa_at a.r a.row.now _ (sym c.read_atqa.ensures.value ∙ c.in-Err.is))

@@ -5,4 +5,4 @@ use borrow.Author.Rules.{rules}
 use Rattle.reader.proofs.within.blank.Goals as goal
 
 pub returns : goal.returns
-returns c = ap (λ u. reader c.args.p c.args.s (replicate 5 0) 0 u 0) c.no_uid-u.ensures
+returns c = ap (λ u. reader c.args.p c.args.s (replicate 5 0) 0 u 0) c.no_uid.ensures

@@ -6,4 +6,4 @@ use Rattle.reader.proofs.within.finds.Goals as goal
 
 pub returns : goal.returns
 unfolding finds
-returns c = ap (λ n. turn c.args.r (Finds n)) c.frame_bits-n.ensures
+returns c = ap (λ n. turn c.args.r (Finds n)) c.frame_bits.ensures

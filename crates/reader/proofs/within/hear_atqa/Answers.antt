@@ -9,13 +9,13 @@ use Rattle.reader.proofs.within.hear_atqa.Goals as goal
 
 pub returns-then-is_over : goal.returns-then-is_over
 unfolding hear_atqa
-returns-then-is_over c = rw (sym c.is_over.ensures ∙ c.if-is_over.true) (ap (λ r. turn r Finishes) c.blank-over.ensures)
+returns-then-is_over c = rw (sym c.is_over.ensures ∙ c.if-is_over.true) (ap (λ r. turn r Finishes) c.blank.ensures)
 
 pub returns-in-Ok : goal.returns-in-Ok
 returns-in-Ok c = let a = c.args in
     c.opens.ensures ∙ ap (opens One a.r.sweeps) c.no_uid.ensures
-    ∙ sym (atqa_at a.r a.row.now _ (sym c.is_over.ensures ∙ c.if-is_over.false) (sym c.read_atqa-a.ensures.value ∙ c.in-Ok.is))
+    ∙ sym (atqa_at a.r a.row.now _ (sym c.is_over.ensures ∙ c.if-is_over.false) (sym c.read_atqa.ensures.value ∙ c.in-Ok.is))
 
 pub returns-in-Err : goal.returns-in-Err
 returns-in-Err c = let a = c.args in
-    c.stop.ensures ∙ sym (atqa_at a.r a.row.now _ (sym c.is_over.ensures ∙ c.if-is_over.false) (sym c.read_atqa-a.ensures.value ∙ c.in-Err.is))
+    c.stop.ensures ∙ sym (atqa_at a.r a.row.now _ (sym c.is_over.ensures ∙ c.if-is_over.false) (sym c.read_atqa.ensures.value ∙ c.in-Err.is))

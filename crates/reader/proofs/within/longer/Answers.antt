@@ -9,8 +9,8 @@ use Rattle.reader.proofs.within.longer.Goals as goal
 pub overflow_mul-at : goal.overflow_mul-at
 overflow_mul-at c = omega (arith, c.place-at.ensures, place_most c.args.l)
 
-pub slice_bounds-old-end : goal.slice_bounds-old-end
-slice_bounds-old-end c = let n : length c.args.r.uid.bytes ≡ 10 = search rules in omega (arith, c.place-at.ensures, place_most c.args.l)
+pub slice_bounds-put-end : goal.slice_bounds-put-end
+slice_bounds-put-end c = let n : length c.args.r.uid.bytes ≡ 10 = search rules in omega (arith, c.place-at.ensures, place_most c.args.l)
 
 pub slice_bounds-put-end-2 : goal.slice_bounds-put-end-2
 slice_bounds-put-end-2 c = let n : length c.args.r.uid.bytes ≡ 10 = search rules in rw length-take (omega (arith, c.place-at.ensures, place_most c.args.l))

@@ -6,4 +6,4 @@ use Rattle.reader.proofs.within.sends.Goals as goal
 
 pub returns : goal.returns
 unfolding sends
-returns c = ap (λ n. turn c.args.r (Sends n)) c.frame_bits-n.ensures
+returns c = ap (λ n. turn c.args.r (Sends n)) c.frame_bits.ensures

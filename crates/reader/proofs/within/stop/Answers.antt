@@ -5,4 +5,4 @@ use borrow.Author.Rules.{rules}
 use Rattle.reader.proofs.within.stop.Goals as goal
 
 pub returns : goal.returns
-returns c = ap (λ r. turn r (Declines c.args.e)) c.blank-r.ensures
+returns c = ap (λ r. turn r (Declines c.args.e)) c.blank.ensures

@@ -1,32 +1,32 @@
 use lib.ListN.{length-take}
 use native.Mathlib.Omega.{arith}
-use mathlib.Core.Path.{refl, sym, ◌∙◌}
-use borrow.Author.Tests.{eq-eqb, ne_eqb}
+use mathlib.Core.Path.{◌≡◌, refl, sym, ap, ◌∙◌}
+use borrow.Author.Tests.{eq-eqb}
 use Rattle.selection.specs.Heard.{read_atqa}
-use Rattle.selection.specs.RestLaws.{nil_yes, nil_no}
+use Rattle.selection.specs.RestLaws.{awaited_yes, awaited_no}
 use Rattle.frame.proofs.WrongLaws.{found_wrong, found_none}
-use borrow.Author.Rules.{rules}
+use Rattle.std.proofs.lemmas.Result.{err_from_is_err_and}
+use Rattle.refusal.specs.Refusal.{made_says}
 use Rattle.selection.proofs.heard.read_atqa.Goals as goal
 
 pub slice_bounds-is_same-end : goal.slice_bounds-is_same-end
-slice_bounds-is_same-end c = rw length-take (omega arith)
+slice_bounds-is_same-end c = rw length-take (omega (arith, (awaited_yes 18 c.args.row.now _ (sym c.awaited.ensures ∙ c.in_ok-awaited.was)).1))
 
-pub returns-then-row-eq0 : goal.returns-then-row-eq0
+pub returns-in_err-awaited : goal.returns-in_err-awaited
 unfolding read_atqa
-returns-then-row-eq0 c = rw (nil_yes _ c.if-row-eq0.true) record { value = refl; result_value = refl }
-
-pub returns-then-row-ne18 : goal.returns-then-row-ne18
-unfolding read_atqa
-returns-then-row-ne18 c = rw (nil_no _ c.if-row-eq0.false, ne_eqb _ _ c.if-row-ne18.true) record { value = refl; result_value = refl }
+returns-in_err-awaited c =
+    let p = err_from_is_err_and c.from_residual.result c.from_residual.ensures.1 in
+    let no : c.from_residual.result ≡ read_atqa c.args.row.now = rw (p.1, p.2) (sym (awaited_no 18 c.args.row.now _ _ (sym c.awaited.ensures ∙ c.in_err-awaited.was))) in
+    record { value = no; result_value = ap made_says no }
 
 pub returns-then-p-lt2 : goal.returns-then-p-lt2
 unfolding read_atqa
-returns-then-p-lt2 c = rw (nil_no _ c.if-row-eq0.false, eq-eqb _ _ c.if-row-ne18.false, found_wrong _ _ _ c.first_wrong-p.ensures c.if-p-lt2.true, ← c.first_wrong-p.ensures) record { value = refl; result_value = refl }
+returns-then-p-lt2 c = rw ((awaited_yes 18 c.args.row.now _ (sym c.awaited.ensures ∙ c.in_ok-awaited.was)).0, eq-eqb _ _ (awaited_yes 18 c.args.row.now _ (sym c.awaited.ensures ∙ c.in_ok-awaited.was)).1, found_wrong _ _ _ c.first_wrong-p.ensures c.if-p-lt2.true, ← c.first_wrong-p.ensures) record { value = refl; result_value = refl }
 
 pub returns-then-is_same : goal.returns-then-is_same
 unfolding read_atqa
-returns-then-is_same c = rw (nil_no _ c.if-row-eq0.false, eq-eqb _ _ c.if-row-ne18.false, found_none _ _ _ c.first_wrong-p.ensures c.if-p-lt2.false, sym c.is_same.ensures ∙ c.if-is_same.true) record { value = refl; result_value = refl }
+returns-then-is_same c = rw ((awaited_yes 18 c.args.row.now _ (sym c.awaited.ensures ∙ c.in_ok-awaited.was)).0, eq-eqb _ _ (awaited_yes 18 c.args.row.now _ (sym c.awaited.ensures ∙ c.in_ok-awaited.was)).1, found_none _ _ _ c.first_wrong-p.ensures c.if-p-lt2.false, sym c.is_same.ensures ∙ c.if-is_same.true) record { value = refl; result_value = refl }
 
 pub returns : goal.returns
 unfolding read_atqa
-returns c = rw (nil_no _ c.if-row-eq0.false, eq-eqb _ _ c.if-row-ne18.false, found_none _ _ _ c.first_wrong-p.ensures c.if-p-lt2.false, sym c.is_same.ensures ∙ c.if-is_same.false) record { value = refl; result_value = refl }
+returns c = rw ((awaited_yes 18 c.args.row.now _ (sym c.awaited.ensures ∙ c.in_ok-awaited.was)).0, eq-eqb _ _ (awaited_yes 18 c.args.row.now _ (sym c.awaited.ensures ∙ c.in_ok-awaited.was)).1, found_none _ _ _ c.first_wrong-p.ensures c.if-p-lt2.false, sym c.is_same.ensures ∙ c.if-is_same.false) record { value = refl; result_value = refl }
