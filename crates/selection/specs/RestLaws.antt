@@ -47,10 +47,11 @@ pub awaited_no : {T : Type 0} (n : ℕ) (h : List ℕ) (e : Refusal) (r : Result
     → cond (is_nil h) (Err Silence) (cond (not (eqb (length h) n)) (Err Length) r) ≡ Err e
 awaited_no {T} n h e r = go (is_nil h) (eqb (length h) n)
   where
-    go : (a b : Bool) → cond a (Err Silence) (cond (not b) (Err Length) (Ok tt)) ≡ Err e → cond a (Err Silence) (cond (not b) (Err Length) r) ≡ Err e
-    go true b k = let z : Silence ≡ e = cc in ap Err z
-    go false true k = cc
-    go false false k = let z : Length ≡ e = cc in ap Err z
+    go : (a b : Bool) → ◌≡◌ {A = Result Unit Refusal} (cond a (Err Silence) (cond (not b) (Err Length) (Ok tt))) (Err e)
+        → ◌≡◌ {A = Result T Refusal} (cond a (Err Silence) (cond (not b) (Err Length) r)) (Err e)
+    go true b k = let z : Silence ≡ e = cc in rw z
+    go false true k = absurd (let z : ◌≡◌ {A = ℕ} 0 1 = cc in omega arith)
+    go false false k = let z : Length ≡ e = cc in rw z
 
 pub rest_silent : (k : ℕ) (five h : List ℕ) → length h ≡ 0 → read_rest k five h ≡ not_rest Silence
 unfolding read_rest
