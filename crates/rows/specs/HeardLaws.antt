@@ -1,7 +1,8 @@
 -- Laws of the tests on received rows: which bits collided, and whether two rows are equal. Assumes nothing.
-use Rattle.std.specs.Prelude.{◌≡◌, refl, Bool, true, false, cond, List, [], ◌∷◌, ℕ, suc, ◌+◌, ◌≤◌, ◌<◌, max, length, take, drop, get_or, ltb, leb}
+use Rattle.std.specs.Prelude.{◌≡◌, refl, Bool, true, false, cond, List, [], ◌∷◌, ℕ, suc, ◌+◌, ◌≤◌, ◌<◌, max, length, take, drop, get_or, ltb, leb, eqb, ◌&&◌}
+use Rattle.std.specs.Cmp.Lexicographic.{pointwise}
 use Rattle.std.proofs.lemmas.Bool.{false≢true, lt-leb}
-use Rattle.std.proofs.Common.{add-one, arith, drop_of_length-le, drop-cons, le-ltb, ltb-true, ltb-false, le-leb, eq-eqb, ne_eqb}
+use Rattle.std.proofs.Common.{ap, add-one, arith, drop_of_length-le, drop-cons, ltb-true, ltb-false, le-leb, eq-eqb, ne_eqb}
 use Rattle.rows.specs.Rows.{clean, same, Bits}
 use Rattle.rows.specs.CleanLaws.{bits_clean}
 use Rattle.rows.specs.ListLaws.{all_take_law, all_drop}
@@ -31,7 +32,16 @@ clean_done h i m l = rw (drop_of_length-le h l) (go (ltb 1 m) refl)
     go true e = rw (lt-leb m 1 (ltb-true 1 m e))
     go false e = rw (le-leb m 1 (ltb-false 1 m e))
 
--- ---- the loop over `same`
+-- ---- `same` is what `==` says of two slices
+
+pub same_equal : (r s : List ℕ) → pointwise eqb r s ≡ same r s
+unfolding same
+same_equal [] [] = refl
+same_equal [] (y ∷ s) = refl
+same_equal (x ∷ r) [] = refl
+same_equal (x ∷ r) (y ∷ s) = ap (λ b. eqb x y && b) (same_equal r s)
+
+-- .. element by element
 
 pub same_next : (r s : List ℕ) (i : ℕ) → i < length r → i < length s → get_or r i 0 ≡ get_or s i 0
     → same (drop i r) (drop i s) ≡ same (drop (i + 1) r) (drop (i + 1) s)

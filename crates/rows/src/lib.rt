@@ -21,8 +21,8 @@ pub fn is_clean(row: &[u8]) -> bool
     ensures { result ≡ clean row.now }
 {
     let mut most: u8 = 0;
-    for i in 0..row.len() {
-        most = larger(most, row[i]);
+    for x in row {
+        most = larger(most, *x);
     }
     most <= 1
 }
@@ -31,13 +31,5 @@ pub fn is_clean(row: &[u8]) -> bool
 pub fn is_same(a: &[u8], b: &[u8]) -> bool
     ensures { result ≡ same a.now b.now }
 {
-    if a.len() != b.len() {
-        return false;
-    }
-    for i in 0..a.len() {
-        if a[i] != b[i] {
-            return false;
-        }
-    }
-    true
+    a == b
 }

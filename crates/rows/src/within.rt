@@ -7,7 +7,8 @@ pub fn put(out: &mut [u8], at: usize, src: &[u8])
     requires { at + length src.now ≤ length out.old }
     ensures { out.new ≡ overlay out.old at src.now }
 {
-    for i in 0..src.len() {
-        out[at + i] = src[i];
+    // Kept: no copy_from_slice, which calls memmove. include/lacrivosum.h says that the archive needs memcpy and memset alone.
+    for (i, x) in src.iter().enumerate() {
+        out[at + i] = *x;
     }
 }

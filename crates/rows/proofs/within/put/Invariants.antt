@@ -1,11 +1,8 @@
 -- `rows::within::put` meets its contract. The loop's invariant: the first i elements of src are written. Assumes nothing.
-use Prim.Native.Nat.{◌≤◌, ◌+◌, ◌-◌}
-use mathlib.Core.Path.{◌≡◌, sym, ap, ◌∙◌}
-use native.Mathlib.Omega.{arith}
-use lib.ListN.{length, take, length-set}
-use lib.Seq.{take_all}
+use Prim.Native.Nat.{◌≤◌, ◌-◌}
+use mathlib.Core.Path.{◌≡◌}
+use lib.ListN.{length, take}
 use Rattle.rows.specs.Rows.{overlay}
-use Rattle.rows.proofs.RowLaws.{overlay_nil, overlay_copy}
 use Rattle.rows.proofs.within.put.Given as goal
 
 abbrev pub invariant-loop-i : goal.invariant-loop-i
