@@ -1,8 +1,8 @@
 -- Laws of the bits of a number, over the width. Assumes nothing.
-use Rattle.std.specs.Prelude.{◌≡◌, refl, ℕ, zero, suc, ◌+◌, ◌-◌, ◌*◌, ◌/◌, ◌%◌, ◌^◌, ◌≤◌, ◌<◌, List, [], ◌∷◌, ◌++◌, length, replicate}
+use Rattle.std.specs.Prelude.{◌≡◌, refl, ℕ, zero, suc, ◌+◌, ◌-◌, ◌*◌, ◌/◌, ◌%◌, ◌^◌, ◌≤◌, ◌<◌, List, [], ◌∷◌, length, replicate}
 use Rattle.std.proofs.Common.{ap, not-suc-le-zero, arith}
-use Rattle.rows.specs.Rows.{All, Bits, fill}
-use Rattle.parity.specs.Bits.{bits_of, unbits, ones}
+use Rattle.rows.specs.Rows.{Bits, fill}
+use Rattle.parity.specs.Bits.{bits_of, unbits}
 
 pub length_bits : (n b : ℕ) → length (bits_of n b) ≡ n
 unfolding bits_of

@@ -1,5 +1,5 @@
 -- Worked values of document 01, on the definitions: REQA in the log record 00 07 64 C0 00, and the ATQA 04 00 in 40 12 20 00 40.
-use Rattle.std.specs.Prelude.{◌≡◌, refl, List, [], ◌∷◌, ℕ}
+use Rattle.std.specs.Prelude.{◌≡◌, refl, [], ◌∷◌}
 use Rattle.parity.specs.Bits.{bits_of, ones, odd}
 
 reqa_bits : bits_of 7 0x26 ≡ 0 ∷ 1 ∷ 1 ∷ 0 ∷ 0 ∷ 1 ∷ 0 ∷ []

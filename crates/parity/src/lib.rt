@@ -14,9 +14,9 @@ pub fn bits_of(b: u8) -> [u8; 8]
 {
     let mut bits = [0u8; 8];
     let mut x = b;
-    for i in 0..8usize {
-        bits[i] = x % 2;
-        x = x / 2;
+    for bit in &mut bits {
+        *bit = x % 2;
+        x /= 2;
     }
     bits
 }

@@ -9,10 +9,8 @@ pub fn number_of(bits: &[u8]) -> u8
     ensures { result ≡ unbits bits.now }
 {
     let mut v: u8 = 0;
-    let mut i = bits.len();
-    while 0 < i {
-        i -= 1;
-        v = 2 * v + bits[i];
+    for bit in bits.iter().rev() {
+        v = 2 * v + *bit;
     }
     v
 }

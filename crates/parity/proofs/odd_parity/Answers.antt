@@ -3,7 +3,6 @@ use mathlib.Core.Path.{◌≡◌, ◌∙◌}
 use native.Mathlib.Omega.{arith}
 use lib.Bits.{bit_xor}
 use Prim.Native.Nat.{ℕ, ◌/◌, ◌%◌}
-use borrow.Author.Rules.{rules}
 use Rattle.parity.specs.Bits.{bits_of, ones, odd}
 use Rattle.parity.specs.FoldLaws.{halved, one_left}
 use Rattle.parity.proofs.odd_parity.Goals as goal

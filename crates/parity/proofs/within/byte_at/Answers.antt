@@ -1,7 +1,6 @@
 -- `parity::within::byte_at` meets its contract, by that of `wide_at`: the sums bring each bit to its place. Assumes nothing.
 use mathlib.Core.Path.{refl}
 use Rattle.parity.specs.WideLaws.{sums_fit, gathered}
-use borrow.Author.Rules.{rules}
 use Rattle.parity.proofs.within.byte_at.Goals as goal
 
 pub overflow_add-y : goal.overflow_add-y

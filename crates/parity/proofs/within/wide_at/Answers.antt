@@ -1,7 +1,6 @@
 -- `parity::within::wide_at` meets its contract, by that of `four`. Assumes nothing.
 use native.Mathlib.Omega.{arith}
 use Rattle.parity.specs.WideLaws.{wide_halves}
-use borrow.Author.Rules.{rules}
 use Rattle.parity.proofs.within.wide_at.Goals as goal
 
 pub overflow_mul-result : goal.overflow_mul-result
