@@ -2,10 +2,10 @@
 // inverted, low byte sent first". T-05: CRC_B has "start FFFF, inverted". T-08: "byte by byte from a table of 256 numbers", "Use the table for
 // CRC_B too".
 //
-// `one` is the table of one byte's bits, `two` that of two bytes' bits, `over` that of eight bytes' bits by half bytes of the register. They are
-// lent to what reads them: a function that names a constant array writes all of it to the stack as it begins, so each table is named in one
-// function, without a loop or a branch. Eight bytes are taken from a register of 0, so that they do not wait for those before them; the last table
-// brings the register over them.
+// `one` is the table of one byte's bits, `two` that of two bytes' bits, `over` that of eight bytes' bits by half bytes of the register. What reads
+// them borrows them: a function that names a constant array writes all of it to the stack as it begins, so each table is named in one function,
+// without a loop or a branch, and its rule is shown there. Eight bytes are taken from a register of 0, so that they do not wait for those before
+// them; the last table brings the register over them.
 #![tactic(auto)]
 
 ghost use Rattle.std.specs.Prelude.{◌≡◌, get_or};
@@ -32,119 +32,139 @@ fn entry(t: &[u16; 256], b: u8) -> u16
     t[b as usize]
 }
 
-// The register after one byte more.
-fn crc_byte(one: &[u16; 256], c: u16, b: u8) -> u16
-    requires { one.now ≡ table 8 }
-    ensures { result ≡ crc_byte c b }
-{
-    let x = c ^ (b as u16);
-    entry(one, (x % 256) as u8) ^ (x / 256)
+// The first table, by which bytes are taken one at a time.
+#[derive(Clone, Copy)]
+struct ByBytes<'a> {
+    one: &'a [u16; 256],
+    ghost one_byte: { one.now ≡ table 8 },
 }
 
-// .. after bytes, one at a time.
-fn by_bytes(one: &[u16; 256], start: u16, bytes: &[u8]) -> u16
-    requires { one.now ≡ table 8 }
-    ensures { result ≡ crc_from start bytes.now }
-{
-    let mut c = start;
-    for i in 0..bytes.len() {
-        c = crc_byte(one, c, bytes[i]);
+impl<'a> ByBytes<'a> {
+    // The register after one byte more.
+    fn crc_byte(self, c: u16, b: u8) -> u16
+        ensures { result ≡ crc_byte c b }
+    {
+        let x = c ^ (b as u16);
+        entry(self.one, (x % 256) as u8) ^ (x / 256)
     }
-    c
-}
 
-// .. after two bytes more.
-fn crc_pair(one: &[u16; 256], two: &[u16; 256], c: u16, a: u8, b: u8) -> u16
-    requires { (one.now ≡ table 8) × (two.now ≡ table 16) }
-    ensures { result ≡ crc_byte (crc_byte c a) b }
-{
-    let x = c ^ ((a as u16) + (b as u16) * 256);
-    entry(two, (x % 256) as u8) ^ entry(one, (x / 256) as u8)
-}
-
-// .. after bytes, two at a time.
-fn by_pairs(one: &[u16; 256], two: &[u16; 256], start: u16, bytes: &[u8]) -> u16
-    requires { (one.now ≡ table 8) × (two.now ≡ table 16) }
-    ensures { result ≡ crc_from start bytes.now }
-{
-    let mut c = start;
-    let mut i = 0usize;
-    while 2 <= bytes.len() - i {
-        c = crc_pair(one, two, c, bytes[i], bytes[i + 1]);
-        i = i + 2;
+    // .. after bytes.
+    fn crc(self, start: u16, bytes: &[u8]) -> u16
+        ensures { result ≡ crc_from start bytes.now }
+    {
+        let mut c = start;
+        for b in bytes {
+            c = self.crc_byte(c, *b);
+        }
+        c
     }
-    by_bytes(one, c, &bytes[i..])
 }
 
-// .. after eight bytes of zeros.
-fn over_eight(over: &[u16; 64], c: u16) -> u16
-    requires { over.now ≡ half_table 64 }
-    ensures { result ≡ shifts 64 c }
-{
-    let low = over[(c % 16) as usize] ^ over[(16 + c / 16 % 16) as usize];
-    low ^ over[(32 + c / 256 % 16) as usize] ^ over[(48 + c / 4096) as usize]
+// All tables, by which bytes are taken two and eight at a time.
+#[derive(Clone, Copy)]
+struct ByTables<'a> {
+    by_bytes: ByBytes<'a>,
+    two: &'a [u16; 256],
+    over: &'a [u16; 64],
+    ghost two_bytes: { two.now ≡ table 16 },
+    ghost over_eight: { over.now ≡ half_table 64 },
 }
 
-// .. after bytes, eight at a time.
-fn by_eights(one: &[u16; 256], two: &[u16; 256], over: &[u16; 64], start: u16, bytes: &[u8]) -> u16
-    requires { (one.now ≡ table 8) × (two.now ≡ table 16) × (over.now ≡ half_table 64) }
-    ensures { result ≡ crc_from start bytes.now }
-{
-    let mut c = start;
-    let mut i = 0usize;
-    while 8 <= bytes.len() - i {
-        c = over_eight(over, c) ^ by_pairs(one, two, 0, &bytes[i..i + 8]);
-        i = i + 8;
+impl<'a> ByTables<'a> {
+    // The register after two bytes more.
+    fn crc_pair(self, c: u16, a: u8, b: u8) -> u16
+        ensures { result ≡ crc_byte (crc_byte c a) b }
+    {
+        let x = c ^ ((a as u16) + (b as u16) * 256);
+        entry(self.two, (x % 256) as u8) ^ entry(self.by_bytes.one, (x / 256) as u8)
     }
-    by_pairs(one, two, c, &bytes[i..])
+
+    // .. after bytes, two at a time.
+    fn by_pairs(self, start: u16, bytes: &[u8]) -> u16
+        ensures { result ≡ crc_from start bytes.now }
+    {
+        let mut c = start;
+        let mut left = bytes;
+        while let [a, b, rest @ ..] = left {
+            c = self.crc_pair(c, *a, *b);
+            left = rest;
+        }
+        self.by_bytes.crc(c, left)
+    }
+
+    // .. after eight bytes of zeros.
+    fn over_eight(self, c: u16) -> u16
+        ensures { result ≡ shifts 64 c }
+    {
+        let low = self.over[(c % 16) as usize] ^ self.over[(16 + c / 16 % 16) as usize];
+        low ^ self.over[(32 + c / 256 % 16) as usize] ^ self.over[(48 + c / 4096) as usize]
+    }
+
+    // .. after bytes, eight at a time.
+    fn crc(self, start: u16, bytes: &[u8]) -> u16
+        ensures { result ≡ crc_from start bytes.now }
+    {
+        let mut c = start;
+        let mut left = bytes;
+        while let Some((eight, rest)) = left.split_first_chunk::<8>() {
+            c = self.over_eight(c) ^ self.by_pairs(0, eight);
+            left = rest;
+        }
+        self.by_pairs(c, left)
+    }
 }
 
-// .. after bytes, with all tables at hand.
-fn by_all(one: &[u16; 256], start: u16, bytes: &[u8]) -> u16
-    requires { one.now ≡ table 8 }
+// The register after bytes, with all tables at hand.
+fn by_all(by_bytes: ByBytes<'_>, start: u16, bytes: &[u8]) -> u16
     ensures { result ≡ crc_from start bytes.now }
 {
-    by_eights(one, &tables::TWO_BYTES, &tables::OVER_EIGHT, start, bytes)
+    let tables = ByTables {
+        by_bytes,
+        two: &tables::TWO_BYTES,
+        over: &tables::OVER_EIGHT,
+    };
+    tables.crc(start, bytes)
 }
 
 // .. after bytes. Below sixteen the first table does: there are no two eights that could go side by side.
-fn by_tables(one: &[u16; 256], start: u16, bytes: &[u8]) -> u16
-    requires { one.now ≡ table 8 }
+fn by_tables(by_bytes: ByBytes<'_>, start: u16, bytes: &[u8]) -> u16
     ensures { result ≡ crc_from start bytes.now }
 {
     if bytes.len() < 16 {
-        return by_bytes(one, start, bytes);
+        by_bytes.crc(start, bytes)
+    } else {
+        by_all(by_bytes, start, bytes)
     }
-    by_all(one, start, bytes)
 }
 
 // The CRC of bytes, by its start value and by what the register is turned by at the end.
 fn crc_of(start: u16, end: u16, bytes: &[u8]) -> u16
     ensures { result ≡ crc_of start end bytes.now }
 {
-    by_tables(&tables::ONE_BYTE, start, bytes) ^ end
+    let by_bytes = ByBytes {
+        one: &tables::ONE_BYTE,
+    };
+    by_tables(by_bytes, start, bytes) ^ end
 }
 
 // .. as it is sent, low byte first.
 fn sent_of(start: u16, end: u16, bytes: &[u8]) -> [u8; 2]
     ensures { result ≡ sent_of start end bytes.now }
 {
-    let c = crc_of(start, end, bytes);
-    [(c % 256) as u8, (c / 256) as u8]
+    crc_of(start, end, bytes).to_le_bytes()
 }
 
 // Are the last two bytes the CRC of those before? Fewer than two bytes have none.
 fn is_good_of(start: u16, end: u16, bytes: &[u8]) -> bool
     ensures { result ≡ good_of start end bytes.now }
 {
-    if bytes.len() < 2 {
-        return false;
+    match bytes.split_last_chunk::<2>() {
+        Some((message, crc)) => rows::is_same(crc, &sent_of(start, end, message)),
+        None => false,
     }
-    let n = bytes.len() - 2;
-    let due = sent_of(start, end, &bytes[..n]);
-    rows::is_same(&bytes[n..], &due)
 }
 
+// Kept: docs/PROMISES.md names the three of CRC_A and the three of CRC_B. They are one function each, at two start values and ends.
 // CRC_A of bytes.
 pub fn crc_a(bytes: &[u8]) -> u16
     ensures { result ≡ crc_a bytes.now }

@@ -5,9 +5,9 @@ use Rattle.crc.specs.CrcOf.{crc_of}
 use Rattle.crc.specs.Table.{entries, table}
 use Rattle.crc.proofs.crc_of.Goals as goal
 
-pub by_tables-requires : goal.by_tables-requires
+pub invariant_of-by_bytes : goal.invariant_of-by_bytes
 unfolding table entries shifts shift
-by_tables-requires c = refl
+invariant_of-by_bytes c = record { one_byte = refl }
 
 pub returns : goal.returns
 unfolding crc_of

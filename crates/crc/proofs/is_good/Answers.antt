@@ -1,6 +1,5 @@
 -- `crc::is_good` meets its contract, by that of `is_good_of`: CRC_A starts as 6363 and is not inverted. Assumes nothing.
 use mathlib.Core.Path.{◌∙◌}
-use borrow.Author.Rules.{rules}
 use Rattle.crc.specs.CrcOfLaws.{good_a}
 use Rattle.crc.proofs.is_good.Goals as goal
 
