@@ -4,7 +4,7 @@
 ghost use Rattle.std.specs.Prelude.{◌≡◌};
 ghost use Rattle.refusal.specs.Refusal.{number_of, place_of};
 
-#[derive(Clone, Copy)]
+#[derive(Clone, Copy, Debug, PartialEq, Eq)]
 pub enum Refusal {
     // 1: lent room shorter than asked
     Room,
@@ -57,17 +57,7 @@ pub fn place(r: Refusal) -> u8
     ensures { result ≡ place_of r }
 {
     match r {
-        Refusal::Room => 0,
-        Refusal::Length => 0,
         Refusal::Parity(b) => b,
-        Refusal::Crc => 0,
-        Refusal::Check => 0,
-        Refusal::Argument => 0,
-        Refusal::Silence => 0,
-        Refusal::Collision => 0,
-        Refusal::Forbidden => 0,
-        Refusal::TooLong => 0,
-        Refusal::NotDue => 0,
-        Refusal::Repeats => 0,
+        _ => 0,
     }
 }
