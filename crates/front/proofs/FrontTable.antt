@@ -1,10 +1,10 @@
 -- T-01's corners by their bits, and the row of a worked example: one table of theorems on the definitions.
-use Rattle.std.specs.Prelude.{◌≡◌, refl, Bool, true, false, List, [], ◌∷◌, map, ℕ, Float}
+use Rattle.std.specs.Prelude.{◌≡◌, refl, Bool, true, false, List, [], ◌∷◌, map, ℕ, Float, Err}
 use Rattle.std.specs.Float.{binary32}
 use Rattle.std.specs.Float.Ieee.{of_bits, lt, le, eq, ne, mul}
 use Rattle.front.specs.declared.Profile.{Profile}
-use Rattle.front.specs.declared.Gate.TheVariants.{Level, Share, Off}
-use Rattle.front.specs.declared.Heard.TheVariants.{NoRoom, NotEnergies}
+use Rattle.front.specs.declared.Gate.TheVariants.{Share, Off}
+use Rattle.front.specs.declared.NotHeard.TheVariants.{NoRoom, NotEnergies}
 use Rattle.front.specs.Front.{energy, energies, level_of, level_taken, share_taken, taken_at, taken, loaded, row_at, row_of}
 use Rattle.front.specs.Calls.{number_of}
 
@@ -23,8 +23,8 @@ worked = 0x40800000 ∷ 0 ∷ 0x3DCCCCCD ∷ 0x3F800000 ∷ 0x3F800000 ∷ 0x3F8
 
 pub record FrontTable : Type 0 where
   -- "Refuse with 13, after 1"
-  pub room : number_of NoRoom ≡ 1
-  pub thirteen : number_of NotEnergies ≡ 13
+  pub room : number_of (Err NoRoom) ≡ 1
+  pub thirteen : number_of (Err NotEnergies) ≡ 13
   -- a NaN, both infinities, the number next below zero; minus zero, the largest finite number
   pub nan : energy (f 0x7FC00000) ≡ false
   pub infinity : energy (f 0x7F800000) ≡ false
@@ -47,7 +47,7 @@ pub record FrontTable : Type 0 where
   -- floor 0.1, a quarter of a peak of 4: first half alone, second alone (the first is at the floor), both; the end; a half behind it
   pub row : row_of share (map f worked) ≡ 1 ∷ 0 ∷ 2 ∷ []
   pub row_taken : taken share (map f worked) ≡ true
-  -- .. a strong half and a weak one, for `as-sent`
+  -- .. a strong half and a weak one, for `as_sent`
   pub strong : loaded (f 0x3F800000) (f 0x3DCCCCCD) (f 0x40800000) ≡ true
   pub weak : loaded (f 0x3F800000) (f 0x3DCCCCCD) (f 0x3F7FFFFF) ≡ false
   -- .. off

@@ -1,14 +1,13 @@
 -- Laws of T-01: halves, the end, and rows. Assumes nothing.
-use Rattle.std.specs.Prelude.{◌≡◌, Bool, not, ◌&&◌, length, eqb, Float}
+use Rattle.std.specs.Prelude.{◌≡◌, Bool, ◌&&◌, length, eqb, Float}
 use Rattle.std.proofs.Math.Path.{refl, ap}
-use Prim.Native.Nat.{ℕ, zero as none, suc, ◌+◌, ◌%◌, ◌<◌}
+use Prim.Native.Nat.{ℕ, zero as none, suc, ◌%◌, ◌<◌}
 use native.Mathlib.Omega.{arith}
 use Rattle.std.proofs.Math.Bool.{true, false, cond}
 use mathlib.Core.List.{List, [], ◌∷◌, ◌++◌}
-use Rattle.std.specs.Float.{nan, binary32}
-use Rattle.std.specs.Float.Ieee.{lt, le, mul, eq, ne}
+use Rattle.std.specs.Float.Ieee.{lt, le}
 use Rattle.rows.specs.Rows.{All}
-use Rattle.front.specs.Front.{zero, one, energy, level_taken, share_taken, loaded, ending, bit_of, row_at}
+use Rattle.front.specs.Front.{zero, energy, loaded, ending, bit_of, row_at}
 use Rattle.front.specs.NumberLaws.{minus, lt_self, le_self, as_zero}
 
 -- ---- "at least the level and above the floor"

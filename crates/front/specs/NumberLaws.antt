@@ -1,9 +1,9 @@
 -- Laws of T-01: which numbers are taken, and how the corners of IEEE 754 compare. Assumes nothing.
-use Rattle.std.specs.Prelude.{◌≡◌, refl, ℕ, zero as none, suc, ◌+◌, ◌*◌, ◌%◌, ◌<◌, Bool, true, false, not, ◌&&◌, ◌||◌, List, [], ◌∷◌, ◌++◌, length, eqb, ltb, ℤ, pos, Float}
+use Rattle.std.specs.Prelude.{◌≡◌, refl, ℕ, zero as none, suc, ◌+◌, ◌*◌, ◌%◌, ◌<◌, Bool, true, false, not, ◌&&◌, ◌||◌, List, [], ◌∷◌, ◌++◌, length, eqb, Float}
 use Rattle.std.proofs.Common.{sym, ap₂, ◌∙◌, zero-mul, suc-mul, add-zero, zero-add, arith, ne_eqb, eq-eqb, lt-ltb, le-ltb, ltb-true}
 use Rattle.std.proofs.lemmas.Bool.{false≢true}
 use Rattle.std.specs.Float.{nan, inf, fin, binary32}
-use Rattle.std.specs.Float.Ieee.{of_bits, lt, le, eq, ne, mul, div, up, down, level, below, is_nan}
+use Rattle.std.specs.Float.Ieee.{of_bits, lt, le, eq, ne, mul, div, up, down, level, below}
 use Rattle.std.specs.Float.Ieee.Fits.{up_pos}
 use Rattle.rows.specs.Rows.{any}
 use Rattle.rows.specs.ListLaws.{both}

@@ -20,25 +20,25 @@ pub fn level_of(gate: Gate, peak: f32) -> f32
 fn is_loaded(level: f32, floor: f32, energy: f32) -> bool
     ensures { result ≡ loaded level floor energy }
 {
-    if energy >= level {
-        energy > floor
-    } else {
-        false
-    }
+    energy >= level && energy > floor
 }
 
 // "neither the end"
 fn is_end(first: bool, second: bool) -> bool
     ensures { result ≡ ending first second }
 {
-    if first { false } else { !second }
+    !first && !second
 }
 
 // "Only the first half loaded is a 1, only the second a 0, both a collision"
 fn bit_of(first: bool, second: bool) -> u8
     ensures { result ≡ bit_of first second }
 {
-    if first { if second { 2 } else { 1 } } else { 0 }
+    match (first, second) {
+        (true, true) => 2,
+        (true, false) => 1,
+        (false, _) => 0,
+    }
 }
 
 // Writes the bits up to the end to the front of the places, and says how many they are.

@@ -25,45 +25,41 @@ pub struct Profile {
     pub gate: Gate,
 }
 
-// What came of the energies: a row of so many bits stands at the front of the lent places (none: silence); or why not, and they are
-// unchanged.
-#[derive(Clone, Copy)]
-pub enum Heard {
-    Bits(usize),
+// Why the energies make no row. The lent places are unchanged.
+#[derive(Clone, Copy, Debug, PartialEq, Eq)]
+pub enum NotHeard {
     // 1: there are fewer places than whole bits were handed in
     NoRoom,
     // 13: a number that is no energy, a share or a level that is none, or half a bit
     NotEnergies,
 }
 
-// The energies of the halves, first half of the first bit first, as a received row: 0, 1, and 2 for a collided bit. It asks for a place for each
-// whole bit handed in. Tested 1, then 13.
-pub fn receive(profile: Profile, halves: &[f32], places: &mut [u8]) -> Heard
+// The energies of the halves, first half of the first bit first, as a received row: 0, 1, and 2 for a collided bit. It stands at the front of the
+// lent places, and the answer is how many bits it has (none: silence). It asks for a place for each whole bit handed in. Tested 1, then 13.
+pub fn receive(profile: Profile, halves: &[f32], places: &mut [u8]) -> Result<usize, NotHeard>
     ensures result_value { heard_says result ≡ receive_says (length places.old) profile halves.now }
     ensures places_after { places.new ≡ places_after result (row_of profile halves.now) places.old }
 {
     if places.len() < halves.len() / 2 {
-        return Heard::NoRoom;
+        return Err(NotHeard::NoRoom);
     }
-    let gate = profile.gate;
-    let level = halves::level_of(gate, profile.peak);
+    let level = halves::level_of(profile.gate, profile.peak);
     if !tests::is_taken(profile, level, halves) {
-        return Heard::NotEnergies;
+        return Err(NotHeard::NotEnergies);
     }
-    match gate {
-        Gate::Level(_) => Heard::Bits(halves::write(level, profile.floor, halves, places)),
-        Gate::Share(_) => Heard::Bits(halves::write(level, profile.floor, halves, places)),
-        Gate::Off => Heard::Bits(0),
+    match profile.gate {
+        Gate::Off => Ok(0),
+        _ => Ok(halves::write(level, profile.floor, halves, places)),
     }
 }
 
 // The number of a refusal; 0 where there is none.
-pub fn number(h: Heard) -> u8
+pub fn number(h: Result<usize, NotHeard>) -> u8
     ensures { result ≡ number_of h }
 {
     match h {
-        Heard::Bits(_) => 0,
-        Heard::NoRoom => 1,
-        Heard::NotEnergies => 13,
+        Ok(_) => 0,
+        Err(NotHeard::NoRoom) => 1,
+        Err(NotHeard::NotEnergies) => 13,
     }
 }

@@ -8,15 +8,15 @@ use crate::{Gate, Profile};
 fn is_energy(x: f32) -> bool
     ensures { result ≡ energy x }
 {
-    if x >= 0.0 { x < 1.0 / 0.0 } else { false }
+    x >= 0.0 && x < 1.0 / 0.0
 }
 
 // Are all halves energies, those after the end too?
 fn are_energies(halves: &[f32]) -> bool
     ensures { result ≡ energies halves.now }
 {
-    for i in 0..halves.len() {
-        if !is_energy(halves[i]) {
+    for x in halves {
+        if !is_energy(*x) {
             return false;
         }
     }
@@ -27,22 +27,14 @@ fn are_energies(halves: &[f32]) -> bool
 fn is_level(own: f32) -> bool
     ensures { result ≡ level_taken own }
 {
-    if is_energy(own) {
-        return own != 0.0;
-    }
-    false
+    is_energy(own) && own != 0.0
 }
 
 // Is this a share, above 0 and at most 1, and the level that it comes to not zero?
 fn is_share(share: f32, level: f32) -> bool
     ensures { result ≡ share_taken share level }
 {
-    if share > 0.0 {
-        if share <= 1.0 {
-            return level != 0.0;
-        }
-    }
-    false
+    share > 0.0 && share <= 1.0 && level != 0.0
 }
 
 // Is this a gate, and does it come to a level that is not zero? Off comes to none.
@@ -60,18 +52,10 @@ fn is_gate(gate: Gate, level: f32) -> bool
 pub fn is_taken(profile: Profile, level: f32, halves: &[f32]) -> bool
     ensures { result ≡ taken_at profile level halves.now }
 {
-    if halves.len() % 2 != 0 {
-        return false;
-    }
-    if !are_energies(halves) {
-        return false;
-    }
-    if !is_energy(profile.floor) {
-        return false;
-    }
-    if !is_energy(profile.peak) {
-        return false;
-    }
-    let gate = profile.gate;
-    is_gate(gate, level)
+    let Profile { floor, peak, gate } = profile;
+    halves.len() % 2 == 0
+        && are_energies(halves)
+        && is_energy(floor)
+        && is_energy(peak)
+        && is_gate(gate, level)
 }

@@ -1,10 +1,10 @@
 -- What the call of crate front leaves, by what its answer says. Assumes nothing.
-use Rattle.std.specs.Prelude.{◌≡◌, refl, List, ℕ, ◌<◌, ◌≤◌, Float}
+use Rattle.std.specs.Prelude.{◌≡◌, refl, List, ℕ, ◌<◌, ◌≤◌, Float, Result, Ok, Err}
 use Rattle.std.proofs.Common.{ap, ◌∙◌, lt-ltb, le-ltb}
 use Rattle.refusal.specs.Refusal.{Said}
 use Rattle.refusal.specs.declared.Refusal.TheVariants.{Argument}
-use Rattle.front.specs.declared.Heard.{Heard}
-use Rattle.front.specs.declared.Heard.TheVariants.{Bits, NoRoom, NotEnergies}
+use Rattle.front.specs.declared.NotHeard.{NotHeard}
+use Rattle.front.specs.declared.NotHeard.TheVariants.{NoRoom, NotEnergies}
 use Rattle.front.specs.declared.Profile.{Profile}
 use Rattle.front.specs.Front.{row_of}
 use Rattle.front.specs.Calls.{heard_says, receive_says, places_after}
@@ -12,10 +12,10 @@ use Rattle.kept.specs.Kept.{refused}
 use Rattle.lacrivosum.specs.Frames.{said_number, said_left}
 use Rattle.lacrivosum.specs.Fronts.{front_says}
 
-places_after_law : (h : Heard) (row out : List ℕ) → places_after h row out ≡ said_left (heard_says h) row out
-places_after_law (Bits n) row out = refl
-places_after_law NoRoom row out = refl
-places_after_law NotEnergies row out = refl
+places_after_law : (h : Result ℕ NotHeard) (row out : List ℕ) → places_after h row out ≡ said_left (heard_says h) row out
+places_after_law (Ok n) row out = refl
+places_after_law (Err NoRoom) row out = refl
+places_after_law (Err NotEnergies) row out = refl
 
 -- no gate has this number
 pub no_gate : (gate room n : ℕ) (p : Profile) (h : List Float) (row out : List ℕ) → 2 < gate → n ≡ refused Argument
@@ -24,7 +24,7 @@ unfolding front_says
 no_gate gate room n p h row out g e = (rw (lt-ltb 2 gate g, e), rw (lt-ltb 2 gate g))
 
 -- .. one has: the answer a of the call with the profile q that was made
-pub gated : (gate room n : ℕ) (p q : Profile) (h : List Float) (a : Heard) (out o : List ℕ) → gate ≤ 2 → q ≡ p → heard_says a ≡ receive_says room q h
+pub gated : (gate room n : ℕ) (p q : Profile) (h : List Float) (a : Result ℕ NotHeard) (out o : List ℕ) → gate ≤ 2 → q ≡ p → heard_says a ≡ receive_says room q h
     → o ≡ places_after a (row_of q h) out → n ≡ said_number (heard_says a)
     → (n ≡ said_number (front_says gate room p h)) × (o ≡ said_left (front_says gate room p h) (row_of p h) out)
 unfolding front_says

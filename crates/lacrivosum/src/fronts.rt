@@ -5,7 +5,7 @@ ghost use Rattle.front.specs.Calls.{heard_says};
 ghost use Rattle.lacrivosum.specs.Frames.{said_number, said_left};
 ghost use Rattle.lacrivosum.specs.Fronts.{gate_of, profile_of, front_says};
 
-use front::{Gate, Heard, Profile};
+use front::{Gate, NotHeard, Profile};
 use refusal::Refusal;
 
 // The gate of its number: 1 a level, 2 a share, else off.
@@ -22,13 +22,13 @@ fn gate_of(gate: u8, value: f32) -> Gate
 }
 
 // The bits written, or minus the refusal's number.
-fn heard_number(h: Heard) -> usize
+fn heard_number(h: Result<usize, NotHeard>) -> usize
     ensures { result ≡ said_number (heard_says h) }
 {
     match h {
-        Heard::Bits(n) => n,
-        Heard::NoRoom => 18446744073709551615,
-        Heard::NotEnergies => 18446744073709551603,
+        Ok(n) => n,
+        Err(NotHeard::NoRoom) => 18446744073709551615,
+        Err(NotHeard::NotEnergies) => 18446744073709551603,
     }
 }
 

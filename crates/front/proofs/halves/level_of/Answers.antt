@@ -1,5 +1,4 @@
 -- `front::halves::level_of` meets its contract. Assumes nothing.
-use borrow.Author.Rules.{rules}
 use Rattle.front.proofs.halves.level_of.Goals as goal
 
 pub returns-in-Share : goal.returns-in-Share

@@ -1,11 +1,10 @@
-use Prim.Native.Nat.{ℕ, ◌≤◌, ◌<◌, ◌+◌, ◌-◌, ◌*◌, ◌/◌}
+use Prim.Native.Nat.{◌+◌, ◌*◌}
 use mathlib.Core.Path.{◌≡◌, refl, sym, ap, ◌∙◌}
-use mathlib.Core.List.{List, [], ◌∷◌}
+use mathlib.Core.List.{[], ◌∷◌}
 use native.Mathlib.Nat.{zero-add}
 use native.Mathlib.Omega.{arith}
 use lib.ListN.{length, drop, length-set, length-drop}
-use borrow.Author.Rules.{rules, scaled_Fits}
-use Rattle.rows.specs.Rows.{overlay}
+use borrow.Author.Rules.{scaled_Fits}
 use Rattle.rows.proofs.RowLaws.{overlay_nil}
 use Rattle.front.specs.Front.{row_at}
 use Rattle.front.proofs.LoopLaws.{overlay_shift, row_length, row_ends, row_goes, row_done}

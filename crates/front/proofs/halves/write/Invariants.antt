@@ -1,16 +1,10 @@
 -- `front::halves::write` meets its contract. The loop's invariant: the row of the halves from the i-th bit on, written from index i on, leaves what
 -- the whole row written at the front leaves. Assumes nothing.
-use Prim.Native.Nat.{ℕ, ◌≤◌, ◌<◌, ◌+◌, ◌-◌, ◌*◌, ◌/◌}
-use mathlib.Core.Path.{◌≡◌, refl, sym, ap, ◌∙◌}
-use mathlib.Core.List.{List, [], ◌∷◌}
-use native.Mathlib.Nat.{zero-add}
-use native.Mathlib.Omega.{arith}
-use lib.ListN.{length, drop, length-set, length-drop}
-use borrow.Author.Rules.{rules, scaled_Fits}
+use Prim.Native.Nat.{◌≤◌, ◌+◌, ◌-◌, ◌*◌}
+use mathlib.Core.Path.{◌≡◌}
+use lib.ListN.{length, drop}
 use Rattle.rows.specs.Rows.{overlay}
-use Rattle.rows.proofs.RowLaws.{overlay_nil}
 use Rattle.front.specs.Front.{row_at}
-use Rattle.front.proofs.LoopLaws.{overlay_shift, row_length, row_ends, row_goes, row_done}
 use Rattle.front.proofs.halves.write.Given as goal
 
 abbrev pub invariant-loop-i : goal.invariant-loop-i
