@@ -5,8 +5,10 @@ mod answers;
 mod lines;
 
 use bench_talk::{Answer, Talk};
+use card::{Card, CardState};
 use card_link::LinkCard;
 use std::io;
+use uid::{Uid, UidSize};
 
 // The card, if there is one; the message buffer and its room; and the host's answer, so many bytes at the front. A line holds fewer than
 // 8,192 bytes: a host's answer that is too long for the core reaches it all the same.
@@ -46,15 +48,29 @@ fn main(rt: HostRuntime) -> io::Result<()> {
 
 // No card yet, and a message buffer of 4,096 bytes.
 fn start() -> Bench {
-    let none = card_link::whole::new_card(b"", false, 0);
-    let card = none.card;
     Bench {
         has_card: false,
-        card,
+        card: LinkCard {
+            card: no_card(),
+            link: card_blocks::open(0, 0),
+        },
         message: [0; 4096],
         room: 4096,
         answer: [0; 8192],
         length: 0,
+    }
+}
+
+// What stands where there is no card: four zeros, without power.
+fn no_card() -> Card {
+    Card {
+        uid: Uid {
+            size: UidSize::Single,
+            bytes: [0; 10],
+        },
+        blocks: false,
+        index: 0,
+        state: CardState::Off,
     }
 }
 

@@ -8,9 +8,10 @@ mod report;
 mod woken;
 
 use bench_talk::Talk;
-use card::Card;
+use card::{Card, CardState};
 use limits::MOST_CARDS;
 use std::io;
+use uid::{Uid, UidSize};
 
 // The cards so far, in the order given: their number, and as many of them as a sweep takes; whether a card was not to be made; how many bytes of
 // log and list are lent to the sweep; the tick of its first record; whether it remembers (T-14); and the UID to wake, so many bytes, none where the field is to be swept.
@@ -39,10 +40,8 @@ pub enum Way {
 
 // No cards.
 pub fn none() -> Collected {
-    let new = card::new_card(b"", false, 0);
-    let c = new.card;
     Collected {
-        cards: [c; MOST_CARDS],
+        cards: [no_card(); MOST_CARDS],
         count: 0,
         is_refused: false,
         log: limits::LOG_ROOM,
@@ -51,6 +50,19 @@ pub fn none() -> Collected {
         is_remembering: false,
         uid: [0; 10],
         length: 0,
+    }
+}
+
+// What stands where there is no card: four zeros, without power.
+fn no_card() -> Card {
+    Card {
+        uid: Uid {
+            size: UidSize::Single,
+            bytes: [0; 10],
+        },
+        blocks: false,
+        index: 0,
+        state: CardState::Off,
     }
 }
 

@@ -2,7 +2,7 @@
 use crate::{Bench, Reply};
 use bench_talk::Answer;
 use delay::Judged;
-use front::Heard;
+use front::NotHeard;
 
 // The words of the answers, by their numbers in the list of with_word.
 const OK: usize = 0;
@@ -103,11 +103,10 @@ fn received(bench: Bench, halves: &[f32]) -> Reply {
 }
 
 // `row ROW` or `refused N`
-fn heard(h: Heard, places: &[u8; 4096]) -> Answer {
+fn heard(h: Result<usize, NotHeard>, places: &[u8; 4096]) -> Answer {
     match h {
-        Heard::Bits(n) => bench_talk::row(with_word(ROW), bench::front(places, n)),
-        Heard::NoRoom => bench_talk::refused(front::number(h)),
-        Heard::NotEnergies => bench_talk::refused(front::number(h)),
+        Ok(n) => bench_talk::row(with_word(ROW), bench::front(places, n)),
+        Err(_) => bench_talk::refused(front::number(h)),
     }
 }
 

@@ -26,9 +26,13 @@ pub fn stand(bench: Bench, k: usize, g: Given) -> Bench {
 }
 
 fn card(index: u8) -> LinkCard {
-    let new = card_link::whole::new_card(&[1, 2, 3, 4], true, index);
-    let card = new.card;
-    card_link::whole::power_on(card)
+    match card_link::whole::new_card(&[1, 2, 3, 4], true, index) {
+        Ok(card) => card_link::whole::power_on(card),
+        Err(_) => LinkCard {
+            card: card::power_on(crate::sweeps::no_card()),
+            link: card_blocks::open(0, 0),
+        },
+    }
 }
 
 fn both(e: Ends) -> Bench {

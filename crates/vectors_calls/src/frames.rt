@@ -1,7 +1,7 @@
 // Frames written and read, and a UID's on-air row, with so much room.
-use refusal::Refusal;
 use crate::Given;
 use bench_talk::Answer;
+use refusal::Refusal;
 
 // `write ROOM BYTES`, `write_crc ROOM BYTES`, `write_short ROOM`, `read ROOM`, `read_crc ROOM`, `air_row ROOM`
 pub fn line(k: usize, g: Given) -> Answer {

@@ -5,7 +5,7 @@ use card::{Card, CardState};
 use limits::MOST_CARDS;
 use reader::Reader;
 use sweep::{Start, Swept};
-use uid::{Level, Uid};
+use uid::{Level, Uid, UidSize};
 
 // `sweep LOG LIST N OFF`, `sweep_row LOG LIST N OFF`: the call is handed as many cards as a sweep takes, of which N count. What is off: the first card's index is 9, its
 // UID is not valid, it is Ready, Off, Ready* or Active*, its UID is the second card's, or the reader is not new. `wake_field BYTES FIRST N OFF`:
@@ -97,9 +97,20 @@ fn good() -> [Card; MOST_CARDS] {
 }
 
 fn numbered(n: u8) -> Card {
-    let new = card::new_card(&[n, 2, 3, 4], true, 8);
-    let c = new.card;
-    card::power_on(c)
+    card::power_on(card::new_card(&[n, 2, 3, 4], true, 8).unwrap_or(no_card()))
+}
+
+// What stands where there is no card: four zeros, without power.
+pub fn no_card() -> Card {
+    Card {
+        uid: Uid {
+            size: UidSize::Single,
+            bytes: [0; 10],
+        },
+        blocks: false,
+        index: 0,
+        state: CardState::Off,
+    }
 }
 
 // The card with one thing off.

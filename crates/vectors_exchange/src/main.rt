@@ -8,9 +8,11 @@ mod lines;
 mod losses;
 
 use bench_talk::{Answer, Talk};
+use card::{Card, CardState};
 use card_link::LinkCard;
 use reader_link::LinkReader;
 use std::io;
+use uid::{Uid, UidSize};
 
 // The two ends, if there are any; and how many bytes the card's host's last answer has, with their seed.
 #[derive(Clone, Copy)]
@@ -48,14 +50,28 @@ fn main(rt: HostRuntime) -> io::Result<()> {
 
 // No ends yet.
 fn start() -> Bench {
-    let none = card_link::whole::new_card(b"", false, 0);
-    let card = none.card;
     Bench {
         has_ends: false,
         reader: reader_link::whole::new_reader(),
-        card,
+        card: LinkCard {
+            card: no_card(),
+            link: card_blocks::open(0, 0),
+        },
         before: 0,
         seed: 0,
+    }
+}
+
+// What stands where there is no card: four zeros, without power.
+fn no_card() -> Card {
+    Card {
+        uid: Uid {
+            size: UidSize::Single,
+            bytes: [0; 10],
+        },
+        blocks: false,
+        index: 0,
+        state: CardState::Off,
     }
 }
 

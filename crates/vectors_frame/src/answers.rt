@@ -1,6 +1,6 @@
 // The answers. None where the line is not understood.
-use refusal::Refusal;
 use bench_talk::Answer;
+use refusal::Refusal;
 use uid::Uid;
 
 // The words of the answers, by their numbers in the list of said.

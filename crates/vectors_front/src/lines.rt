@@ -1,6 +1,6 @@
 // The lines. Each function answers the bench after the line and the answer to it.
 use crate::{Bench, Reply, answers};
-use front::{Heard, Profile};
+use front::Profile;
 use reader::{Reader, Turn};
 
 pub fn script(bench: Bench, text: &[u8]) -> Reply {
@@ -104,9 +104,8 @@ fn received(bench: Bench, halves: &[f32]) -> Reply {
     let p = bench.profile;
     let h = front::receive(p, halves, &mut row);
     match h {
-        Heard::Bits(n) => hear(bench, bench::front(&row, n)),
-        Heard::NoRoom => refused(bench, front::number(h)),
-        Heard::NotEnergies => refused(bench, front::number(h)),
+        Ok(n) => hear(bench, bench::front(&row, n)),
+        Err(_) => refused(bench, front::number(h)),
     }
 }
 
