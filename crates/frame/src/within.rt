@@ -22,7 +22,8 @@ fn is_wrong(row: &[u8], at: usize) -> bool
     requires { at + 9 ≤ length row.now }
     ensures { result ≡ wrong_byte (drop at row.now) }
 {
-    rows::is_clean(&row[at..at + 8]) && row[at + 8] != parity::odd_parity(parity::within::byte_at(row, at))
+    rows::is_clean(&row[at..at + 8])
+        && row[at + 8] != parity::odd_parity(parity::within::byte_at(row, at))
 }
 
 // The first of the n bytes at index at, from 0, that has no collided data bit and wrong parity; n where none is so. A collided parity bit is

@@ -150,9 +150,10 @@ fn hear_atqa(r: Reader, row: &[u8]) -> Turn
 fn knows(p: Phase, r: Reader, x: Rest) -> Reader
     ensures { result ≡ reader p r.sweeps x.five x.known r.uid 0 }
 {
+    let five = x.five;
     Reader {
         phase: p,
-        five: x.five,
+        five,
         known: x.known,
         sak: 0,
         ..r

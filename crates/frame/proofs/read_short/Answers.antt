@@ -14,9 +14,6 @@ pub returns-then-not-is_clean : goal.returns-then-not-is_clean
 unfolding read_short
 returns-then-not-is_clean c = simp (eq-eqb _ _ c.if-row-ne7.false, sym c.is_clean.ensures ∙ c.if-not-is_clean.true)
 
-pub number_of-requires : goal.number_of-requires
-number_of-requires c = (omega arith, sym c.is_clean.ensures ∙ c.if-not-is_clean.false)
-
 pub returns : goal.returns
 unfolding read_short
 returns c = simp (eq-eqb _ _ c.if-row-ne7.false, sym c.is_clean.ensures ∙ c.if-not-is_clean.false, c.number_of.ensures)

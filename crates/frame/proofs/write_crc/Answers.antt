@@ -7,9 +7,6 @@ use Rattle.frame.proofs.SaysLaws.{no_room, has_room}
 use borrow.Author.Rules.{rules}
 use Rattle.frame.proofs.write_crc.Goals as goal
 
-pub returns-then-out-m : goal.returns-then-out-m
-returns-then-out-m c = let a = c.args in record { result_value = sym (no_room 2 (length a.out.now) (length a.bytes.now) (omega arith)); out_after = refl }
-
 pub returns : goal.returns
 returns c = let a = c.args in record {
   result_value = sym (has_room 2 (length a.out.now) (length a.bytes.now) (omega arith));

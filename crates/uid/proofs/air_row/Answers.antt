@@ -12,17 +12,6 @@ use Rattle.uid.specs.AirLaws.{row_made}
 use Rattle.uid.proofs.air_row.Goals as goal
 use Rattle.refusal.specs.Refusal.{number_says}
 
-pub returns-then-out-lt120 : goal.returns-then-out-lt120
-returns-then-out-lt120 c = record { result_value = sym (air_no_room _ c.args.u c.if-out-lt120.true); out_after = refl }
-
-pub put_levels-requires : goal.put_levels-requires
-put_levels-requires c =
-    let three : length c.levels.result ≡ 3 = search rules in
-    omega (arith, levels_most c.args.u.size, c.level_count-n.ensures, length-take-le c.level_count-n.result c.levels.result (omega (arith, levels_most c.args.u.size, c.level_count-n.ensures)))
-
-pub overflow_mul-result : goal.overflow_mul-result
-overflow_mul-result c = omega (arith, levels_most c.args.u.size, c.level_count-n.ensures)
-
 pub returns : goal.returns
 returns c = let u = c.args.u in
     let p = c.put_levels in

@@ -3,9 +3,6 @@ use native.Mathlib.Omega.{arith}
 use Rattle.crc.specs.CrcLaws.{crc_next, crc_done}
 use Rattle.crc.proofs.ByBytes.crc.Goals as goal
 
-pub loop-b-init : goal.loop-b-init
-loop-b-init c = (omega arith, refl)
-
 pub loop-b-preserved : goal.loop-b-preserved
 loop-b-preserved c = let l = c.loop-b in
     (omega arith, rw c.crc_byte-c.ensures (sym (crc_next c.args.bytes.now l.b-index l.c (omega arith)) ∙ l.invariant.1))

@@ -5,10 +5,6 @@ use lib.Bits.{xor_lt}
 use Rattle.crc.specs.TableLaws.{pair_by_table}
 use Rattle.crc.proofs.ByTables.crc_pair.Goals as goal
 
-pub overflow_cast-x-4 : goal.overflow_cast-x-4
-overflow_cast-x-4 c = let a = c.args in
-    omega (arith, xor_lt 16 a.c (a.a + a.b * 256) (omega arith) (omega arith))
-
 pub returns : goal.returns
 returns c = let a = c.args in
     let t = a.self in

@@ -20,7 +20,3 @@ pub loop-i-preserved : goal.loop-i-preserved
 loop-i-preserved c = let l = c.loop-i in
     let a = c.args in
     (omega arith, simp length-set (omega arith), rw (l.invariant.2, c.byte_at.ensures) (bytes_turn a.out.now a.row.now l.i (omega arith) (omega arith)))
-
-pub returns : goal.returns
-returns c = let e : c.loop-i.i ≡ c.args.n = omega arith in
-    rw e at c.loop-i.invariant.2

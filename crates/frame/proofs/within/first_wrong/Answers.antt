@@ -7,9 +7,6 @@ use Rattle.frame.specs.Frame.{first_wrong}
 use Rattle.frame.proofs.LoopLaws.{first_next, first_here, first_done}
 use Rattle.frame.proofs.within.first_wrong.Goals as goal
 
-pub loop-i-init : goal.loop-i-init
-loop-i-init c = (omega arith, rw (sub-zero, add-zero, zero-add))
-
 pub returns-then-is_wrong : goal.returns-then-is_wrong
 returns-then-is_wrong c = let l = c.loop-i in
     let a = c.args in

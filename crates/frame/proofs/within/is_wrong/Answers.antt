@@ -4,11 +4,6 @@ use Rattle.rows.specs.Rows.{clean}
 use Rattle.frame.proofs.LoopLaws.{wrong_read}
 use Rattle.frame.proofs.within.is_wrong.Goals as goal
 
-pub byte_at-requires : goal.byte_at-requires
-byte_at-requires c = let a = c.args in
-    let e : a.at + 8 - a.at ≡ 8 = omega arith in
-    (omega arith, rw e at (sym c.is_clean.ensures ∙ c.if-is_clean.true))
-
 pub returns-then-is_clean : goal.returns-then-is_clean
 returns-then-is_clean c = let a = c.args in
     let e : a.at + 8 - a.at ≡ 8 = omega arith in

@@ -15,16 +15,8 @@ pub loop-i-init : goal.loop-i-init
 unfolding standard
 loop-i-init c = (omega arith, omega arith, sym (overlay_nil _ _))
 
-pub put-requires : goal.put-requires
-put-requires c = omega (arith, ap length c.air_byte.ensures ∙ length_air_byte _)
-
 pub loop-i-preserved : goal.loop-i-preserved
 loop-i-preserved c = let p = c.put in
     let l = c.loop-i in
     let a = c.args in
     (omega arith, omega (arith, p.auto.out), rw (p.ensures, c.air_byte.ensures, l.invariant.2) (standard_turn a.out.now a.at a.bytes.now l.i (omega arith) (omega arith)))
-
-pub returns : goal.returns
-returns c = let l = c.loop-i in
-    let a = c.args in
-    l.invariant.2 ∙ ap (λ bs. overlay a.out.now a.at (standard bs)) (take_all l.i a.bytes.now (omega arith))

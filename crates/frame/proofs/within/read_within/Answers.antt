@@ -49,11 +49,6 @@ slice_bounds-put-end c = let a = c.args in
     let w = whole_size a.least a.most (length a.row.now) (sym c.is_whole.ensures ∙ c.if-not-is_whole.false) in
     rw length-take (omega (arith, w.2))
 
-pub put-requires : goal.put-requires
-put-requires c = let a = c.args in
-    let w = whole_size a.least a.most (length a.row.now) (sym c.is_whole.ensures ∙ c.if-not-is_whole.false) in
-    rw length-take (omega (arith, w.2))
-
 pub returns : goal.returns
 unfolding read_answer
 returns c = let a = c.args in

@@ -11,18 +11,9 @@ use borrow.Author.Rules.{rules}
 use Rattle.frame.proofs.within.without_crc.Goals as goal
 
 -- `frame::within::without_crc` meets its contract, by those of `is_good` and `put`. Assumes nothing.
-pub slice_bounds-is_good-end : goal.slice_bounds-is_good-end
-slice_bounds-is_good-end c = rw length-take (omega arith)
-
 pub returns-then-not-is_good : goal.returns-then-not-is_good
 unfolding without_crc crc_good
 returns-then-not-is_good c = record { value = simp (sym c.is_good.ensures ∙ c.if-not-is_good.true); out_after = refl }
-
-pub slice_bounds-put-end : goal.slice_bounds-put-end
-slice_bounds-put-end c = rw length-take (omega arith)
-
-pub put-requires : goal.put-requires
-put-requires c = rw length-take (omega arith)
 
 pub returns : goal.returns
 returns c = let a = c.args in

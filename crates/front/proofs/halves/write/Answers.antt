@@ -10,15 +10,6 @@ use Rattle.front.specs.Front.{row_at}
 use Rattle.front.proofs.LoopLaws.{overlay_shift, row_length, row_ends, row_goes, row_done}
 use Rattle.front.proofs.halves.write.Goals as goal
 
-pub loop-i-init : goal.loop-i-init
-loop-i-init c = (omega arith, refl, rw zero-add, refl)
-
-pub offset_bounds-halves-i : goal.offset_bounds-halves-i
-offset_bounds-halves-i c = scaled_Fits _ _ 4 (omega arith) c.well_formed.1.1.0.1
-
-pub offset_bounds-halves-i-in-loop-i : goal.offset_bounds-halves-i-in-loop-i
-offset_bounds-halves-i-in-loop-i c = scaled_Fits _ _ 4 (omega arith) c.well_formed.1.1.0.1
-
 pub returns-then-is_end : goal.returns-then-is_end
 returns-then-is_end c = let l = c.loop-i in
     let a = c.args in

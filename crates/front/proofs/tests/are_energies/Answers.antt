@@ -3,9 +3,6 @@ use native.Mathlib.Omega.{arith}
 use Rattle.front.proofs.LoopLaws.{energies_next, energies_here, energies_done}
 use Rattle.front.proofs.tests.are_energies.Goals as goal
 
-pub loop-x-init : goal.loop-x-init
-loop-x-init c = (omega arith, refl)
-
 pub returns-then-not-is_energy : goal.returns-then-not-is_energy
 returns-then-not-is_energy c = let l = c.loop-x in
     let h = c.args.halves.now in

@@ -35,7 +35,3 @@ loop-bit-preserved c = let v = c.loop-bit.invariant.2 in
 nothing_left : (l p t : List ℕ) → length p ≡ 0 → p ++ t ≡ l → t ≡ l
 nothing_left l [] t z e = e
 nothing_left l (x ∷ p) t z e = absurd (omega arith)
-
-pub returns : goal.returns
-returns c = let v = c.loop-bit.invariant.2 in
-    v.2 ∙ ap unbits (nothing_left _ _ _ c.in-None.ensures.steps.0 v.1)

@@ -1,10 +1,20 @@
 use mathlib.Core.Path.{sym, ◌∙◌}
+use mathlib.Core.Logic.{inl, inr}
 use Rattle.reader.specs.StepLaws.{hear_at}
 use borrow.Author.Rules.{rules}
 use Rattle.reader.proofs.within.hear_rules.Goals as goal
 
 pub returns-in-New : goal.returns-in-New
-returns-in-New c = let a = c.args in c.not_due.ensures ∙ sym (hear_at a.r a.row.now _ c.in-New.is)
+returns-in-New c = let a = c.args in c.not_due.ensures ∙ elim c.in-New.is [
+  | inl e ↦ sym (hear_at a.r a.row.now _ e)
+  | inr d ↦ elim d [
+    | inl e ↦ sym (hear_at a.r a.row.now _ e)
+    | inr d' ↦ elim d' [
+      | inl e ↦ sym (hear_at a.r a.row.now _ e)
+      | inr e ↦ sym (hear_at a.r a.row.now _ e)
+    ]
+  ]
+]
 
 pub returns-in-ReqaSent : goal.returns-in-ReqaSent
 returns-in-ReqaSent c = let a = c.args in c.hear_atqa.ensures ∙ sym (hear_at a.r a.row.now _ c.in-ReqaSent.is)
@@ -17,15 +27,6 @@ returns-in-SelectSent c = let a = c.args in c.hear_sak.ensures ∙ sym (hear_at 
 
 pub returns-in-HltaSent : goal.returns-in-HltaSent
 returns-in-HltaSent c = let a = c.args in c.hear_silence.ensures ∙ sym (hear_at a.r a.row.now _ c.in-HltaSent.is)
-
-pub returns-in-Selected : goal.returns-in-Selected
-returns-in-Selected c = let a = c.args in c.not_due-in-Selected.ensures ∙ sym (hear_at a.r a.row.now _ c.in-Selected.is)
-
-pub returns-in-Finished : goal.returns-in-Finished
-returns-in-Finished c = let a = c.args in c.not_due-in-Finished.ensures ∙ sym (hear_at a.r a.row.now _ c.in-Finished.is)
-
-pub returns-in-Stopped : goal.returns-in-Stopped
-returns-in-Stopped c = let a = c.args in c.not_due-in-Stopped.ensures ∙ sym (hear_at a.r a.row.now _ c.in-Stopped.is)
 
 pub returns-in-WupaSent : goal.returns-in-WupaSent
 returns-in-WupaSent c = let a = c.args in c.hear_wupa.ensures ∙ sym (hear_at a.r a.row.now _ c.in-WupaSent.is)

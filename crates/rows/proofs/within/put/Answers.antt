@@ -13,8 +13,3 @@ pub loop-i-preserved : goal.loop-i-preserved
 loop-i-preserved c = let l = c.loop-i in
     let a = c.args in
     (omega arith, simp length-set (omega arith), rw l.invariant.2 (overlay_copy a.out.now a.at a.src.now l.i (omega arith) (omega arith)))
-
-pub returns : goal.returns
-returns c = let l = c.loop-i in
-    let a = c.args in
-    l.invariant.2 ∙ ap (overlay a.out.now a.at) (take_all l.i a.src.now (omega arith))

@@ -45,6 +45,6 @@ pub returns : goal.returns
 returns c = let a = c.args in
     let r = c.read_crc_within in
     let good = ats_good a.own a.row.now _ _ (nil_no _ c.if-row-eq0.false) (rw c.size_of-most.ensures at (sym r.ensures.value) ∙ c.in_ok-n.was)
-            (r.ensures.out_after ∙ ap₂ (λ x s. bytes_after x (read_crc 3 s a.row.now) (replicate 256 0)) c.in_ok-n.was c.size_of-most.ensures) in
+    (r.ensures.out_after ∙ ap₂ (λ x s. bytes_after x (read_crc 3 s a.row.now) (replicate 256 0)) c.in_ok-n.was c.size_of-most.ensures) in
     let both = with_says number_says _ _ (c.read_bytes.ensures ∙ good) in
     record { value = both.0; result_value = both.1 }

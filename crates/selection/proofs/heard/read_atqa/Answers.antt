@@ -9,9 +9,6 @@ use Rattle.std.proofs.lemmas.Result.{err_from_is_err_and}
 use Rattle.refusal.specs.Refusal.{made_says}
 use Rattle.selection.proofs.heard.read_atqa.Goals as goal
 
-pub slice_bounds-is_same-end : goal.slice_bounds-is_same-end
-slice_bounds-is_same-end c = rw length-take (omega (arith, (awaited_yes 18 c.args.row.now _ (sym c.awaited.ensures ∙ c.in_ok-awaited.was)).1))
-
 pub returns-in_err-awaited : goal.returns-in_err-awaited
 unfolding read_atqa
 returns-in_err-awaited c =

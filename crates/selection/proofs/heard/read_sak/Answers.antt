@@ -11,9 +11,6 @@ use Rattle.std.proofs.lemmas.Result.{err_from_is_err_and}
 use Rattle.selection.proofs.heard.read_sak.Goals as goal
 use Rattle.refusal.specs.Refusal.{number_says}
 
-pub bytes_of-requires : goal.bytes_of-requires
-bytes_of-requires c = (omega (arith, (awaited_yes 27 c.args.row.now _ (sym c.awaited.ensures ∙ c.in_ok-awaited.was)).1), omega arith, sym c.is_clean.ensures ∙ c.if-not-is_clean.false)
-
 pub returns-then-not-is_good : goal.returns-then-not-is_good
 returns-then-not-is_good c = record { value = (with_says number_says _ _ (sym (sak_crc c.args.row.now _ (awaited_yes 27 c.args.row.now _ (sym c.awaited.ensures ∙ c.in_ok-awaited.was)).1 (sym c.is_clean.ensures ∙ c.if-not-is_clean.false) (found_none _ _ _ c.first_wrong-p.ensures c.if-p-lt3.false) c.bytes_of.ensures (sym c.is_good.ensures ∙ c.if-not-is_good.true)))).0; result_value = (with_says number_says _ _ (sym (sak_crc c.args.row.now _ (awaited_yes 27 c.args.row.now _ (sym c.awaited.ensures ∙ c.in_ok-awaited.was)).1 (sym c.is_clean.ensures ∙ c.if-not-is_clean.false) (found_none _ _ _ c.first_wrong-p.ensures c.if-p-lt3.false) c.bytes_of.ensures (sym c.is_good.ensures ∙ c.if-not-is_good.true)))).1 }
 

@@ -6,9 +6,6 @@ use Rattle.selection.specs.Level.{first_collided}
 use Rattle.selection.specs.LevelLaws.{first_next, first_here, first_done}
 use Rattle.selection.proofs.level.first_collided.Goals as goal
 
-pub loop-i-init : goal.loop-i-init
-loop-i-init c = (omega arith, omega arith)
-
 pub returns-then-b-gt1 : goal.returns-then-b-gt1
 returns-then-b-gt1 c = let l = c.loop-i in
     let h = c.args.h.now in

@@ -11,9 +11,6 @@ slice_bounds-d-end c = omega (arith, first_le c.args.d)
 pub slice_bounds-put-end-2 : goal.slice_bounds-put-end-2
 slice_bounds-put-end-2 c = let n : length c.args.d ≡ 40 = search rules in rw length-take (omega (arith, first_le c.args.d))
 
-pub put-requires : goal.put-requires
-put-requires c = let n : length c.args.d ≡ 40 = search rules in rw length-take (omega (arith, first_le c.args.d))
-
 pub returns-then-p-lt40 : goal.returns-then-p-lt40
 returns-then-p-lt40 c = let a = c.args in
     known_clash a.d _ a.p (search rules) (search rules) (search rules) c.put.ensures

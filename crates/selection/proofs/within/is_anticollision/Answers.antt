@@ -9,9 +9,6 @@ use Rattle.selection.specs.SentLaws.{anti_length}
 use borrow.Author.Rules.{rules}
 use Rattle.selection.proofs.within.is_anticollision.Goals as goal
 
-pub slice_bounds-is_same-end : goal.slice_bounds-is_same-end
-slice_bounds-is_same-end c = rw length-take (omega (arith, c.put_anticollision.auto.out))
-
 pub returns : goal.returns
 returns c = let a = c.args in
     let n : c.anticollision_bits-n.result ≡ length (anticollision a.l a.k a.five) = c.anticollision_bits-n.ensures ∙ sym (anti_length a.l a.k a.five (search rules)) in

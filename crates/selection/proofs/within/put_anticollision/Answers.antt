@@ -6,12 +6,6 @@ use Rattle.selection.specs.SentLaws.{anti_made}
 use borrow.Author.Rules.{rules}
 use Rattle.selection.proofs.within.put_anticollision.Goals as goal
 
-pub slice_bounds-put-end : goal.slice_bounds-put-end
-slice_bounds-put-end c = let n : length c.level_row-level.result ≡ 45 = search rules in rw length-take (omega arith)
-
-pub put-requires : goal.put-requires
-put-requires c = let n : length c.level_row-level.result ≡ 45 = search rules in rw length-take (omega (arith, c.put_bytes.auto.out))
-
 pub returns : goal.returns
 returns c = let a = c.args in
     anti_made a.l a.k a.five (search rules) a.out.now _ _ _ _ _ _ (omega arith) c.sel.ensures c.nvb.ensures c.cut-n.ensures c.level_row-level.ensures

@@ -15,9 +15,6 @@ pub loop-i-init : goal.loop-i-init
 unfolding air_bits
 loop-i-init c = (omega arith, search rules, refl, sym (overlay_nil _ _))
 
-pub put-requires : goal.put-requires
-put-requires c = omega (arith, ap length c.bits_of.ensures ∙ length_bits 8 _)
-
 pub loop-i-preserved : goal.loop-i-preserved
 loop-i-preserved c = let p = c.put in
     let l = c.loop-i in
@@ -28,6 +25,3 @@ loop-i-preserved c = let p = c.put in
       rw (p.ensures, c.bits_of.ensures, l.invariant.3) (bits_turn a.out.now a.at a.five l.i (omega arith) (omega arith)),
     )
 
-pub returns : goal.returns
-returns c = let l = c.loop-i in
-    let a = c.args in record { out_after = l.invariant.3 ∙ ap (λ s. overlay a.out.now a.at (air_bits s)) (take_all l.i a.five (omega arith)); five_len = l.invariant.1 }

@@ -23,9 +23,3 @@ loop-i-preserved c = let p = c.put_level in
     let t = levels_turn a.out.now a.rows.now l.i (omega arith) l.invariant.2 p.ensures.five_len (omega arith) in
     (omega arith, omega (arith, p.auto.out), t.1, rw (p.ensures.out_after, l.invariant.3) t.0)
 
-pub returns : goal.returns
-returns c = let l = c.loop-i in
-    let a = c.args in
-    let e : take l.i a.rows.now ≡ a.rows.now = take_all l.i a.rows.now (omega arith) in
-    let n : l.i ≡ length a.rows.now = omega arith in
-    record { out_after = rw e at l.invariant.3; rows_len = rw e at l.invariant.2 ∙ ap (λ k. 40 * k) n }
