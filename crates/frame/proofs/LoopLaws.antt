@@ -1,5 +1,5 @@
 -- Laws for the loops over the bytes of a frame: one turn, and the end. Assumes nothing.
-use Rattle.std.specs.Prelude.{◌≡◌, true, false, not, ◌&&◌, List, [], ◌∷◌, ◌++◌, length, take, drop, get_or, set, eqb}
+use Rattle.std.specs.Prelude.{◌≡◌, true, false, not, List, [], ◌∷◌, ◌++◌, length, take, drop, get_or, set, eqb}
 use Rattle.std.proofs.Common.{ap, ◌∙◌, append-nil, add-one, zero-add, arith, length-drop, take-suc, length-take-le, drop-drop, get_or-drop, eq-eqb, ne_eqb}
 use Prim.Native.Nat.{ℕ, zero, suc, ◌+◌, ◌*◌, ◌-◌, ◌≤◌, ◌<◌}
 use Rattle.rows.specs.Rows.{overlay, clean}

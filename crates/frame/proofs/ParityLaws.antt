@@ -1,17 +1,15 @@
 -- A standard frame, whole or cut, has bits only, and no whole byte of it has wrong parity. Assumes nothing.
-use Rattle.std.specs.Prelude.{◌≡◌, refl, ℕ, zero, suc, ◌+◌, ◌-◌, ◌/◌, ◌≤◌, ◌<◌, ◌*◌, List, [], ◌∷◌, ◌++◌, length, take, drop, ltb, eqb}
+use Rattle.std.specs.Prelude.{◌≡◌, refl, ℕ, zero, suc, ◌+◌, ◌-◌, ◌/◌, ◌≤◌, ◌<◌, ◌*◌, List, [], ◌∷◌, ◌++◌, length, take, drop, ltb}
 use Rattle.std.proofs.Common.{sym, ◌∙◌, append_assoc, length-append, length-take, drop_at, drop-drop, ltb-true, ltb-false, arith}
 use Rattle.std.proofs.Math.Path.{ap}
 use mathlib.Core.Bool.{Bool, true, false, not, ◌&&◌, ◌||◌}
 use Rattle.std.proofs.Math.ListN.{get_or}
 use Rattle.std.proofs.Math.Seq.{take_at, get_or_at, take-append-add, take-nil, take-length}
 use Rattle.rows.specs.CleanLaws.{bits_clean, eqb_same}
-use Rattle.rows.specs.ListLaws.{all_append}
-use Rattle.rows.specs.Rows.{clean, Bits}
 use Rattle.parity.specs.BitLaws.{length_bits, bits_bits}
 use Rattle.parity.specs.Bits.{bits_of, odd}
 use Rattle.frame.specs.Frame.{standard, wrong_byte, faulty, air_byte}
-use Rattle.frame.proofs.FrameLaws.{length_air_byte, standard_append, bits_standard}
+use Rattle.frame.proofs.FrameLaws.{length_air_byte}
 use Rattle.frame.proofs.WrongLaws.{faulty_none, faulty_step}
 
 -- some whole byte of a row has wrong parity

@@ -1,5 +1,5 @@
 -- The reader's calls with lent room for its next frame: 11 is tested first, then 1, and both leave all unchanged.
-use Rattle.std.specs.Prelude.{◌≡◌, ℕ, Bool, true, false, cond, not, List, [], ◌∷◌, length, ltb, Result, Ok, Err}
+use Rattle.std.specs.Prelude.{◌≡◌, ℕ, Bool, true, false, cond, not, List, [], ◌∷◌, ltb, Result, Ok, Err}
 use Rattle.limits.specs.Limits.{frame_room}
 use Rattle.rows.specs.Rows.{overlay}
 use Rattle.uid.specs.Uid.{uid_bytes, valid}

@@ -1,5 +1,5 @@
 -- A reader's frame is bits: none of it collided. Assumes nothing.
-use Rattle.std.specs.Prelude.{ℕ, ◌<◌, List, [], ◌∷◌}
+use Rattle.std.specs.Prelude.{◌<◌, [], ◌∷◌}
 use Rattle.rows.specs.ListLaws.{all_append, all_take_law}
 use Rattle.rows.specs.Rows.{Bits}
 use Rattle.parity.specs.BitLaws.{bits_bits}

@@ -1,6 +1,6 @@
 -- Document 01, "The reader and the sweep" and "When the core declines": what a reader does with a row. What the row says is the matter of
 -- crate selection (specs/Heard.antt).
-use Rattle.std.specs.Prelude.{ℕ, suc, ◌+◌, ◌-◌, ◌*◌, ◌/◌, ◌%◌, Bool, true, false, cond, not, ◌&&◌, ◌||◌, List, [], ◌∷◌, ◌++◌, length, take, drop, replicate, get_or, eqb, ltb, Result, Ok, Err}
+use Rattle.std.specs.Prelude.{ℕ, suc, ◌*◌, ◌/◌, ◌%◌, Bool, true, false, cond, not, ◌&&◌, ◌||◌, List, [], ◌++◌, length, take, drop, replicate, get_or, eqb, ltb, Result, Ok, Err}
 use Rattle.rows.specs.Rows.{is_nil, fill}
 use Rattle.uid.specs.Uid.{place, levels, three_levels, valid}
 use Rattle.selection.specs.Selection.{reqa, wupa, hlta, anticollision, select}

@@ -1,14 +1,14 @@
 -- The reader's rules, step by step: what each definition gives at a phase, at what was read, and in a call. Assumes nothing.
-use Rattle.std.specs.Prelude.{◌≡◌, refl, Bool, true, false, cond, not, ◌&&◌, List, [], ◌∷◌, ◌++◌, ℕ, zero, suc, ◌+◌, ◌-◌, ◌*◌, ◌/◌, ◌%◌, ◌≤◌, ◌<◌, length, take, drop, replicate, get_or, eqb, ltb, Result, Ok}
-use Rattle.std.proofs.Common.{sym, ap, ◌∙◌, not-suc-le-zero, arith, length-append, length-take, length-drop, lt-ltb, le-ltb}
-use Rattle.rows.specs.Rows.{overlay, is_nil, fill}
+use Rattle.std.specs.Prelude.{◌≡◌, refl, Bool, true, false, cond, not, ◌&&◌, List, [], ◌∷◌, ◌++◌, ℕ, zero, suc, ◌+◌, ◌-◌, ◌*◌, ◌≤◌, ◌<◌, length, take, drop, replicate, get_or, ltb, Result, Ok}
+use Rattle.std.proofs.Common.{sym, ap, ◌∙◌, arith, length-take, lt-ltb, le-ltb}
+use Rattle.rows.specs.Rows.{overlay, is_nil}
 use Rattle.rows.proofs.RowLaws.{overlay_nil, overlay_next}
 use Rattle.uid.specs.FillLaws.{fill_zeros}
 use Rattle.uid.specs.Uid.{place}
 use Rattle.selection.specs.Heard.{read_atqa, read_rest, read_sak}
 use Rattle.reader.specs.Reader.{frame, frame_in, turn, hear, hear_in, hear_atqa, after_atqa, hear_rest, after_rest, hear_sak, sak_heard, contradicts, after_sak, b3, hear_silence, sends, blank, stop, longer, uid}
 use Rattle.limits.specs.Limits.{frame_room}
-use Rattle.reader.specs.Calls.{call, row_after, sent_by, turn_says, call_says}
+use Rattle.reader.specs.Calls.{call, row_after, turn_says, call_says}
 use Rattle.uid.specs.declared.Level.{Level}
 use Rattle.uid.specs.declared.Level.TheVariants.{One, Two, Three}
 use Rattle.uid.specs.declared.Uid.{Uid}
@@ -21,7 +21,6 @@ use Rattle.refusal.specs.declared.Refusal.TheVariants.{Forbidden, Room, NotDue}
 use Rattle.reader.specs.declared.Phase.{Phase}
 use Rattle.reader.specs.declared.Phase.TheVariants.{ReqaSent}
 use Rattle.reader.specs.declared.Reader.{Reader}
-use Rattle.reader.specs.declared.Answer.{Answer}
 use Rattle.reader.specs.declared.Answer.TheVariants.{Declines}
 use Rattle.reader.specs.declared.Turn.{Turn}
 

@@ -1,6 +1,6 @@
 -- How an ATS is read, byte by byte. Assumes nothing.
 use Rattle.std.specs.Prelude.{◌≡◌, refl, false, cond, ◌&&◌, List, [], ◌∷◌, ℕ, suc, ◌+◌, ◌-◌, ◌%◌, ◌≤◌, length, take, get_or, replicate, eqb, ltb, leb, Ok, Err}
-use Rattle.std.proofs.Common.{ap, arith, length-append}
+use Rattle.std.proofs.Common.{ap, arith}
 use Rattle.rows.specs.Rows.{overlay, is_nil}
 use Rattle.rows.proofs.RowLaws.{overlay_front, overlay_fits}
 use Rattle.frame.specs.Frame.{Verdict, Good, Fault, read_crc}

@@ -1,9 +1,9 @@
 -- Laws of a level's bits: the data bits of a row with parity, the bits known after a collision, and the bytes of them. Assumes nothing.
-use Rattle.std.specs.Prelude.{◌≡◌, refl, Bool, true, false, cond, not, List, [], ◌∷◌, ◌++◌, ℕ, zero, suc, ◌+◌, ◌-◌, ◌*◌, ◌/◌, ◌≤◌, ◌<◌, length, take, drop, get_or, set, replicate, ltb, eqb}
-use Rattle.std.proofs.Common.{sym, ap, ◌∙◌, append_assoc, append-nil, not-suc-le-zero, zero-add, add-one, arith, length-append, length-take, length-drop, drop_of_length-le, drop-cons, take-suc, take_all, take_at, drop_at, get_or-append-add, get_or-drop, get_or-take, drop-drop, lt-ltb, le-ltb, ltb-true, ltb-false}
-use Rattle.std.proofs.lemmas.List.{length-replicate, take-append-le}
+use Rattle.std.specs.Prelude.{◌≡◌, refl, Bool, true, false, cond, List, [], ◌∷◌, ◌++◌, ℕ, zero, suc, ◌+◌, ◌-◌, ◌*◌, ◌/◌, ◌≤◌, ◌<◌, length, take, drop, get_or, set, replicate, ltb}
+use Rattle.std.proofs.Common.{sym, ap, ◌∙◌, not-suc-le-zero, zero-add, add-one, arith, length-append, length-take, length-drop, drop_of_length-le, drop-cons, take_all, get_or-append-add, get_or-drop, get_or-take, drop-drop, lt-ltb, le-ltb, ltb-true, ltb-false}
+use Rattle.std.proofs.lemmas.List.{length-replicate}
 use Rattle.std.proofs.Math.ListN.{get_or-append}
-use Rattle.rows.specs.Rows.{overlay, clean, next, fill, Bits}
+use Rattle.rows.specs.Rows.{overlay, clean, next, fill}
 use Rattle.rows.proofs.RowLaws.{overlay_set, overlay_copy}
 use Rattle.uid.specs.FillLaws.{fill_zeros}
 use Rattle.frame.specs.Frame.{data_of, bytes_of}

@@ -2,7 +2,7 @@
 -- and no other is. Assumes nothing.
 use Rattle.std.specs.Prelude.{◌≡◌, true, false, List, drop}
 use Rattle.std.proofs.Math.Path.{ap}
-use Rattle.std.proofs.Common.{sym, ◌∙◌, drop-drop}
+use Rattle.std.proofs.Common.{◌∙◌, drop-drop}
 use Prim.Native.Nat.{ℕ, ◌+◌, ◌-◌, ◌*◌, ◌/◌, ◌≤◌, ◌<◌}
 use native.Mathlib.Omega.{arith}
 use Rattle.frame.specs.Frame.{wrong_byte, first_wrong, faulty}

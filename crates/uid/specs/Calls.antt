@@ -3,7 +3,7 @@ use Rattle.std.specs.Prelude.{ℕ, Bool, cond, not, ◌&&◌, ◌||◌, List, []
 use Rattle.std.specs.Result.{result_unwrap_or}
 use Rattle.rows.specs.Rows.{fill, overlay}
 use Rattle.uid.specs.Uid.{valid, row_of}
-use Rattle.refusal.specs.Refusal.{Said, giving, refusal_says, decline_if}
+use Rattle.refusal.specs.Refusal.{Said, giving, decline_if}
 use Rattle.refusal.specs.declared.Refusal.TheVariants.{Argument}
 use Rattle.uid.specs.declared.Uid.{Uid}
 use Rattle.uid.specs.declared.UidSize.{UidSize}

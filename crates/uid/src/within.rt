@@ -22,10 +22,7 @@ pub fn sized(size: UidSize, bytes: &[u8]) -> Uid
 {
     let mut ten = [0u8; 10];
     rows::within::put(&mut ten, 0, bytes);
-    Uid {
-        size,
-        bytes: ten,
-    }
+    Uid { size, bytes: ten }
 }
 
 // A UID that is valid, or 6.

@@ -1,7 +1,6 @@
 -- `frame::air_byte` meets its contract, by those of `bits_of` and `odd_parity`. Assumes nothing.
 use Rattle.parity.specs.Bits.{bits_of}
 use Rattle.frame.specs.Frame.{air_byte}
-use borrow.Author.Rules.{rules}
 use Rattle.frame.proofs.air_byte.Goals as goal
 
 pub returns : goal.returns

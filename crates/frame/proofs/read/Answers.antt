@@ -1,7 +1,6 @@
 -- `frame::read` meets its contract, by that of `read_within`: what it answers, in the table's numbers. Assumes nothing.
 use mathlib.Core.Path.{ap, ◌∙◌}
 use Rattle.frame.proofs.SaysLaws.{says_read}
-use borrow.Author.Rules.{rules}
 use Rattle.frame.proofs.read.Goals as goal
 use Rattle.refusal.specs.Refusal.{number_says}
 

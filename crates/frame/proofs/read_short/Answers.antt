@@ -1,9 +1,7 @@
 -- `frame::read_short` meets its contract: the definition has the same tests. Assumes nothing.
 use mathlib.Core.Path.{sym, ◌∙◌}
-use borrow.Author.Tests.{eq-eqb, ne_eqb, not-true, not-false}
-use native.Mathlib.Omega.{arith}
+use borrow.Author.Tests.{eq-eqb, ne_eqb}
 use Rattle.frame.specs.Calls.{read_short}
-use borrow.Author.Rules.{rules}
 use Rattle.frame.proofs.read_short.Goals as goal
 
 pub returns-then-row-ne7 : goal.returns-then-row-ne7

@@ -1,10 +1,9 @@
 -- `frame::write_crc` meets its contract, by those of `crc_bytes` and `put_bytes`: 1 exactly where the row has no room. Assumes nothing.
-use mathlib.Core.Path.{refl, sym}
+use mathlib.Core.Path.{sym}
 use native.Mathlib.Omega.{arith}
 use lib.ListN.{length}
 use Rattle.frame.proofs.LoopLaws.{standard_crc}
-use Rattle.frame.proofs.SaysLaws.{no_room, has_room}
-use borrow.Author.Rules.{rules}
+use Rattle.frame.proofs.SaysLaws.{has_room}
 use Rattle.frame.proofs.write_crc.Goals as goal
 
 pub returns : goal.returns

@@ -1,12 +1,7 @@
-use mathlib.Core.List.{List}
-use mathlib.Core.Path.{refl, sym, ap}
-use native.Mathlib.Omega.{arith}
-use Prim.Native.Nat.{ℕ}
-use lib.ListN.{length, take, length-take}
+use mathlib.Core.Path.{sym}
 use Rattle.parity.specs.Bits.{bits_of}
 use Rattle.frame.specs.Frame.{short}
-use Rattle.frame.proofs.SaysLaws.{short_no_room, short_has_room}
-use borrow.Author.Rules.{rules}
+use Rattle.frame.proofs.SaysLaws.{short_has_room}
 use Rattle.frame.proofs.write_short.Goals as goal
 
 -- `frame::write_short` meets its contract, by those of `bits_of` and `put`. Assumes nothing.

@@ -1,10 +1,7 @@
 use Rattle.reader.specs.Reader.{sends}
 use Rattle.reader.specs.Calls.{begin_call, row_after}
 use Rattle.reader.specs.StepLaws.{call_not_due, call_room, call_due, call_says_law, row_declined}
-use mathlib.Core.Path.{◌≡◌, sym, ap, ◌∙◌}
-use borrow.Author.Tests.{not-true, not-false}
-use native.Mathlib.Omega.{arith}
-use borrow.Author.Rules.{rules}
+use mathlib.Core.Path.{sym, ap, ◌∙◌}
 use Rattle.reader.proofs.begin.Goals as goal
 
 pub returns-then-not-is_new : goal.returns-then-not-is_new

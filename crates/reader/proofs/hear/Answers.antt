@@ -1,9 +1,7 @@
 use Rattle.reader.specs.Calls.{hear_call, row_after}
 use Rattle.reader.specs.SakLevelLaws.{completed_valid, call_completed}
 use Rattle.reader.specs.StepLaws.{call_not_due, call_room, call_due, call_says_law, row_declined}
-use mathlib.Core.Path.{◌≡◌, sym, ap, ◌∙◌}
-use borrow.Author.Tests.{not-true, not-false}
-use native.Mathlib.Omega.{arith}
+use mathlib.Core.Path.{sym, ◌∙◌}
 use borrow.Author.Rules.{rules}
 use Rattle.reader.proofs.hear.Goals as goal
 

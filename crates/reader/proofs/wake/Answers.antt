@@ -1,10 +1,8 @@
 -- `reader::wake` meets its contract: 11 and 1 are tested, then the UID. Assumes nothing.
 use mathlib.Core.Path.{sym, ◌∙◌}
-use borrow.Author.Tests.{not-true, not-false}
 use Rattle.reader.specs.Calls.{wake_call, row_after}
 use Rattle.reader.specs.KnownLaws.{wake_says_law}
 use Rattle.reader.specs.StepLaws.{call_not_due, call_room, call_due, row_declined}
-use borrow.Author.Rules.{rules}
 use Rattle.reader.proofs.wake.Goals as goal
 
 pub returns-then-not-is_new : goal.returns-then-not-is_new

@@ -1,4 +1,4 @@
-use mathlib.Core.Path.{refl, sym, ◌∙◌}
+use mathlib.Core.Path.{sym, ◌∙◌}
 use native.Mathlib.Omega.{arith}
 use Rattle.rows.specs.HeardLaws.{clean_next, clean_done}
 use Rattle.rows.proofs.is_clean.Goals as goal

@@ -4,9 +4,9 @@ use borrow.Author.Rules.{rules}
 use Prim.Native.Nat.{◌*◌}
 use lib.ListN.{length}
 use lib.Seq.{length-take-le}
-use mathlib.Core.Path.{◌≡◌, refl, sym, ap, ◌∙◌}
+use mathlib.Core.Path.{◌≡◌, sym, ap, ◌∙◌}
 use native.Mathlib.Omega.{arith}
-use Rattle.uid.specs.SaysLaws.{air_no_room, air_has_room}
+use Rattle.uid.specs.SaysLaws.{air_has_room}
 use Rattle.uid.specs.BytesAtLaws.{levels_most}
 use Rattle.uid.specs.AirLaws.{row_made}
 use Rattle.uid.proofs.air_row.Goals as goal

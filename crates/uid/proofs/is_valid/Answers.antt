@@ -1,5 +1,4 @@
 -- `uid::is_valid` meets its contract, size by size. Assumes nothing.
-use borrow.Author.Rules.{rules}
 use Rattle.uid.specs.Uid.{valid}
 use Rattle.uid.proofs.is_valid.Goals as goal
 

@@ -1,6 +1,6 @@
 -- `uid::new_uid` meets its contract, length by length. Assumes nothing.
-use Rattle.std.proofs.Common.{◌≡◌, refl, true, false, length, arith}
-use borrow.Author.Tests.{eq-eqb, ne_eqb}
+use Rattle.std.proofs.Common.{◌≡◌, length, arith}
+use borrow.Author.Tests.{ne_eqb}
 use Rattle.refusal.specs.declared.Refusal.TheVariants.{Argument}
 use Rattle.std.specs.Prelude.{Err}
 use Rattle.uid.specs.Calls.{new_uid}

@@ -1,11 +1,5 @@
 -- `uid::same_uid` meets its contract: the parts of the two arrays that are compared are the UIDs' own bytes. Assumes nothing.
-use borrow.Author.Rules.{rules}
-use mathlib.Core.Path.{◌≡◌, sym}
-use native.Mathlib.Omega.{arith}
-use lib.ListN.{length}
-use lib.Seq.{length-take-le}
 use Rattle.uid.specs.Uid.{uid_bytes}
-use Rattle.uid.specs.BytesAtLaws.{bytes_most}
 use Rattle.uid.proofs.same_uid.Goals as goal
 
 pub returns : goal.returns

@@ -1,4 +1,4 @@
-use mathlib.Core.Path.{refl, sym, ◌∙◌}
+use mathlib.Core.Path.{sym, ◌∙◌}
 use native.Mathlib.Omega.{arith}
 use Rattle.crc.specs.CrcLaws.{crc_next, crc_done}
 use Rattle.crc.proofs.ByBytes.crc.Goals as goal

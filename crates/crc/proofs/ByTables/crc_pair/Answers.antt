@@ -1,7 +1,5 @@
 -- `crc::ByTables::crc_pair` meets its contract, by the rules of both tables. Assumes nothing.
-use Prim.Native.Nat.{◌+◌, ◌*◌}
 use native.Mathlib.Omega.{arith}
-use lib.Bits.{xor_lt}
 use Rattle.crc.specs.TableLaws.{pair_by_table}
 use Rattle.crc.proofs.ByTables.crc_pair.Goals as goal
 

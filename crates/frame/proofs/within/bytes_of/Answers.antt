@@ -1,11 +1,10 @@
-use Prim.Native.Nat.{◌≤◌, ◌-◌, ◌*◌}
-use mathlib.Core.Path.{◌≡◌, sym, ◌∙◌}
+use Prim.Native.Nat.{◌*◌}
+use mathlib.Core.Path.{sym}
 use native.Mathlib.Omega.{arith}
-use lib.ListN.{length, drop, length-set}
-use Rattle.rows.specs.Rows.{overlay}
+use lib.ListN.{length-set}
 use Rattle.rows.proofs.RowLaws.{overlay_nil}
 use Rattle.rows.specs.HeardLaws.{clean_take, clean_drop}
-use Rattle.frame.specs.Frame.{data_of, bytes_of}
+use Rattle.frame.specs.Frame.{bytes_of}
 use Rattle.frame.proofs.LoopLaws.{bytes_turn}
 use Rattle.frame.proofs.within.bytes_of.Goals as goal
 

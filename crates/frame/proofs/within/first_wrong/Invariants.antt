@@ -1,10 +1,7 @@
 use Prim.Native.Nat.{◌≤◌, ◌-◌, ◌+◌, ◌*◌}
-use mathlib.Core.Path.{◌≡◌, sym, ◌∙◌}
-use native.Mathlib.Omega.{arith}
-use native.Mathlib.Nat.{sub-zero, add-zero, zero-add}
-use lib.ListN.{length, drop}
+use mathlib.Core.Path.{◌≡◌}
+use lib.ListN.{drop}
 use Rattle.frame.specs.Frame.{first_wrong}
-use Rattle.frame.proofs.LoopLaws.{first_next, first_here, first_done}
 use Rattle.frame.proofs.within.first_wrong.Given as goal
 
 -- `frame::within::first_wrong` meets its contract. The loop's invariant: the first wrong byte from i on is the first of all.

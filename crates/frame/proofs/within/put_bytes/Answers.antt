@@ -1,13 +1,7 @@
-use Prim.Native.Nat.{◌≤◌, ◌+◌, ◌*◌, ◌-◌}
-use mathlib.Core.Path.{◌≡◌, sym, ap, ◌∙◌}
-use borrow.Author.Rules.{rules}
+use mathlib.Core.Path.{sym}
 use native.Mathlib.Omega.{arith}
-use lib.ListN.{length, take}
-use lib.Seq.{take_all}
-use Rattle.rows.specs.Rows.{overlay}
 use Rattle.rows.proofs.RowLaws.{overlay_nil}
 use Rattle.frame.specs.Frame.{standard}
-use Rattle.frame.proofs.FrameLaws.{length_air_byte}
 use Rattle.frame.proofs.LoopLaws.{standard_turn}
 use Rattle.frame.proofs.within.put_bytes.Goals as goal
 

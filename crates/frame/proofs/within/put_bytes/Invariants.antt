@@ -1,15 +1,9 @@
 -- `frame::within::put_bytes` meets its contract. The loop's invariant: the first i bytes are written, with parity. Assumes nothing.
-use Prim.Native.Nat.{◌≤◌, ◌+◌, ◌*◌, ◌-◌}
-use mathlib.Core.Path.{◌≡◌, sym, ap, ◌∙◌}
-use borrow.Author.Rules.{rules}
-use native.Mathlib.Omega.{arith}
+use Prim.Native.Nat.{◌≤◌, ◌-◌}
+use mathlib.Core.Path.{◌≡◌}
 use lib.ListN.{length, take}
-use lib.Seq.{take_all}
 use Rattle.rows.specs.Rows.{overlay}
-use Rattle.rows.proofs.RowLaws.{overlay_nil}
 use Rattle.frame.specs.Frame.{standard}
-use Rattle.frame.proofs.FrameLaws.{length_air_byte}
-use Rattle.frame.proofs.LoopLaws.{standard_turn}
 use Rattle.frame.proofs.within.put_bytes.Given as goal
 
 abbrev pub invariant-loop-i : goal.invariant-loop-i

@@ -1,11 +1,10 @@
-use mathlib.Core.Path.{◌≡◌, refl, sym, ◌∙◌}
+use mathlib.Core.Path.{refl}
 use borrow.Author.Tests.{lt-ltb}
 use native.Mathlib.Omega.{arith}
 use Rattle.frame.specs.Frame.{read_crc}
 use Rattle.frame.specs.Calls.{read_answer}
 use Rattle.frame.proofs.FrameLaws.{read_size}
 use Rattle.frame.proofs.CallLaws.{read_room, refused_verdict, read_verdict}
-use borrow.Author.Rules.{rules}
 use Rattle.std.proofs.lemmas.Result.{err_from_is_err_and}
 use Rattle.frame.proofs.within.read_crc_within.Goals as goal
 

@@ -1,7 +1,7 @@
 -- `frame::within::read_within` meets its contract: the definition has the same tests, in the same order. Assumes nothing.
 use lib.ListN.{length, length-take}
-use mathlib.Core.Path.{◌≡◌, refl, sym, ap, ◌∙◌}
-use borrow.Author.Tests.{lt-ltb, le-ltb, not-true, not-false}
+use mathlib.Core.Path.{refl, sym, ap, ◌∙◌}
+use borrow.Author.Tests.{lt-ltb, le-ltb}
 use native.Mathlib.Omega.{arith}
 use Rattle.rows.specs.Rows.{overlay}
 use Rattle.frame.proofs.CallLaws.{held_sound}
@@ -10,7 +10,6 @@ use Rattle.frame.specs.Calls.{read_answer}
 use Rattle.frame.proofs.FrameLaws.{whole_size, read_good}
 use Rattle.frame.proofs.WrongLaws.{found_wrong, found_none}
 use Rattle.frame.specs.ByteLaws.{length_bytes}
-use borrow.Author.Rules.{rules}
 use Rattle.frame.proofs.within.read_within.Goals as goal
 
 pub returns-then-out-lt-MOST_BYTES : goal.returns-then-out-lt-MOST_BYTES

@@ -1,13 +1,11 @@
-use Prim.Native.Nat.{◌≤◌, ◌-◌, ◌+◌, ◌*◌}
+use Prim.Native.Nat.{◌+◌, ◌*◌}
 use mathlib.Core.Path.{◌≡◌, sym}
-use borrow.Author.Rules.{rules}
 use native.Mathlib.Nat.{sub-zero, zero-add}
 use native.Mathlib.Omega.{arith}
-use lib.ListN.{length, drop, length-set}
-use Rattle.rows.specs.Rows.{overlay}
+use lib.ListN.{drop, length-set}
 use Rattle.rows.proofs.RowLaws.{overlay_nil}
 use Rattle.rows.specs.HeardLaws.{clean_take, clean_drop}
-use Rattle.frame.specs.Frame.{data_of, bytes_of, first_wrong}
+use Rattle.frame.specs.Frame.{bytes_of}
 use Rattle.frame.proofs.LoopLaws.{first_next, first_here, first_done, wrong_here, right_here, bytes_turn}
 use Rattle.frame.proofs.within.sound_bytes.Goals as goal
 

@@ -1,16 +1,10 @@
 -- `frame::within::sound_bytes` meets its contract. The loop's invariant: the bytes before k are written and none of them is wrong, so the first
 -- wrong byte from k on is the first of all. Assumes nothing.
 use Prim.Native.Nat.{◌≤◌, ◌-◌, ◌+◌, ◌*◌}
-use mathlib.Core.Path.{◌≡◌, sym}
-use borrow.Author.Rules.{rules}
-use native.Mathlib.Nat.{sub-zero, zero-add}
-use native.Mathlib.Omega.{arith}
-use lib.ListN.{length, drop, length-set}
+use mathlib.Core.Path.{◌≡◌}
+use lib.ListN.{length, drop}
 use Rattle.rows.specs.Rows.{overlay}
-use Rattle.rows.proofs.RowLaws.{overlay_nil}
-use Rattle.rows.specs.HeardLaws.{clean_take, clean_drop}
 use Rattle.frame.specs.Frame.{data_of, bytes_of, first_wrong}
-use Rattle.frame.proofs.LoopLaws.{first_next, first_here, first_done, wrong_here, right_here, bytes_turn}
 use Rattle.frame.proofs.within.sound_bytes.Given as goal
 
 abbrev pub invariant-loop-k : goal.invariant-loop-k

@@ -1,13 +1,10 @@
 use Rattle.frame.proofs.CallLaws.{held_good}
 use Prim.Native.Nat.{◌-◌}
-use mathlib.Core.Path.{◌≡◌, refl, sym, ◌∙◌}
-use borrow.Author.Tests.{not-true, not-false}
+use mathlib.Core.Path.{refl, sym, ◌∙◌}
 use native.Mathlib.Omega.{arith}
-use lib.ListN.{length-take}
 use lib.Seq.{length-take-le}
 use Rattle.crc.specs.Crc.{crc_good}
 use Rattle.frame.specs.Frame.{without_crc}
-use borrow.Author.Rules.{rules}
 use Rattle.frame.proofs.within.without_crc.Goals as goal
 
 -- `frame::within::without_crc` meets its contract, by those of `is_good` and `put`. Assumes nothing.

@@ -1,4 +1,4 @@
-use mathlib.Core.Path.{refl, sym, ◌∙◌}
+use mathlib.Core.Path.{sym, ◌∙◌}
 use native.Mathlib.Omega.{arith}
 use Rattle.front.proofs.LoopLaws.{energies_next, energies_here, energies_done}
 use Rattle.front.proofs.tests.are_energies.Goals as goal

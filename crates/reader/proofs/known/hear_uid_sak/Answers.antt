@@ -1,7 +1,6 @@
 -- `reader::known::hear_uid_sak` meets its contract, by what was read. Assumes nothing.
 use mathlib.Core.Path.{sym, ◌∙◌}
 use Rattle.reader.specs.KnownLaws.{uid_sak_at}
-use borrow.Author.Rules.{rules}
 use Rattle.reader.proofs.known.hear_uid_sak.Goals as goal
 
 pub returns-in-Ok : goal.returns-in-Ok

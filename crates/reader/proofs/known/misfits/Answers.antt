@@ -1,20 +1,14 @@
 -- `reader::known::misfits` meets its contract, by those of the tests that it calls. Assumes nothing.
 use mathlib.Core.Path.{sym, ◌∙◌}
 use mathlib.Core.Bool.{true, false}
-use native.Mathlib.Omega.{arith}
-use borrow.Author.Tests.{not-true, not-false, lt-ltb, le-ltb}
+use borrow.Author.Tests.{lt-ltb, le-ltb}
 use Rattle.reader.specs.Reader.{misfits}
 use Rattle.reader.specs.KnownLaws.{misfits_told}
-use Rattle.reader.specs.StepLaws.{place_most}
-use borrow.Author.Rules.{rules}
 use Rattle.reader.proofs.known.misfits.Goals as goal
 
 pub returns-then-not-is_valid : goal.returns-then-not-is_valid
 unfolding misfits
 returns-then-not-is_valid c = rw (sym c.is_valid.ensures ∙ c.if-not-is_valid.true)
-
-pub overflow_add-place : goal.overflow_add-place
-overflow_add-place c = omega (arith, c.place.ensures, place_most c.args.l)
 
 pub returns-then-place-level_count : goal.returns-then-place-level_count
 returns-then-place-level_count c = let a = c.args in

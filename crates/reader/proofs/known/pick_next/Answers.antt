@@ -1,7 +1,6 @@
 -- `reader::known::pick_next` meets its contract, level by level. Assumes nothing.
 use mathlib.Core.Path.{sym, ap, ◌∙◌}
 use Rattle.reader.specs.Reader.{pick_next}
-use borrow.Author.Rules.{rules}
 use Rattle.reader.proofs.known.pick_next.Goals as goal
 
 pub returns-in-One : goal.returns-in-One

@@ -1,7 +1,5 @@
 -- `reader::known::picks` meets its contract: the level is one of the three that are handed over. Assumes nothing.
-use Rattle.std.proofs.Common.{arith}
 use Rattle.reader.specs.Reader.{picks}
-use Rattle.reader.specs.StepLaws.{place_most}
 use Rattle.reader.proofs.known.picks.Goals as goal
 
 pub returns : goal.returns

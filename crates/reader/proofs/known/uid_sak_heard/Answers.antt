@@ -1,7 +1,6 @@
 -- `reader::known::uid_sak_heard` meets its contract: the definition has the same tests. Assumes nothing.
 use mathlib.Core.Path.{sym, ◌∙◌}
-use Rattle.reader.specs.KnownLaws.{sak_misfits, sak_onward, sak_ends}
-use borrow.Author.Rules.{rules}
+use Rattle.reader.specs.KnownLaws.{sak_misfits}
 use Rattle.reader.proofs.known.uid_sak_heard.Goals as goal
 
 pub returns-then-misfits : goal.returns-then-misfits

@@ -1,7 +1,6 @@
 use mathlib.Core.Path.{ap}
 use lib.ListN.{replicate}
 use Rattle.reader.specs.Reader.{reader}
-use borrow.Author.Rules.{rules}
 use Rattle.reader.proofs.within.blank.Goals as goal
 
 pub returns : goal.returns

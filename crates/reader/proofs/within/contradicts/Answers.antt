@@ -1,9 +1,5 @@
 use borrow.Author.Tests.{lt-ltb, le-ltb}
 use Rattle.reader.specs.Reader.{contradicts}
-use borrow.Author.Rules.{rules}
-use Rattle.reader.proofs.within.contradicts.Reads as reads
-use Rattle.reader.proofs.within.contradicts.Lts as lts
-use Rattle.selection.proofs.numbers.place.Reads as place-reads
 use Rattle.reader.proofs.within.contradicts.Goals as goal
 
 -- src/within.rt:310:9

@@ -1,7 +1,6 @@
 use mathlib.Core.Path.{ap}
 use Rattle.reader.specs.Reader.{turn, finds}
 use Rattle.reader.specs.declared.Answer.TheVariants.{Finds}
-use borrow.Author.Rules.{rules}
 use Rattle.reader.proofs.within.finds.Goals as goal
 
 pub returns : goal.returns

@@ -1,5 +1,5 @@
 -- `reader::within::frame_bits` meets its contract. Assumes nothing.
-use Rattle.std.proofs.Common.{◌≡◌, sym, ap, ◌∙◌, length}
+use Rattle.std.proofs.Common.{sym, ap, ◌∙◌, length}
 use mathlib.Core.Logic.{inl, inr}
 use Rattle.selection.specs.SelectionLaws.{length_reqa, length_wupa, length_hlta, length_select}
 use Rattle.selection.specs.SentLaws.{anti_length}

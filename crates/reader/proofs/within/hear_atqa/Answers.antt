@@ -1,10 +1,8 @@
-use mathlib.Core.Path.{◌≡◌, sym, ap, ◌∙◌}
-use mathlib.Core.Bool.{true, false}
+use mathlib.Core.Path.{sym, ap, ◌∙◌}
 use Rattle.uid.specs.declared.Level.TheVariants.{One}
 use Rattle.reader.specs.Reader.{hear_atqa, turn, opens}
 use Rattle.reader.specs.StepLaws.{atqa_at}
 use Rattle.reader.specs.declared.Answer.TheVariants.{Finishes}
-use borrow.Author.Rules.{rules}
 use Rattle.reader.proofs.within.hear_atqa.Goals as goal
 
 pub returns-then-is_over : goal.returns-then-is_over

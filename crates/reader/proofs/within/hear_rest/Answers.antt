@@ -1,7 +1,6 @@
 use mathlib.Core.Path.{sym, ap, ◌∙◌}
 use Rattle.reader.specs.Reader.{sends}
 use Rattle.reader.specs.StepLaws.{rest_at}
-use borrow.Author.Rules.{rules}
 use Rattle.reader.proofs.within.hear_rest.Goals as goal
 
 pub returns-in-Whole : goal.returns-in-Whole

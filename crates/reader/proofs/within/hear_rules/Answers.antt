@@ -1,7 +1,6 @@
 use mathlib.Core.Path.{sym, ◌∙◌}
 use mathlib.Core.Logic.{inl, inr}
 use Rattle.reader.specs.StepLaws.{hear_at}
-use borrow.Author.Rules.{rules}
 use Rattle.reader.proofs.within.hear_rules.Goals as goal
 
 pub returns-in-New : goal.returns-in-New

@@ -1,11 +1,5 @@
 use mathlib.Core.Path.{sym, ◌∙◌}
 use Rattle.reader.specs.StepLaws.{sak_at}
-use borrow.Author.Rules.{rules}
-use Rattle.reader.proofs.within.hear_sak.Reads as reads
-use Rattle.reader.proofs.within.hear_sak.Lts as lts
-use Rattle.reader.proofs.within.sak_heard.Reads as sak-heard-reads
-use Rattle.reader.proofs.within.stop.Reads as stop-reads
-use Rattle.selection.proofs.heard.read_sak.Reads as read-sak-reads
 use Rattle.reader.proofs.within.hear_sak.Goals as goal
 
 -- src/within.rt:330:1

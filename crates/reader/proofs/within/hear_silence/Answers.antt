@@ -2,7 +2,6 @@ use mathlib.Core.Path.{sym, ap, ◌∙◌}
 use Rattle.selection.specs.RestLaws.{nil_yes, nil_no}
 use Rattle.reader.specs.Reader.{sends}
 use Rattle.reader.specs.StepLaws.{silence_yes, silence_no}
-use borrow.Author.Rules.{rules}
 use Rattle.reader.proofs.within.hear_silence.Goals as goal
 
 pub returns-then-row-eq0 : goal.returns-then-row-eq0

@@ -1,7 +1,6 @@
 use mathlib.Core.Path.{sym, ap, ◌∙◌}
 use mathlib.Core.Bool.{false}
 use Rattle.reader.specs.Reader.{completes, after_sak}
-use borrow.Author.Rules.{rules}
 use Rattle.reader.proofs.within.last_level.Goals as goal
 
 pub returns-in-One : goal.returns-in-One

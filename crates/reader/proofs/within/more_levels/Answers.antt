@@ -2,7 +2,6 @@ use mathlib.Core.Path.{sym, ap, ◌∙◌}
 use mathlib.Core.Bool.{true}
 use Rattle.uid.specs.declared.Level.TheVariants.{Two, Three}
 use Rattle.reader.specs.Reader.{opens, after_sak}
-use borrow.Author.Rules.{rules}
 use Rattle.reader.proofs.within.more_levels.Goals as goal
 
 pub returns-in-One : goal.returns-in-One

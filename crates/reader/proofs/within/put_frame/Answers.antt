@@ -1,5 +1,5 @@
 -- `reader::within::put_frame` meets its contract: each phase writes its frame. Assumes nothing.
-use Rattle.std.proofs.Common.{◌≡◌, sym, ap, ◌∙◌}
+use Rattle.std.proofs.Common.{sym, ap, ◌∙◌}
 use mathlib.Core.Logic.{inl, inr}
 use Rattle.rows.specs.Rows.{overlay}
 use Rattle.rows.proofs.RowLaws.{overlay_nil}

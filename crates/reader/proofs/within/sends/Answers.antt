@@ -1,7 +1,6 @@
 use mathlib.Core.Path.{ap}
 use Rattle.reader.specs.Reader.{turn, sends}
 use Rattle.reader.specs.declared.Answer.TheVariants.{Sends}
-use borrow.Author.Rules.{rules}
 use Rattle.reader.proofs.within.sends.Goals as goal
 
 pub returns : goal.returns

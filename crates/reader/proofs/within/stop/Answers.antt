@@ -1,7 +1,6 @@
 use mathlib.Core.Path.{ap}
 use Rattle.reader.specs.Reader.{turn}
 use Rattle.reader.specs.declared.Answer.TheVariants.{Declines}
-use borrow.Author.Rules.{rules}
 use Rattle.reader.proofs.within.stop.Goals as goal
 
 pub returns : goal.returns

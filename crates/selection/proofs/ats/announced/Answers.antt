@@ -1,6 +1,5 @@
 use mathlib.Core.Path.{refl}
 use Rattle.selection.specs.Heard.{announced}
-use borrow.Author.Rules.{rules}
 use Rattle.selection.proofs.ats.announced.Goals as goal
 
 pub returns : goal.returns

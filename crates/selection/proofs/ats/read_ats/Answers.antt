@@ -8,8 +8,6 @@ use Rattle.selection.specs.SizeLaws.{size_most}
 use Rattle.selection.specs.RestLaws.{nil_yes, nil_no}
 use Rattle.selection.specs.AtsLaws.{ats_fault, ats_good, ats_count}
 use Rattle.selection.specs.SaysLaws.{with_says}
-use borrow.Author.Rules.{rules}
-use mathlib.Core.Path.{◌≡◌}
 use Rattle.std.proofs.lemmas.Result.{err_from_is_err_and}
 use Rattle.selection.proofs.ats.read_ats.Goals as goal
 use Rattle.refusal.specs.Refusal.{number_says}

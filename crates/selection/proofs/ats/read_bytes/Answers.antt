@@ -1,9 +1,7 @@
 use Rattle.std.specs.Prelude.{Ok}
 use mathlib.Core.Path.{sym, ap, ◌∙◌}
-use native.Mathlib.Omega.{arith}
 use borrow.Author.Tests.{eq-eqb, ne_eqb, lt-ltb, le-ltb, le-leb, lt-leb}
 use Rattle.selection.specs.AtsLaws.{ats_none, ats_short, ats_is}
-use borrow.Author.Rules.{rules}
 use Rattle.selection.proofs.ats.read_bytes.Goals as goal
 
 pub returns-then-l-eq0 : goal.returns-then-l-eq0

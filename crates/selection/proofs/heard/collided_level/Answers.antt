@@ -1,6 +1,6 @@
 use Rattle.frame.specs.Frame.{bytes_of}
 use Rattle.selection.specs.Level.{first_collided}
-use mathlib.Core.Path.{◌≡◌, refl, sym, ap, ◌∙◌}
+use mathlib.Core.Path.{◌≡◌, sym, ap, ◌∙◌}
 use native.Mathlib.Omega.{arith}
 use lib.ListN.{length}
 use Rattle.selection.specs.RestLaws.{place_right, says_collision, says_parity, says_collided, made_collided, known_clean}

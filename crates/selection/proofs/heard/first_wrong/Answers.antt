@@ -4,7 +4,6 @@ use lib.ListN.{drop}
 use native.Mathlib.Omega.{arith}
 use Rattle.frame.proofs.WrongLaws.{first_most}
 use Rattle.selection.specs.Heard.{rest_place}
-use borrow.Author.Rules.{rules}
 use Rattle.selection.proofs.heard.first_wrong.Goals as goal
 
 pub overflow_add-result : goal.overflow_add-result

@@ -1,5 +1,3 @@
-use lib.ListN.{length-take}
-use native.Mathlib.Omega.{arith}
 use mathlib.Core.Path.{◌≡◌, refl, sym, ap, ◌∙◌}
 use borrow.Author.Tests.{eq-eqb}
 use Rattle.selection.specs.Heard.{read_atqa}

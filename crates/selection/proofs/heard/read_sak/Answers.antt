@@ -1,7 +1,5 @@
-use borrow.Author.Tests.{not-true, not-false}
 use Rattle.selection.specs.RestLaws.{sak_crc, sak_good}
 use mathlib.Core.Path.{◌≡◌, refl, sym, ap, ◌∙◌}
-use native.Mathlib.Omega.{arith}
 use borrow.Author.Tests.{eq-eqb}
 use Rattle.selection.specs.Heard.{read_sak}
 use Rattle.selection.specs.SaysLaws.{with_says}

@@ -1,9 +1,4 @@
-use borrow.Author.Tests.{not-true, not-false}
-use Rattle.frame.specs.Frame.{bytes_of}
-use Rattle.rows.specs.Rows.{same}
-use Rattle.uid.specs.Uid.{level}
-use lib.ListN.{take}
-use mathlib.Core.Path.{◌≡◌, refl, sym, ap, ◌∙◌}
+use mathlib.Core.Path.{◌≡◌, sym, ◌∙◌}
 use native.Mathlib.Omega.{arith}
 use lib.ListN.{length}
 use Rattle.selection.specs.RestLaws.{place_right, says_parity, says_check, says_whole, made_whole}

@@ -1,8 +1,7 @@
-use Prim.Native.Nat.{◌≤◌, ◌-◌, ◌+◌}
 use mathlib.Core.Path.{◌≡◌, refl, sym, ap, ◌∙◌}
 use borrow.Author.Rules.{rules}
 use native.Mathlib.Omega.{arith}
-use lib.ListN.{length, take, replicate, length-set}
+use lib.ListN.{length, replicate, length-set}
 use lib.Seq.{take_all}
 use Rattle.rows.specs.Rows.{overlay}
 use Rattle.rows.proofs.RowLaws.{overlay_nil, overlay_all}

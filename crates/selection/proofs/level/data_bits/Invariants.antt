@@ -1,13 +1,8 @@
-use Prim.Native.Nat.{◌≤◌, ◌-◌, ◌+◌}
-use mathlib.Core.Path.{◌≡◌, refl, sym, ap, ◌∙◌}
-use borrow.Author.Rules.{rules}
-use native.Mathlib.Omega.{arith}
-use lib.ListN.{length, take, replicate, length-set}
-use lib.Seq.{take_all}
+use Prim.Native.Nat.{◌≤◌, ◌-◌}
+use mathlib.Core.Path.{◌≡◌}
+use lib.ListN.{length, take}
 use Rattle.rows.specs.Rows.{overlay}
-use Rattle.rows.proofs.RowLaws.{overlay_nil, overlay_all}
 use Rattle.frame.specs.Frame.{data_of}
-use Rattle.selection.specs.LevelLaws.{length_data, data_turn}
 use Rattle.selection.proofs.level.data_bits.Given as goal
 
 abbrev pub invariant-loop-i : goal.invariant-loop-i

@@ -1,8 +1,5 @@
-use Prim.Native.Nat.{◌≤◌, ◌-◌, ◌+◌}
-use mathlib.Core.Path.{◌≡◌, refl, sym, ap, ◌∙◌}
+use mathlib.Core.Path.{sym, ◌∙◌}
 use native.Mathlib.Omega.{arith}
-use lib.ListN.{length, drop}
-use Rattle.selection.specs.Level.{first_collided}
 use Rattle.selection.specs.LevelLaws.{first_next, first_here, first_done}
 use Rattle.selection.proofs.level.first_collided.Goals as goal
 

@@ -1,9 +1,7 @@
 use Prim.Native.Nat.{◌≤◌, ◌-◌, ◌+◌}
-use mathlib.Core.Path.{◌≡◌, refl, sym, ap, ◌∙◌}
-use native.Mathlib.Omega.{arith}
+use mathlib.Core.Path.{◌≡◌}
 use lib.ListN.{length, drop}
 use Rattle.selection.specs.Level.{first_collided}
-use Rattle.selection.specs.LevelLaws.{first_next, first_here, first_done}
 use Rattle.selection.proofs.level.first_collided.Given as goal
 
 abbrev pub invariant-loop-i : goal.invariant-loop-i

@@ -1,12 +1,11 @@
 use lib.ListN.{replicate}
-use Prim.Native.Nat.{◌≤◌, ◌-◌, ◌+◌, ◌*◌}
+use Prim.Native.Nat.{◌*◌}
 use mathlib.Core.Path.{◌≡◌, refl, sym, ap, ◌∙◌}
-use mathlib.Core.Bool.{true}
 use borrow.Author.Rules.{rules}
 use native.Mathlib.Omega.{arith}
-use lib.ListN.{length, take, drop, length-set}
+use lib.ListN.{length, drop, length-set}
 use lib.Seq.{take_all}
-use Rattle.rows.specs.Rows.{overlay, clean}
+use Rattle.rows.specs.Rows.{overlay}
 use Rattle.rows.proofs.RowLaws.{overlay_nil, overlay_all}
 use Rattle.rows.specs.HeardLaws.{clean_take, clean_drop}
 use Rattle.frame.specs.Frame.{bytes_of}

@@ -1,17 +1,9 @@
-use lib.ListN.{replicate}
-use Prim.Native.Nat.{◌≤◌, ◌-◌, ◌+◌, ◌*◌}
-use mathlib.Core.Path.{◌≡◌, refl, sym, ap, ◌∙◌}
+use Prim.Native.Nat.{◌≤◌, ◌-◌}
+use mathlib.Core.Path.{◌≡◌}
 use mathlib.Core.Bool.{true}
-use borrow.Author.Rules.{rules}
-use native.Mathlib.Omega.{arith}
-use lib.ListN.{length, take, drop, length-set}
-use lib.Seq.{take_all}
+use lib.ListN.{length, take}
 use Rattle.rows.specs.Rows.{overlay, clean}
-use Rattle.rows.proofs.RowLaws.{overlay_nil, overlay_all}
-use Rattle.rows.specs.HeardLaws.{clean_take, clean_drop}
 use Rattle.frame.specs.Frame.{bytes_of}
-use Rattle.frame.specs.ByteLaws.{length_bytes}
-use Rattle.selection.specs.LevelLaws.{bytes_turn}
 use Rattle.selection.proofs.level.five_bytes.Given as goal
 
 abbrev pub invariant-loop-i : goal.invariant-loop-i

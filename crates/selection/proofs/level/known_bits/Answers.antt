@@ -1,6 +1,6 @@
-use mathlib.Core.Path.{◌≡◌, refl, sym, ap, ◌∙◌}
+use mathlib.Core.Path.{◌≡◌}
 use native.Mathlib.Omega.{arith}
-use lib.ListN.{length, take, length-take}
+use lib.ListN.{length, length-take}
 use Rattle.selection.specs.LevelLaws.{first_le, known_clean, known_clash}
 use borrow.Author.Rules.{rules}
 use Rattle.selection.proofs.level.known_bits.Goals as goal

@@ -1,5 +1,4 @@
 use native.Mathlib.Omega.{arith}
-use borrow.Author.Rules.{rules}
 use Rattle.selection.specs.Selection.{size}
 use Rattle.selection.specs.SizeLaws.{size_small, size_large}
 use Rattle.selection.proofs.numbers.size_of.Goals as goal

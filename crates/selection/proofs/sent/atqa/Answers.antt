@@ -3,7 +3,6 @@ use mathlib.Core.List.{[], ◌∷◌}
 use lib.ListN.{replicate}
 use Rattle.selection.specs.Selection.{atqa}
 use Rattle.selection.specs.SentLaws.{made}
-use borrow.Author.Rules.{rules}
 use Rattle.selection.proofs.sent.atqa.Goals as goal
 
 pub returns : goal.returns

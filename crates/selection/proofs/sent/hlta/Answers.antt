@@ -1,5 +1,4 @@
 use Rattle.selection.specs.Selection.{hlta}
-use borrow.Author.Rules.{rules}
 use Rattle.selection.proofs.sent.hlta.Goals as goal
 
 pub returns : goal.returns

@@ -3,7 +3,6 @@ use mathlib.Core.List.{[], ◌∷◌}
 use lib.ListN.{replicate}
 use Rattle.selection.specs.Selection.{sak_frame}
 use Rattle.selection.specs.SentLaws.{made, with_crc_law}
-use borrow.Author.Rules.{rules}
 use Rattle.selection.proofs.sent.sak_frame.Goals as goal
 
 pub returns : goal.returns

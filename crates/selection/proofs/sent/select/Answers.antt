@@ -1,5 +1,5 @@
 use mathlib.Core.Path.{◌≡◌, refl, ap, ◌∙◌}
-use mathlib.Core.List.{[], ◌∷◌, ◌++◌}
+use mathlib.Core.List.{◌∷◌}
 use lib.ListN.{length, replicate}
 use Rattle.crc.specs.Crc.{with_crc}
 use Rattle.frame.specs.Frame.{standard}

@@ -1,5 +1,4 @@
 use Rattle.selection.specs.Selection.{ats}
-use borrow.Author.Rules.{rules}
 use Rattle.selection.proofs.within.ats.Goals as goal
 
 pub returns : goal.returns

@@ -1,8 +1,6 @@
 use Rattle.rows.specs.Rows.{same}
 use Rattle.selection.specs.Selection.{anticollision}
-use lib.ListN.{length-take}
 use mathlib.Core.Path.{◌≡◌, sym, ap, ◌∙◌}
-use native.Mathlib.Omega.{arith}
 use lib.ListN.{length}
 use Rattle.rows.proofs.RowLaws.{overlay_front}
 use Rattle.selection.specs.SentLaws.{anti_length}

@@ -1,7 +1,4 @@
-use mathlib.Core.Path.{◌≡◌, refl, sym, ◌∙◌}
 use native.Mathlib.Omega.{arith}
-use lib.ListN.{length, take, length-take}
-use Rattle.rows.proofs.RowLaws.{length_overlay}
 use Rattle.selection.specs.SentLaws.{anti_made}
 use borrow.Author.Rules.{rules}
 use Rattle.selection.proofs.within.put_anticollision.Goals as goal

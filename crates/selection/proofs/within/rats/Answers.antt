@@ -1,5 +1,4 @@
 use Rattle.selection.specs.Selection.{rats}
-use borrow.Author.Rules.{rules}
 use Rattle.selection.proofs.within.rats.Goals as goal
 
 pub returns : goal.returns

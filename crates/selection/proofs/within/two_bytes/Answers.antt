@@ -2,7 +2,6 @@ use mathlib.Core.Path.{refl}
 use mathlib.Core.List.{[], ◌∷◌}
 use lib.ListN.{replicate}
 use Rattle.selection.specs.SentLaws.{made, with_crc_law}
-use borrow.Author.Rules.{rules}
 use Rattle.selection.proofs.within.two_bytes.Goals as goal
 
 pub returns : goal.returns

@@ -1,5 +1,4 @@
 -- `uid::within::level_row` meets its contract. Assumes nothing.
-use borrow.Author.Rules.{rules}
 use Rattle.uid.specs.Uid.{level}
 use Rattle.uid.proofs.within.level_row.Goals as goal
 

@@ -1,12 +1,7 @@
 use borrow.Author.Rules.{rules}
-use Prim.Native.Nat.{◌≤◌, ◌-◌}
-use mathlib.Core.Path.{◌≡◌, refl, sym, ap, ◌∙◌}
+use mathlib.Core.Path.{refl, sym}
 use native.Mathlib.Omega.{arith}
-use lib.ListN.{length, take}
-use lib.Seq.{take_all}
-use Rattle.rows.specs.Rows.{overlay}
 use Rattle.rows.proofs.RowLaws.{overlay_nil}
-use Rattle.parity.specs.BitLaws.{length_bits}
 use Rattle.frame.specs.Frame.{air_bits}
 use Rattle.uid.specs.AirLaws.{bits_turn}
 use Rattle.uid.proofs.within.put_level.Goals as goal
@@ -24,4 +19,3 @@ loop-i-preserved c = let p = c.put in
       omega (arith, p.auto.out),
       rw (p.ensures, c.bits_of.ensures, l.invariant.3) (bits_turn a.out.now a.at a.five l.i (omega arith) (omega arith)),
     )
-

@@ -1,13 +1,6 @@
-use borrow.Author.Rules.{rules}
-use Prim.Native.Nat.{◌≤◌, ◌*◌, ◌-◌}
-use mathlib.Core.Path.{◌≡◌, refl, sym, ap, ◌∙◌}
-use mathlib.Core.List.{map}
+use mathlib.Core.Path.{refl, sym}
 use native.Mathlib.Omega.{arith}
-use lib.ListN.{length, take}
-use lib.Seq.{take_all}
-use Rattle.rows.specs.Rows.{overlay}
 use Rattle.rows.proofs.RowLaws.{overlay_nil}
-use Rattle.frame.specs.Frame.{air_bits}
 use Rattle.uid.specs.Uid.{air}
 use Rattle.uid.specs.AirLaws.{levels_turn}
 use Rattle.uid.proofs.within.put_levels.Goals as goal
@@ -22,4 +15,3 @@ loop-i-preserved c = let p = c.put_level in
     let a = c.args in
     let t = levels_turn a.out.now a.rows.now l.i (omega arith) l.invariant.2 p.ensures.five_len (omega arith) in
     (omega arith, omega (arith, p.auto.out), t.1, rw (p.ensures.out_after, l.invariant.3) t.0)
-

@@ -1,15 +1,11 @@
 -- `uid::within::put_levels` meets its contract. The loop's invariant: the levels passed are written, 40 bits each. Assumes nothing.
-use borrow.Author.Rules.{rules}
 use Prim.Native.Nat.{◌≤◌, ◌*◌, ◌-◌}
-use mathlib.Core.Path.{◌≡◌, refl, sym}
+use mathlib.Core.Path.{◌≡◌}
 use mathlib.Core.List.{map}
-use native.Mathlib.Omega.{arith}
 use lib.ListN.{length, take}
 use Rattle.rows.specs.Rows.{overlay}
-use Rattle.rows.proofs.RowLaws.{overlay_nil}
 use Rattle.frame.specs.Frame.{air_bits}
 use Rattle.uid.specs.Uid.{air}
-use Rattle.uid.specs.AirLaws.{levels_turn}
 use Rattle.uid.proofs.within.put_levels.Given as goal
 
 abbrev pub invariant-loop-i : goal.invariant-loop-i

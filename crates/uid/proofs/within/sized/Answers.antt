@@ -1,5 +1,4 @@
 -- `uid::within::sized` meets its contract: bytes written over ten zeros. Assumes nothing.
-use borrow.Author.Rules.{rules}
 use Rattle.uid.specs.FillLaws.{sized_made}
 use Rattle.uid.proofs.within.sized.Goals as goal
 
