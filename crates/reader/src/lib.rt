@@ -84,6 +84,7 @@ fn declines(r: Reader, e: Refusal) -> Turn
 }
 
 // The host calls for a selection, or for the reader's part of a sweep: REQA goes out.
+// Kept: `sweeps` is the reader's own field, and picks no step.
 fn begin(sweeps: bool, r: Reader, out: &mut [u8]) -> Turn
     ensures value { result ≡ begin_call sweeps r (length out.old) }
     ensures out_after { out.new ≡ row_after result out.old }

@@ -124,6 +124,7 @@ fn opens(l: Level, s: bool, u: Uid) -> Turn
 }
 
 // Silence after REQA ends a sweep.
+// Kept: `sweeps` is the reader's own field.
 fn is_over(sweeps: bool, row: &[u8]) -> bool
     ensures { result ≡ (is_nil row.now && sweeps) }
 {

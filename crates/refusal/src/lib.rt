@@ -33,6 +33,7 @@ pub enum Refusal {
 }
 
 // The number that document 01's table gives a refusal.
+// Kept: the table's twelve rows; docs/PROMISES.md names `number` and `place`, and two numbers of one case are no conversion.
 pub fn number(r: Refusal) -> u8
     ensures { result ≡ number_of r }
 {

@@ -28,6 +28,7 @@ pub fn is_clean(row: &[u8]) -> bool
 }
 
 // Are two rows equal, in length and in each element?
+// Kept: docs/PROMISES.md names it; what it does is the slices' own `==`.
 pub fn is_same(a: &[u8], b: &[u8]) -> bool
     ensures { result ≡ same a.now b.now }
 {

@@ -6,6 +6,7 @@ ghost use Rattle.selection.specs.Selection.{sel, nvb, cut, atqa_byte, at_most8, 
 use uid::{Level, UidSize};
 
 // The levels before a level.
+// Kept: a level has two numbers, its place and SEL, so neither is its conversion.
 pub fn place(l: Level) -> usize
     ensures { result ≡ place l }
 {
@@ -17,6 +18,7 @@ pub fn place(l: Level) -> usize
 }
 
 // 93, 95 or 97.
+// Kept: as `place`.
 pub fn sel(l: Level) -> u8
     ensures { result ≡ sel l }
 {
@@ -51,6 +53,7 @@ pub fn anticollision_bits(k: u8) -> usize
 }
 
 // The first byte of ATQA.
+// Kept: a frame's byte by the size, no conversion of it.
 pub fn atqa_byte(z: UidSize) -> u8
     ensures { result ≡ atqa_byte z }
 {

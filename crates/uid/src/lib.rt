@@ -36,6 +36,7 @@ pub struct Uid {
 }
 
 // The number of levels of a UID of this size.
+// Kept: a size has two numbers, levels and bytes, so neither is its conversion.
 pub fn level_count(s: UidSize) -> usize
     ensures { result ≡ level_count s }
 {
@@ -47,6 +48,7 @@ pub fn level_count(s: UidSize) -> usize
 }
 
 // The number of bytes of a UID of this size.
+// Kept: as `level_count`.
 pub fn byte_count(s: UidSize) -> usize
     ensures { result ≡ byte_count s }
 {
@@ -115,6 +117,7 @@ pub fn new_uid(bytes: &[u8]) -> Result<Uid, Refusal>
 }
 
 // Are two UIDs the same, in length and in each byte that counts?
+// Kept: a derived `==` would compare the bytes past the size too, which do not count; docs/PROMISES.md names `same_uid`.
 pub fn same_uid(a: Uid, b: Uid) -> bool
     ensures { result ≡ same (uid_bytes a) (uid_bytes b) }
 {
