@@ -54,6 +54,7 @@ pub fn receive(profile: Profile, halves: &[f32], places: &mut [u8]) -> Result<us
 }
 
 // The number of a refusal; 0 where there is none.
+// Kept: docs/PROMISES.md names it, and 0 for no refusal is no conversion of one.
 pub fn number(h: Result<usize, NotHeard>) -> u8
     ensures { result ≡ number_of h }
 {
