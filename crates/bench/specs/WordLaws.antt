@@ -1,6 +1,7 @@
 -- Laws of words. Assumes nothing.
-use Rattle.std.specs.Prelude.{◌≡◌, refl, Bool, true, false, cond, List, [], ◌∷◌, ◌++◌, ℕ, zero, suc, ◌+◌, ◌-◌, ◌≤◌, ◌<◌, length, take, drop, get_or, eqb}
-use Rattle.std.proofs.Common.{sym, ap, ◌∙◌, append-nil, append_assoc, add-one, arith, length-drop, drop_of_length-le, drop-cons, drop-drop, take-suc, get_or-drop, eq-eqb, ne_eqb}
+use Rattle.std.specs.Prelude.{◌≡◌, refl, List, [], ◌∷◌, ◌++◌, ℕ, zero, suc, ◌+◌, ◌-◌, ◌≤◌, ◌<◌, length, take, drop, get_or}
+use Rattle.std.proofs.Common.{sym, ap, ◌∙◌, append_assoc, add-one, arith, length-drop, drop_of_length-le, drop-cons, take-suc, get_or-drop, eq-eqb, ne_eqb, length-append}
+use Rattle.std.proofs.Math.Seq.{get_or-append_seam, take-append_seam}
 use Rattle.rows.specs.Rows.{All}
 use Rattle.bench.specs.Words.{after_gap, first_run, after_run, word_at, without_return}
 
@@ -94,3 +95,18 @@ pub return_none : (l : List ℕ) → length l ≡ 0 → l ≡ without_return l
 unfolding without_return
 return_none [] e = refl
 return_none (x ∷ l) e = absurd (omega arith)
+
+-- a line that ends with a carriage return is cut there, and any other stays
+pub return_cut : (l t : List ℕ) (x : ℕ) → l ≡ t ++ (x ∷ []) → x ≡ 13 → t ≡ without_return l
+unfolding without_return
+return_cut l t x e f =
+    let n : length l - 1 ≡ length t = rw (e, length-append) (omega arith) in
+    let g : get_or l (length t) 0 ≡ 13 = rw (e, get_or-append_seam t x [] 0) f in
+    rw (n, eq-eqb (get_or l (length t) 0) 13 g, e) (sym (take-append_seam t (x ∷ [])))
+
+pub return_kept : (l t : List ℕ) (x : ℕ) → l ≡ t ++ (x ∷ []) → (x ≡ 13 → ⊥) → l ≡ without_return l
+unfolding without_return
+return_kept l t x e f =
+    let n : length l - 1 ≡ length t = rw (e, length-append) (omega arith) in
+    let g : get_or l (length t) 0 ≡ x = rw e (get_or-append_seam t x [] 0) in
+    rw (n, ne_eqb (get_or l (length t) 0) 13 (λ h. f (sym g ∙ h)))

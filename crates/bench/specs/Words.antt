@@ -1,5 +1,6 @@
 -- The script language's lines and words. Words are separated by one or more spaces.
-use Rattle.std.specs.Prelude.{ℕ, zero, suc, ◌-◌, ◌≤◌, ◌≡◌, Bool, true, false, cond, List, [], ◌∷◌, length, take, drop, get_or, eqb, ltb}
+use Rattle.std.specs.Prelude.{ℕ, zero, suc, ◌-◌, ◌≤◌, ◌≡◌, Bool, cond, List, [], ◌∷◌, length, take, drop, get_or, eqb, ltb, not, filter}
+use Rattle.std.specs.List.{slice_split}
 use Rattle.bench.specs.declared.LineKind.{LineKind}
 use Rattle.bench.specs.declared.LineKind.TheVariants.{PassedOver, TooLong, Script}
 
@@ -24,6 +25,10 @@ after_run (x ∷ l) = cond (eqb x 32) (x ∷ l) (after_run l)
 unfoldable pub word_at : ℕ → List ℕ → List ℕ
 word_at zero l = first_run (after_gap l)
 word_at (suc k) l = word_at k (after_run (after_gap l))
+
+-- all the words, in order: what stands between spaces, where anything does
+abbrev pub words_of : List ℕ → List (List ℕ)
+words_of l = filter (λ w. not (eqb (length w) 0)) (slice_split (λ b. eqb b 32) l)
 
 -- r is the index of the first letter that is no space, at from or behind it, or the end
 pub record Skipped (l : List ℕ) (from r : ℕ) : Type 0 where

@@ -1,15 +1,17 @@
 // The script language's lines and words.
 #![tactic(auto)]
 
-ghost use Rattle.std.specs.Prelude.{◌≡◌, ℕ, length, take};
+ghost use Rattle.std.specs.Prelude.{◌≡◌, ℕ, IfOk, length, map, take};
 ghost use Rattle.bench.specs.Lines.{no_line, fed, fed_bytes};
-ghost use Rattle.bench.specs.Words.{word_at, without_return, kind_of};
+ghost use Rattle.bench.specs.Words.{words_of, word_at, without_return, kind_of};
 
 // Functions with conditions on what they are called with. Only the crates of this repository call them.
 pub mod within;
 
+use std::alloc::{AllocError, Global};
+
 // A line that is being collected: its length so far, whether bytes had no room, and whether its line feed has come.
-#[derive(Clone, Copy)]
+#[derive(Clone, Copy, Debug, PartialEq, Eq)]
 pub struct Line {
     pub length: usize,
     pub overlong: bool,
@@ -17,7 +19,7 @@ pub struct Line {
 }
 
 // What is to be done with a line: nothing; it is not understood; its words are to be read.
-#[derive(Clone, Copy)]
+#[derive(Clone, Copy, Debug, PartialEq, Eq)]
 pub enum LineKind {
     PassedOver,
     TooLong,
@@ -40,26 +42,25 @@ pub fn feed(bytes: &mut [u8], line: Line, b: u8) -> Line
     ensures value { result ≡ fed (length bytes.old) line b }
     ensures bytes_after { bytes.new ≡ fed_bytes bytes.old line b }
 {
-    let n = line.length;
-    if b == 10 {
-        return Line {
-            length: n,
-            overlong: line.overlong,
+    let length = line.length;
+    if b == b'\n' {
+        Line {
             complete: true,
-        };
-    }
-    if n < bytes.len() {
-        bytes[n] = b;
-        return Line {
-            length: n + 1,
-            overlong: line.overlong,
+            ..line
+        }
+    } else if length < bytes.len() {
+        bytes[length] = b;
+        Line {
+            length: length + 1,
             complete: false,
-        };
-    }
-    Line {
-        length: n,
-        overlong: true,
-        complete: false,
+            ..line
+        }
+    } else {
+        Line {
+            overlong: true,
+            complete: false,
+            ..line
+        }
     }
 }
 
@@ -67,14 +68,10 @@ pub fn feed(bytes: &mut [u8], line: Line, b: u8) -> Line
 pub fn text(line: &[u8]) -> &[u8]
     ensures { result.now ≡ without_return line.now }
 {
-    if line.len() == 0 {
+    let Some((last, text)) = line.split_last() else {
         return line;
-    }
-    let n = line.len() - 1;
-    if line[n] == 13 {
-        return &line[..n];
-    }
-    line
+    };
+    if *last == b'\r' { text } else { line }
 }
 
 // What is to be done with a line.
@@ -82,18 +79,23 @@ pub fn kind(overlong: bool, text: &[u8]) -> LineKind
     ensures { result ≡ kind_of overlong text.now }
 {
     if overlong {
-        return LineKind::TooLong;
+        LineKind::TooLong
+    } else if text.len() > 16384 {
+        LineKind::TooLong
+    } else if within::first(text) == b'#' {
+        LineKind::PassedOver
+    } else if word(text, 0).is_empty() {
+        LineKind::PassedOver
+    } else {
+        LineKind::Script
     }
-    if text.len() > 16384 {
-        return LineKind::TooLong;
-    }
-    if within::first(text) == 35 {
-        return LineKind::PassedOver;
-    }
-    if word(text, 0).len() == 0 {
-        return LineKind::PassedOver;
-    }
-    LineKind::Script
+}
+
+// The words, in order.
+pub fn words(alloc: Global, text: &[u8]) -> Result<Vec<&[u8]>, AllocError> {
+    text.split(|&b| b == b' ')
+        .filter(|word| !word.is_empty())
+        .collect(alloc)
 }
 
 // The k-th word, counted from 0; empty where there is none.
@@ -101,7 +103,7 @@ pub fn word(text: &[u8], k: usize) -> &[u8]
     ensures { result.now ≡ word_at k text.now }
 {
     let mut at = 0;
-    for i in 0..k {
+    for _i in 0..k {
         at = within::after_word(text, at);
     }
     let start = within::skip(text, at);
@@ -109,12 +111,9 @@ pub fn word(text: &[u8], k: usize) -> &[u8]
     &text[start..end]
 }
 
-// The first n bytes of a slice; all of it where it has no more.
-pub fn front(s: &[u8], n: usize) -> &[u8]
+// The first n elements of a slice; all of it where it has no more.
+pub fn front<T>(s: &[T], n: usize) -> &[T]
     ensures { result.now ≡ take n s.now }
 {
-    if s.len() <= n {
-        return s;
-    }
-    &s[..n]
+    s.get(..n).unwrap_or(s)
 }

@@ -6,10 +6,7 @@ ghost use Rattle.bench.specs.Words.{Skipped, Stopped, after_gap, after_run};
 pub fn first(text: &[u8]) -> u8
     ensures { result ≡ get_or text.now 0 0 }
 {
-    if text.len() == 0 {
-        return 0;
-    }
-    text[0]
+    text.first().copied().unwrap_or(0)
 }
 
 // The index of the first byte that is no space, at from or behind it, or the end.

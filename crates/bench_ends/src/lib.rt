@@ -1,146 +1,107 @@
 // A card and a reader that speak to each other, frame by frame: from new ends to open ones.
 #![tactic(auto)]
 
+ghost use Rattle.std.specs.Prelude.{◌≡◌};
+ghost use Rattle.bench_ends.specs.Ends.{declined_in, refused_in, refusal_in, size_in};
+
 use block::Told;
 use card_link::LinkCard;
+use limits::ROW_ROOM;
 use reader::Answer;
 use reader_link::{LinkAnswer, LinkReader, LinkTurn};
+use refusal::Refusal;
 
-// Both ends, and what the reader's last turn was, in plain numbers: so many bits of its frame at the front of row; the card's frame size, where it
-// has opened; the refusal's number. 0 where there is none.
+// Both ends, and what the reader answered last.
 #[derive(Clone, Copy)]
 pub struct Ends {
     pub reader: LinkReader,
     pub card: LinkCard,
-    pub row: [u8; 2304],
-    pub bits: usize,
-    pub size: usize,
-    pub refused: u8,
-}
-
-// A card, and what it sends: so many bits at the front of row.
-#[derive(Clone, Copy)]
-struct Said {
-    card: LinkCard,
-    row: [u8; 2304],
-    bits: usize,
+    pub answer: LinkAnswer,
 }
 
 // A new reader selects the card, which has power.
 pub fn selected(card: LinkCard) -> Ends {
-    let mut row = [0u8; 2304];
-    let t = reader_link::whole::select(reader_link::whole::new_reader(), &mut row);
-    speak(turned(t, card, row))
+    let mut row = [0; ROW_ROOM];
+    let turn = reader_link::whole::select(reader_link::whole::new_reader(), &mut row);
+    speak(turn, card, row)
 }
 
 // .. and then sends RATS with its size index.
 pub fn opened(card: LinkCard, index: u8) -> Ends {
-    let s = selected(card);
-    if s.refused > 0 {
-        return s;
+    let ends = selected(card);
+    if refusal_in(ends.answer).is_some() {
+        return ends;
     }
-    let reader = s.reader;
-    let after = s.card;
-    asks(reader, after, index)
+    let mut row = [0; ROW_ROOM];
+    let turn = reader_link::whole::rats(ends.reader, index, &mut row);
+    speak(turn, ends.card, row)
 }
 
-fn asks(reader: LinkReader, card: LinkCard, index: u8) -> Ends {
-    let mut row = [0u8; 2304];
-    let t = reader_link::whole::rats(reader, index, &mut row);
-    speak(turned(t, card, row))
-}
-
-fn turned(t: LinkTurn, card: LinkCard, row: [u8; 2304]) -> Ends {
-    let reader = t.reader;
-    let a = t.answer;
-    Ends {
-        reader,
-        card,
-        row,
-        bits: reader_link::whole::bits_of(a),
-        size: size_in(a),
-        refused: refused_in(a),
-    }
-}
-
-// Frames to and fro until the reader sends none, 40 at most: selection takes 1 and two for each level, RATS takes 1.
-fn speak(s: Ends) -> Ends {
-    let mut e = s;
-    let mut left: usize = 40;
-    while left > 0 {
-        left -= 1;
-        if e.bits == 0 {
-            return e;
+// Frames to and fro until the reader sends none, 40 at most: selection takes 1 and two for each level, RATS takes 1. The first stands in the row.
+// No end hands in or gets a message.
+fn speak(turn: LinkTurn, card: LinkCard, row: [u8; ROW_ROOM]) -> Ends {
+    let mut sent = row;
+    let mut heard = [0; ROW_ROOM];
+    let mut ends = after(turn, card);
+    for _ in 0..40 {
+        let bits = reader_link::whole::bits_of(ends.answer);
+        if bits == 0 {
+            return ends;
         }
-        e = frame(e);
+        let frame = bench::front(&sent, bits);
+        let taken = card_link::whole::take(ends.card, frame, b"", &mut [], &mut heard);
+        let answer = bench::front(&heard, taken.bits);
+        let turn = reader_link::whole::hear(ends.reader, answer, b"", &mut [], &mut sent);
+        ends = after(turn, taken.card);
     }
-    e
+    ends
 }
 
-// The card takes the reader's frame, and the reader hears what the card sends.
-fn frame(e: Ends) -> Ends {
-    let row = e.row;
-    let card = e.card;
-    let reader = e.reader;
-    heard(reader, taken(card, bench::front(&row, e.bits)))
-}
-
-fn taken(card: LinkCard, row: &[u8]) -> Said {
-    let mut none = [0u8; 1];
-    let mut sent = [0u8; 2304];
-    let t = card_link::whole::take(card, row, b"", &mut none, &mut sent);
-    let after = t.card;
-    Said {
-        card: after,
-        row: sent,
-        bits: t.bits,
+fn after(turn: LinkTurn, card: LinkCard) -> Ends {
+    Ends {
+        reader: turn.reader,
+        card,
+        answer: turn.answer,
     }
 }
 
-fn heard(reader: LinkReader, s: Said) -> Ends {
-    let row = s.row;
-    let card = s.card;
-    let mut none = [0u8; 1];
-    let mut sent = [0u8; 2304];
-    let t = reader_link::whole::hear(
-        reader,
-        bench::front(&row, s.bits),
-        b"",
-        &mut none,
-        &mut sent,
-    );
-    turned(t, card, sent)
-}
-
-// The card's frame size in a reader's answer, where it opens.
-fn size_in(a: LinkAnswer) -> usize {
-    let LinkAnswer::Opens(index) = a else {
-        return 0;
-    };
-    selection::numbers::size_of(index)
-}
-
-// The number of a refusal in an answer.
-pub fn refused_in(a: LinkAnswer) -> u8 {
-    match a {
-        LinkAnswer::Selection(s) => declined_in(s),
-        LinkAnswer::Opens(_) => 0,
-        LinkAnswer::Blocks(_, t) => told_in(t),
+// The card's frame size, where the answer is that it has opened.
+pub fn size_in(answer: LinkAnswer) -> Option<usize>
+    ensures { result ≡ size_in answer }
+{
+    match answer {
+        LinkAnswer::Opens(index) => Some(selection::numbers::size_of(index)),
+        _ => None,
     }
 }
 
-// .. in what is told to a host
-pub fn told_in(t: Told) -> u8 {
-    let Told::Refused(e) = t else {
-        return 0;
-    };
-    refusal::number(e)
+// The refusal in an answer of the reader ..
+pub fn refusal_in(answer: LinkAnswer) -> Option<Refusal>
+    ensures { result ≡ refusal_in answer }
+{
+    match answer {
+        LinkAnswer::Selection(answer) => declined_in(answer),
+        LinkAnswer::Opens(_) => None,
+        LinkAnswer::Blocks(_, told) => refused_in(told),
+    }
 }
 
-// .. in an answer of a selection
-pub fn declined_in(a: Answer) -> u8 {
-    let Answer::Declines(e) = a else {
-        return 0;
-    };
-    refusal::number(e)
+// .. in what is told to a host ..
+pub fn refused_in(told: Told) -> Option<Refusal>
+    ensures { result ≡ refused_in told }
+{
+    match told {
+        Told::Refused(refusal) => Some(refusal),
+        _ => None,
+    }
+}
+
+// .. in an answer of a selection.
+pub fn declined_in(answer: Answer) -> Option<Refusal>
+    ensures { result ≡ declined_in answer }
+{
+    match answer {
+        Answer::Declines(refusal) => Some(refusal),
+        _ => None,
+    }
 }

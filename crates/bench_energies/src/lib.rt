@@ -4,5 +4,5 @@
 mod numbers;
 mod profiles;
 
-pub use numbers::{Numbers, of_bits, part, read_numbers};
-pub use profiles::{ProfileLine, profile_line, start};
+pub use numbers::{of_bits, read_numbers};
+pub use profiles::{profile_line, start};

@@ -7,6 +7,40 @@ ghost use Rattle.bench_text.specs.Text.{Wrote, hex_text, bits_text, row_text, de
 // Functions with conditions on what they are called with, and parts. Only the crates of this repository call them.
 pub mod within;
 
+use std::fmt;
+
+// Bytes as the programs print them: hexadecimal capitals; `-` for none.
+#[derive(Clone, Copy)]
+pub struct Hex<'a>(pub &'a [u8]);
+
+impl fmt::Display for Hex<'_> {
+    fn fmt<W: fmt::Write>(&self, f: &mut fmt::Formatter<W>) -> fmt::Result {
+        if self.0.is_empty() {
+            return f.write_str("-");
+        }
+        for byte in self.0 {
+            write!(f, "{byte:02X}")?;
+        }
+        Ok(())
+    }
+}
+
+// A row as the programs print it: `0`, `1`, and `x` for a collided bit; `-` for the empty one.
+#[derive(Clone, Copy)]
+pub struct Row<'a>(pub &'a [u8]);
+
+impl fmt::Display for Row<'_> {
+    fn fmt<W: fmt::Write>(&self, f: &mut fmt::Formatter<W>) -> fmt::Result {
+        if self.0.is_empty() {
+            return f.write_str("-");
+        }
+        for bit in self.0 {
+            f.write_char(char::from(within::bit_char(*bit)))?;
+        }
+        Ok(())
+    }
+}
+
 // The given text.
 pub fn put(out: &mut [u8], at: usize, text: &[u8]) -> usize
     ensures { Wrote out.old at text.now result out.new }

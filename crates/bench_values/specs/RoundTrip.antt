@@ -1,13 +1,11 @@
 -- What is written is read back: bytes, rows and numbers. Assumes nothing.
-use Rattle.std.specs.Prelude.{◌≡◌, refl, Bool, true, false, cond, ◌&&◌, List, [], ◌∷◌, ◌++◌, ℕ, zero, suc, ◌+◌, ◌-◌, ◌*◌, ◌/◌, ◌%◌, ◌^◌, ◌≤◌, ◌<◌, length, ltb, leb, eqb}
-use Rattle.std.proofs.Common.{sym, ap, ap₂, ◌∙◌, pow-suc, arith, length-append, lt-ltb, le-ltb, ltb-true, ltb-false, le-leb, eq-eqb}
+use Rattle.std.specs.Prelude.{◌≡◌, refl, Some, Bool, true, false, cond, List, [], ◌∷◌, ◌++◌, ℕ, zero, suc, ◌+◌, ◌*◌, ◌/◌, ◌%◌, ◌^◌, ◌≤◌, ◌<◌, length, ltb, eqb}
+use Rattle.std.proofs.Common.{ap, ap₂, ◌∙◌, pow-suc, arith, length-append, lt-ltb, le-ltb, ltb-true, ltb-false, le-leb, eq-eqb}
 use Rattle.rows.specs.Rows.{All, Bytes, same}
 use Rattle.rows.specs.ListLaws.{same_length}
-use Rattle.bench_text.specs.Text.{hex_char, hex_byte, hex_digits, hex_text, bit_char, bits_text, row_text, last_digit, digits, decimal_text}
-use Rattle.bench_values.specs.declared.Alphabet.{Alphabet}
+use Rattle.bench_text.specs.Text.{hex_char, hex_digits, hex_text, bit_char, bits_text, row_text, last_digit, digits, decimal_text}
 use Rattle.bench_values.specs.declared.Alphabet.TheVariants.{Hex, Bits, Decimal}
-use Rattle.bench_values.specs.declared.Number.TheVariants.{Value}
-use Rattle.bench_values.specs.Values.{hex_value, bit_value, decimal_value, value_of, spelt, Meaning, These, is_dash, hex_pair, hex_bytes, hex_word, row_bits, row_word, joined, number_word}
+use Rattle.bench_values.specs.Values.{hex_value, bit_value, decimal_value, spelt, These, hex_bytes, hex_word, row_bits, row_word, joined, number_word}
 
 -- ---- bytes
 
@@ -156,7 +154,7 @@ few_digits k (suc f) n h = go (ltb n 10) refl k h (λ (j : ℕ) (l : n / 10 < 10
         let e : length (digits f (n / 10) ++ last_digit n) ≡ length (digits f (n / 10)) + 1 = simp length-append in
         (omega arith, omega arith)
 
-pub number_back : (k n : ℕ) → n < 10 ^ suc k → number_word (suc k) (decimal_text n) ≡ Value n
+pub number_back : (k n : ℕ) → n < 10 ^ suc k → number_word (suc k) (decimal_text n) ≡ Some n
 unfolding number_word decimal_text
 number_back k n h =
     let l : (1 ≤ length (digits n n)) × (length (digits n n) ≤ suc k) = few_digits k n n h in

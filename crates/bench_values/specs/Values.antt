@@ -1,12 +1,10 @@
 -- The script language's words as values: bytes, rows and numbers, as the programs read them.
-use Rattle.std.specs.Prelude.{ℕ, ◌+◌, ◌-◌, ◌*◌, ◌%◌, Bool, true, false, cond, ◌&&◌, List, [], ◌∷◌, length, eqb, leb, ltb}
+use Rattle.std.specs.Prelude.{ℕ, Option, Some, None, Result, Ok, Err, ◌+◌, ◌-◌, ◌*◌, ◌%◌, Bool, true, false, cond, ◌&&◌, List, [], ◌∷◌, length, eqb, leb, ltb}
 use Rattle.rows.specs.Rows.{overlay, same}
 use Rattle.bench_values.specs.declared.Alphabet.{Alphabet}
 use Rattle.bench_values.specs.declared.Alphabet.TheVariants.{Hex, Bits, Decimal}
-use Rattle.bench_values.specs.declared.ReadWord.{ReadWord}
-use Rattle.bench_values.specs.declared.ReadWord.TheVariants.{Count, TooLong, NotRead}
-use Rattle.bench_values.specs.declared.Number.{Number}
-use Rattle.bench_values.specs.declared.Number.TheVariants.{Value, NotANumber}
+use Rattle.bench_values.specs.declared.ReadError.{ReadError}
+use Rattle.bench_values.specs.declared.ReadError.TheVariants.{TooLong, NotRead}
 
 -- ---- letters: what each stands for, 16 where it stands for nothing
 
@@ -74,18 +72,17 @@ row_word w = cond (is_dash w) (These []) (cond (leb 1 (length w) && spelt Bits w
 
 -- ---- a word read into lent memory: how many elements were written at its front; or why not, and it is unchanged
 
-abbrev pub read_answer : ℕ → Meaning → ReadWord
-read_answer room (These l) = cond (ltb room (length l)) TooLong (Count (length l))
-read_answer room Nothing = NotRead
+abbrev pub read_answer : ℕ → Meaning → Result ℕ ReadError
+read_answer room (These l) = cond (ltb room (length l)) (Err TooLong) (Ok (length l))
+read_answer room Nothing = Err NotRead
 
 abbrev pub meant : Meaning → List ℕ
 meant (These l) = l
 meant Nothing = []
 
-abbrev pub read_after : ReadWord → Meaning → List ℕ → List ℕ
-read_after (Count n) m out = overlay out 0 (meant m)
-read_after TooLong m out = out
-read_after NotRead m out = out
+abbrev pub read_after : Result ℕ ReadError → Meaning → List ℕ → List ℕ
+read_after (Ok n) m out = overlay out 0 (meant m)
+read_after (Err e) m out = out
 
 -- ---- numbers: one to five digits
 
@@ -95,5 +92,5 @@ joined v [] = v
 joined v (c ∷ w) = joined (10 * v + decimal_value c % 10) w
 
 -- a number of one to k digits
-unfoldable pub number_word : ℕ → List ℕ → Number
-number_word k w = cond (leb 1 (length w) && leb (length w) k && spelt Decimal w) (Value (joined 0 w)) NotANumber
+unfoldable pub number_word : ℕ → List ℕ → Option ℕ
+number_word k w = cond (leb 1 (length w) && leb (length w) k && spelt Decimal w) (Some (joined 0 w)) None

@@ -6,46 +6,39 @@ ghost use Rattle.bench_values.specs.Values.{hex_value, bit_value, decimal_value,
 
 use crate::Alphabet;
 
+// Kept: 16 for a letter that stands for nothing is what the definitions hex_value, bit_value and decimal_value say, and the laws of reading back.
+#[tactic(auto, unfolding(crate::specs::Values::hex_value))]
 pub fn hex_value(c: u8) -> u8
     ensures { result ≡ hex_value c }
 {
-    if c < 48 {
-        return 16;
+    match c {
+        b'0'..=b'9' => c - b'0',
+        b'A'..=b'F' => c - b'A' + 10,
+        b'a'..=b'f' => c - b'a' + 10,
+        _ => 16,
     }
-    if c < 58 {
-        return c - 48;
-    }
-    if c < 65 {
-        return 16;
-    }
-    if c < 71 {
-        return c - 55;
-    }
-    if c < 97 {
-        return 16;
-    }
-    if c < 103 { c - 87 } else { 16 }
 }
 
+#[tactic(auto, unfolding(crate::specs::Values::bit_value))]
 pub fn bit_value(c: u8) -> u8
     ensures { result ≡ bit_value c }
 {
-    if c == 48 {
-        return 0;
+    match c {
+        b'0' => 0,
+        b'1' => 1,
+        b'x' => 2,
+        _ => 16,
     }
-    if c == 49 {
-        return 1;
-    }
-    if c == 120 { 2 } else { 16 }
 }
 
+#[tactic(auto, unfolding(crate::specs::Values::decimal_value))]
 pub fn decimal_value(c: u8) -> u8
     ensures { result ≡ decimal_value c }
 {
-    if c < 48 {
-        return 16;
+    match c {
+        b'0'..=b'9' => c - b'0',
+        _ => 16,
     }
-    if c < 58 { c - 48 } else { 16 }
 }
 
 // What a letter stands for; 16 where it stands for nothing.
@@ -63,8 +56,8 @@ pub fn value_of(a: Alphabet, c: u8) -> u8
 pub fn is_spelt(a: Alphabet, word: &[u8]) -> bool
     ensures { result ≡ spelt a word.now }
 {
-    for i in 0..word.len() {
-        if value_of(a, word[i]) >= 16 {
+    for &c in word {
+        if value_of(a, c) >= 16 {
             return false;
         }
     }
@@ -82,23 +75,14 @@ pub fn is_dash(word: &[u8]) -> bool
 pub fn is_hex(word: &[u8]) -> bool
     ensures { result ≡ (leb 2 (length word.now) && eqb (length word.now % 2) 0 && spelt Hex word.now) }
 {
-    if word.len() < 2 {
-        return false;
-    }
-    if word.len() % 2 != 0 {
-        return false;
-    }
-    is_spelt(Alphabet::Hex, word)
+    2 <= word.len() && word.len() % 2 == 0 && is_spelt(Alphabet::Hex, word)
 }
 
 // At least one bit, and nothing but bits?
 pub fn is_row(word: &[u8]) -> bool
     ensures { result ≡ (leb 1 (length word.now) && spelt Bits word.now) }
 {
-    if word.len() < 1 {
-        return false;
-    }
-    is_spelt(Alphabet::Bits, word)
+    1 <= word.len() && is_spelt(Alphabet::Bits, word)
 }
 
 // The byte that two digits make.
@@ -135,8 +119,8 @@ pub fn join(word: &[u8]) -> usize
     ensures { result ≡ joined 0 word.now }
 {
     let mut v: usize = 0;
-    for i in 0..word.len() {
-        v = 10 * v + (decimal_value(word[i]) % 10) as usize;
+    for &c in word {
+        v = 10 * v + (decimal_value(c) % 10) as usize;
     }
     v
 }

@@ -1,76 +1,47 @@
 // Frames written and read, and a UID's on-air row, with so much room.
-use crate::Given;
-use bench_talk::Answer;
+use crate::answers::{counted, lent};
+use bench_talk::LineError;
 use refusal::Refusal;
+use std::alloc::Global;
 
-// `write ROOM BYTES`, `write_crc ROOM BYTES`, `write_short ROOM`, `read ROOM`, `read_crc ROOM`, `air_row ROOM`
-pub fn line(k: usize, g: Given) -> Answer {
-    match k {
-        0 => write(g),
-        1 => write_crc(g),
-        2 => write_short(g.a),
-        3 => read(g.a),
-        4 => read_crc(g.a),
-        _ => air_row(g.a),
-    }
+// A frame of so many zeros, 300 at most.
+pub fn write<W: Fn(&[u8], &mut [u8]) -> Result<usize, Refusal>>(
+    alloc: Global,
+    room: usize,
+    bytes: usize,
+    write: W,
+) -> Result<String, LineError>
+    requires { W.IsAlwaysCallable write }
+{
+    let bytes = lent(alloc, 0, bytes, 300)?;
+    let mut row = lent(alloc, 0, room, 2718)?;
+    counted(alloc, "bits", write(bytes.as_slice(), row.as_mut_slice()))
 }
 
-// `bits N`, `bytes N`
-fn count(k: usize, n: usize) -> Answer {
-    bench_talk::number(bench_talk::word(bench_talk::none(), b"bits bytes", k), n)
-}
-
-fn write(g: Given) -> Answer {
-    let bytes = [0u8; 300];
-    let mut row = [0u8; 2718];
-    written(frame::write(bench::front(&bytes, g.b), bench_talk::room(&mut row, g.a)))
-}
-
-fn write_crc(g: Given) -> Answer {
-    let bytes = [0u8; 300];
-    let mut row = [0u8; 2718];
-    written(frame::write_crc(bench::front(&bytes, g.b), bench_talk::room(&mut row, g.a)))
-}
-
-fn write_short(room: usize) -> Answer {
-    let mut row = [0u8; 7];
-    written(frame::write_short(0x26, bench_talk::room(&mut row, room)))
-}
-
-fn written(w: Result<usize, Refusal>) -> Answer {
-    match w {
-        Ok(n) => count(0, n),
-        Err(e) => bench_lines::refused(e),
-    }
+// REQA.
+pub fn write_short(alloc: Global, room: usize) -> Result<String, LineError> {
+    let mut row = lent(alloc, 0, room, 7)?;
+    counted(alloc, "bits", frame::write_short(0x26, row.as_mut_slice()))
 }
 
 // HLTA is read.
-fn read(room: usize) -> Answer {
-    let mut bytes = [0u8; 256];
-    let hlta = selection::sent::hlta();
-    received(frame::read(&hlta, bench_talk::room(&mut bytes, room)))
+pub fn read<R: Fn(&[u8], &mut [u8]) -> Result<usize, Refusal>>(
+    alloc: Global,
+    room: usize,
+    read: R,
+) -> Result<String, LineError>
+    requires { R.IsAlwaysCallable read }
+{
+    let mut bytes = lent(alloc, 0, room, limits::MOST_BYTES)?;
+    counted(alloc, "bytes", read(&selection::sent::hlta(), bytes.as_mut_slice()))
 }
 
-fn read_crc(room: usize) -> Answer {
-    let mut bytes = [0u8; 256];
-    let hlta = selection::sent::hlta();
-    received(frame::read_crc(&hlta, bench_talk::room(&mut bytes, room)))
+pub fn air_row(alloc: Global, room: usize) -> Result<String, LineError> {
+    let mut row = lent(alloc, 0, room, 120)?;
+    counted(alloc, "bits", put_air_row(row.as_mut_slice()))
 }
 
-fn received(r: Result<usize, Refusal>) -> Answer {
-    match r {
-        Ok(n) => count(1, n),
-        Err(e) => bench_lines::refused(e),
-    }
-}
-
-fn air_row(room: usize) -> Answer {
-    let mut row = [0u8; 120];
-    let new = uid::new_uid(&[1, 2, 3, 4]);
-    let u = new.uid;
-    let r = uid::air_row(u, bench_talk::room(&mut row, room));
-    match r {
-        Ok(n) => count(0, n),
-        Err(e) => bench_lines::refused(e),
-    }
+fn put_air_row(out: &mut [u8]) -> Result<usize, Refusal> {
+    let uid = uid::new_uid(&[1, 2, 3, 4])?;
+    uid::air_row(uid, out)
 }

@@ -1,44 +1,39 @@
 // The reader of crate reader, selection alone, with so much room.
-use crate::Given;
-use bench_talk::Answer;
-use reader::{Reader, Turn};
+use crate::answers::{counted, lent};
+use bench_talk::LineError;
+use limits::FRAME_ROOM;
+use reader::{Answer, Reader, Turn};
+use std::alloc::Global;
 
-// `reader_select ROOM SENT`, `reader_start_sweep ROOM SENT`, `reader_hear ROOM SENT`: SENT is 0 for a new reader, else REQA is out. What is heard is
-// an ATQA. `reader_wake ROOM SENT BYTES`: the UID has so many bytes.
-pub fn line(k: usize, g: Given) -> Answer {
-    let mut row = [0u8; 81];
-    let room = bench_talk::room(&mut row, g.a);
-    let r = reader_at(g.b);
-    match k {
-        6 => turned(reader::select(r, room)),
-        7 => turned(reader::start_sweep(r, room)),
-        9 => turned(reader::wake(
-            r,
-            bench::front(b"\x01\x02\x03\x04\x05\x06\x07\x08\x09\x0a\x0b", g.c),
-            room,
-        )),
-        _ => turned(reader::hear(r, b"\0\0\x01\0\0\0\0\0\0\0\0\0\0\0\0\0\0\x01", room)),
-    }
+// The row of the ATQA that it hears.
+pub const ATQA: [u8; 18] = [0, 0, 1, 0, 0, 0, 0, 0, 0, 0, 0, 0, 0, 0, 0, 0, 0, 1];
+
+// A call of the reader, new where sent is 0, else with REQA out.
+pub fn turn<C: FnOnce(Reader, &mut [u8]) -> Turn>(
+    alloc: Global,
+    room: usize,
+    sent: usize,
+    call: C,
+) -> Result<String, LineError>
+    requires { C.IsAlwaysCallable call }
+{
+    let mut row = lent(alloc, 0, room, FRAME_ROOM)?;
+    let reader = if sent == 0 {
+        reader::new_reader()
+    } else {
+        used()
+    };
+    let turn = call(reader, row.as_mut_slice());
+    let bits = match turn.answer {
+        Answer::Sends(n) | Answer::Finds(n) => Ok(n),
+        Answer::Selects | Answer::Finishes => Ok(0),
+        Answer::Declines(refusal) => Err(refusal),
+    };
+    counted(alloc, "bits", bits)
 }
 
-fn reader_at(sent: usize) -> Reader {
-    let new = reader::new_reader();
-    if sent == 0 {
-        return new;
-    }
-    let mut row = [0u8; 81];
-    let t = reader::select(new, &mut row);
-    t.reader
-}
-
-fn turned(t: Turn) -> Answer {
-    let a = t.answer;
-    let n = bench_ends::declined_in(a);
-    if n > 0 {
-        return bench_talk::refused(n);
-    }
-    bench_talk::number(
-        bench_talk::word(bench_talk::none(), b"bits", 0),
-        crate::links::bits(a),
-    )
+// A reader that has sent REQA.
+pub fn used() -> Reader {
+    let mut row = [0; FRAME_ROOM];
+    reader::select(reader::new_reader(), &mut row).reader
 }

@@ -1,68 +1,47 @@
-// The answers.
-use bench_talk::Answer;
+// What an exchange came to, as text.
+use bench_lines::Refused;
+use bench_text::Hex;
 use block::Told;
 use exchange::Outcome;
-
-// The words of the answers, by their numbers in the list of said.
-const OPEN: usize = 0;
-
-const QUIET: usize = 1;
-
-const MESSAGE: usize = 2;
-
-const GRANTED: usize = 3;
-
-const DESELECTED: usize = 4;
-
-const ROUNDS: usize = 5;
-
-const MESSAGES: usize = 6;
-
-const LAST: usize = 7;
-
-const DOWN: usize = 8;
-
-const UP: usize = 9;
-
-fn said(a: Answer, k: usize) -> Answer {
-    bench_talk::word(
-        a,
-        b"open quiet message granted deselected rounds messages last down up",
-        k,
-    )
-}
-
-// `open SIZE`, the card's frame size.
-pub fn opened(size: usize) -> Answer {
-    numbered(bench_talk::none(), OPEN, size)
-}
+use std::fmt;
 
 // `TOLD rounds R messages M last L down CRC up CRC`, with both whole buffers.
-pub fn exchanged(o: Outcome, down: &[u8], up: &[u8]) -> Answer {
-    let t = o.told;
-    let a = numbered(told(t), ROUNDS, o.rounds);
-    let b = numbered(a, MESSAGES, o.messages);
-    let c = numbered(b, LAST, o.last);
-    summed(summed(c, DOWN, down), UP, up)
+#[derive(Clone, Copy)]
+pub struct Exchanged<'a> {
+    pub outcome: Outcome,
+    pub down: &'a [u8],
+    pub up: &'a [u8],
 }
 
-fn told(t: Told) -> Answer {
-    let none = bench_talk::none();
-    match t {
-        Told::Quiet => said(none, QUIET),
-        Told::Message(n) => numbered(none, MESSAGE, n),
-        Told::Granted => said(none, GRANTED),
-        Told::Deselected => said(none, DESELECTED),
-        Told::Refused(e) => bench_lines::refused(e),
+impl fmt::Display for Exchanged<'_> {
+    fn fmt<W: fmt::Write>(&self, f: &mut fmt::Formatter<W>) -> fmt::Result {
+        let Outcome {
+            told,
+            rounds,
+            messages,
+            last,
+            ..
+        } = self.outcome;
+        let told = Said(told);
+        write!(f, "{told} rounds {rounds} messages {messages} last {last}")?;
+        let down = crc::crc_bytes(self.down);
+        let up = crc::crc_bytes(self.up);
+        write!(f, " down {} up {}", Hex(&down), Hex(&up))
     }
 }
 
-// A word and a number, behind what stands there.
-fn numbered(a: Answer, k: usize, n: usize) -> Answer {
-    bench_talk::number(said(a, k), n)
-}
+// What the reader's host was told last.
+#[derive(Clone, Copy)]
+struct Said(Told);
 
-// A word and the CRC_A of bytes, low byte first.
-fn summed(a: Answer, k: usize, bytes: &[u8]) -> Answer {
-    bench_talk::hex(said(a, k), &crc::crc_bytes(bytes))
+impl fmt::Display for Said {
+    fn fmt<W: fmt::Write>(&self, f: &mut fmt::Formatter<W>) -> fmt::Result {
+        match self.0 {
+            Told::Quiet => f.write_str("quiet"),
+            Told::Message(n) => write!(f, "message {n}"),
+            Told::Granted => f.write_str("granted"),
+            Told::Deselected => f.write_str("deselected"),
+            Told::Refused(refusal) => write!(f, "{}", Refused(refusal)),
+        }
+    }
 }

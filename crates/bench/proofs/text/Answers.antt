@@ -1,27 +1,13 @@
 -- `bench::text` meets its contract. Assumes nothing.
-use Prim.Native.Nat.{◌-◌}
-use mathlib.Core.Path.{sym}
-use native.Mathlib.Omega.{arith}
-use lib.ListN.{length}
-use lib.Seq.{length-take-le}
-use borrow.Author.Tests.{eq-eqb, ne_eqb}
 use borrow.Author.Rules.{rules}
-use Rattle.bench.specs.WordLaws.{return_none}
-use Rattle.bench.specs.Words.{without_return}
+use Rattle.bench.specs.WordLaws.{return_none, return_cut, return_kept}
 use Rattle.bench.proofs.text.Goals as goal
 
-pub returns-then-line-eq0 : goal.returns-then-line-eq0
-unfolding without_return
-returns-then-line-eq0 c = return_none _ c.if-line-eq0.true
+pub returns-in_default : goal.returns-in_default
+returns-in_default c = return_none _ (search rules)
 
-pub slice_bounds-result-end : goal.slice_bounds-result-end
-slice_bounds-result-end c = let l = c.args.line.now in
-    sym (length-take-le (length l - 1) l (omega arith))
+pub returns-then-last-eq13 : goal.returns-then-last-eq13
+returns-then-last-eq13 c = return_cut _ _ _ c.in-Some.ensures.cases.0 c.if-last-eq13.true
 
-pub returns-then-line-n-eq13 : goal.returns-then-line-n-eq13
-unfolding without_return
-returns-then-line-n-eq13 c = rw (eq-eqb _ _ c.if-line-n-eq13.true)
-
-pub returns : goal.returns
-unfolding without_return
-returns c = rw (ne_eqb _ _ c.if-line-n-eq13.false)
+pub returns-else-last-eq13 : goal.returns-else-last-eq13
+returns-else-last-eq13 c = return_kept _ _ _ c.in-Some.ensures.cases.0 c.if-last-eq13.false

@@ -2,7 +2,6 @@
 use mathlib.Core.Path.{sym}
 use native.Mathlib.Omega.{arith}
 use lib.Seq.{length-take-le}
-use borrow.Author.Rules.{rules}
 use Rattle.bench_text.specs.TextLaws.{wrote_past, wrote_least}
 use Rattle.bench_text.proofs.put.Goals as goal
 

@@ -1,10 +1,8 @@
-use Prim.Native.Nat.{◌≤◌, ◌-◌}
-use mathlib.Core.Path.{◌≡◌, refl, ◌∙◌}
+use mathlib.Core.Path.{refl, ◌∙◌}
 use native.Mathlib.Omega.{arith}
-use lib.ListN.{length, take}
+use lib.ListN.{take}
 use lib.Seq.{take_all}
-use borrow.Author.Rules.{rules}
-use Rattle.bench_text.specs.Text.{Wrote, bits_text}
+use Rattle.bench_text.specs.Text.{bits_text}
 use Rattle.bench_text.specs.TextLaws.{wrote_nil, wrote_more, bits_next}
 use Rattle.bench_text.proofs.put_bits.Goals as goal
 

@@ -1,12 +1,8 @@
 -- `bench_text::put_bits` meets its contract. The loop's invariant: the first i bits are written. Assumes nothing.
 use Prim.Native.Nat.{◌≤◌, ◌-◌}
-use mathlib.Core.Path.{◌≡◌, refl, ◌∙◌}
-use native.Mathlib.Omega.{arith}
+use mathlib.Core.Path.{◌≡◌}
 use lib.ListN.{length, take}
-use lib.Seq.{take_all}
-use borrow.Author.Rules.{rules}
 use Rattle.bench_text.specs.Text.{Wrote, bits_text}
-use Rattle.bench_text.specs.TextLaws.{wrote_nil, wrote_more, bits_next}
 use Rattle.bench_text.proofs.put_bits.Given as goal
 
 abbrev pub invariant-loop-i : goal.invariant-loop-i

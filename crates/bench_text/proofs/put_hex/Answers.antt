@@ -1,10 +1,8 @@
-use Prim.Native.Nat.{◌≤◌, ◌-◌}
-use mathlib.Core.Path.{◌≡◌, refl, ◌∙◌}
+use mathlib.Core.Path.{refl, ◌∙◌}
 use native.Mathlib.Omega.{arith}
-use lib.ListN.{length, take}
+use lib.ListN.{take}
 use lib.Seq.{take_all}
-use borrow.Author.Rules.{rules}
-use Rattle.bench_text.specs.Text.{Wrote, hex_digits}
+use Rattle.bench_text.specs.Text.{hex_digits}
 use Rattle.bench_text.specs.TextLaws.{wrote_nil, wrote_more, hex_next, hex_some, hex_none}
 use Rattle.bench_text.proofs.put_hex.Goals as goal
 

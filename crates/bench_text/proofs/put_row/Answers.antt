@@ -1,6 +1,5 @@
 -- `bench_text::put_row` meets its contract. Assumes nothing.
 use native.Mathlib.Omega.{arith}
-use borrow.Author.Rules.{rules}
 use Rattle.bench_text.specs.TextLaws.{row_some, row_none}
 use Rattle.bench_text.proofs.put_row.Goals as goal
 

@@ -1,30 +1,35 @@
 -- `bench_values::read_hex` meets its contract. Assumes nothing.
 use lib.ListN.{length}
-use mathlib.Core.Path.{refl, sym, ◌∙◌}
+use mathlib.Core.Path.{sym, ◌∙◌}
 use native.Mathlib.Omega.{arith}
-use borrow.Author.Tests.{lt-ltb, le-ltb, not-true, not-false}
-use borrow.Author.Rules.{rules}
+use borrow.Author.Tests.{lt-ltb, le-ltb}
 use Rattle.rows.proofs.RowLaws.{overlay_nil}
 use Rattle.bench_values.specs.Values.{hex_word}
 use Rattle.bench_values.specs.ValueLaws.{length_hex_bytes}
 use Rattle.bench_values.proofs.read_hex.Goals as goal
 
-pub returns-then-is_dash : goal.returns-then-is_dash
+pub returns-then-is_dash-clause-value : goal.returns-then-is_dash-clause-value
 unfolding hex_word
-returns-then-is_dash c = let d = sym c.is_dash.ensures ∙ c.if-is_dash.true in
-    let o = c.args.out.now in record { value = simp (d, le-ltb (length o) 0 (omega arith)); out_after = simp d (sym (overlay_nil o 0)) }
+returns-then-is_dash-clause-value c = simp (sym c.is_dash.ensures ∙ c.if-is_dash.true, le-ltb (length c.args.out.now) 0 (omega arith))
 
-pub returns-then-not-is_hex : goal.returns-then-not-is_hex
+pub returns-then-is_dash-clause-out_after : goal.returns-then-is_dash-clause-out_after
 unfolding hex_word
-returns-then-not-is_hex c = let h = sym c.is_hex.ensures ∙ c.if-not-is_hex.true in
-    let d = sym c.is_dash.ensures ∙ c.if-is_dash.false in record { value = simp (d, h); out_after = refl }
+returns-then-is_dash-clause-out_after c = simp (sym c.is_dash.ensures ∙ c.if-is_dash.true) (sym (overlay_nil c.args.out.now 0))
 
-pub returns-then-out-n : goal.returns-then-out-n
+pub returns-then-not-is_hex-clause-value : goal.returns-then-not-is_hex-clause-value
 unfolding hex_word
-returns-then-out-n c = let h = sym c.is_hex.ensures ∙ c.if-not-is_hex.false in
-    let d = sym c.is_dash.ensures ∙ c.if-is_dash.false in record { value = simp (d, h, length_hex_bytes, lt-ltb _ _ c.if-out-n.true); out_after = refl }
+returns-then-not-is_hex-clause-value c = simp (sym c.is_dash.ensures ∙ c.if-is_dash.false, sym c.is_hex.ensures ∙ c.if-not-is_hex.true)
 
-pub returns : goal.returns
+pub returns-then-out-n-clause-value : goal.returns-then-out-n-clause-value
 unfolding hex_word
-returns c = let h = sym c.is_hex.ensures ∙ c.if-not-is_hex.false in
-    let d = sym c.is_dash.ensures ∙ c.if-is_dash.false in record { value = simp (d, h, length_hex_bytes, le-ltb _ _ c.if-out-n.false); out_after = simp (d, h) c.write_hex.ensures }
+returns-then-out-n-clause-value c =
+    simp (sym c.is_dash.ensures ∙ c.if-is_dash.false, sym c.is_hex.ensures ∙ c.if-not-is_hex.false, length_hex_bytes, lt-ltb _ _ c.if-out-n.true)
+
+pub returns-else-out-n-clause-value : goal.returns-else-out-n-clause-value
+unfolding hex_word
+returns-else-out-n-clause-value c =
+    simp (sym c.is_dash.ensures ∙ c.if-is_dash.false, sym c.is_hex.ensures ∙ c.if-not-is_hex.false, length_hex_bytes, le-ltb _ _ c.if-out-n.false)
+
+pub returns-else-out-n-clause-out_after : goal.returns-else-out-n-clause-out_after
+unfolding hex_word
+returns-else-out-n-clause-out_after c = simp (sym c.is_dash.ensures ∙ c.if-is_dash.false, sym c.is_hex.ensures ∙ c.if-not-is_hex.false) c.write_hex.ensures

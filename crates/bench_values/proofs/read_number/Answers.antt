@@ -1,24 +1,31 @@
 -- `bench_values::read_number` meets its contract. Assumes nothing.
+use lib.ListN.{length}
 use mathlib.Core.Path.{sym, ◌∙◌}
-use borrow.Author.Tests.{lt-leb, le-leb, not-true, not-false}
+use native.Mathlib.Omega.{arith}
+use borrow.Author.Tests.{lt-leb, le-leb}
 use borrow.Author.Rules.{rules}
 use Rattle.bench_values.specs.Values.{number_word}
 use Rattle.bench_values.proofs.read_number.Goals as goal
 
-pub returns-then-word-lt1 : goal.returns-then-word-lt1
+pub returns-then-is_empty : goal.returns-then-is_empty
 unfolding number_word
-returns-then-word-lt1 c = simp (lt-leb _ _ c.if-word-lt1.true)
+returns-then-is_empty g c = simp (lt-leb 1 (length c.args.word.now) (search (rules, arith)))
 
-pub returns-then-word-gt5 : goal.returns-then-word-gt5
+pub returns-then-word : goal.returns-then-word
 unfolding number_word
-returns-then-word-gt5 c = simp (le-leb _ _ c.if-word-lt1.false, lt-leb _ _ c.if-word-gt5.true)
+returns-then-word g c = simp (le-leb 1 (length c.args.word.now) (search (rules, arith)), lt-leb _ _ c.if-word.true)
 
-pub returns-then-not-is_spelt : goal.returns-then-not-is_spelt
+pub returns-then-is_spelt : goal.returns-then-is_spelt
 unfolding number_word
-returns-then-not-is_spelt c = let s = sym c.is_spelt.ensures ∙ c.if-not-is_spelt.true in
-    simp (le-leb _ _ c.if-word-lt1.false, le-leb _ _ c.if-word-gt5.false, s)
+returns-then-is_spelt g c =
+    simp (
+      le-leb 1 (length c.args.word.now) (search (rules, arith)),
+      le-leb _ _ c.if-word.false,
+      sym c.is_spelt.ensures ∙ c.if-is_spelt.true,
+      c.join.ensures,
+    )
 
-pub returns : goal.returns
+pub returns-else-is_spelt : goal.returns-else-is_spelt
 unfolding number_word
-returns c = let s = sym c.is_spelt.ensures ∙ c.if-not-is_spelt.false in
-    simp (le-leb _ _ c.if-word-lt1.false, le-leb _ _ c.if-word-gt5.false, s, c.join.ensures)
+returns-else-is_spelt g c =
+    simp (le-leb 1 (length c.args.word.now) (search (rules, arith)), le-leb _ _ c.if-word.false, sym c.is_spelt.ensures ∙ c.if-is_spelt.false)

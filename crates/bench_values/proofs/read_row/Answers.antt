@@ -1,30 +1,35 @@
 -- `bench_values::read_row` meets its contract. Assumes nothing.
 use lib.ListN.{length}
-use mathlib.Core.Path.{refl, sym, ◌∙◌}
+use mathlib.Core.Path.{sym, ◌∙◌}
 use native.Mathlib.Omega.{arith}
-use borrow.Author.Tests.{lt-ltb, le-ltb, not-true, not-false}
-use borrow.Author.Rules.{rules}
+use borrow.Author.Tests.{lt-ltb, le-ltb}
 use Rattle.rows.proofs.RowLaws.{overlay_nil}
 use Rattle.bench_values.specs.Values.{row_word}
 use Rattle.bench_values.specs.ValueLaws.{length_row_bits}
 use Rattle.bench_values.proofs.read_row.Goals as goal
 
-pub returns-then-is_dash : goal.returns-then-is_dash
+pub returns-then-is_dash-clause-value : goal.returns-then-is_dash-clause-value
 unfolding row_word
-returns-then-is_dash c = let d = sym c.is_dash.ensures ∙ c.if-is_dash.true in
-    let o = c.args.out.now in record { value = simp (d, le-ltb (length o) 0 (omega arith)); out_after = simp d (sym (overlay_nil o 0)) }
+returns-then-is_dash-clause-value c = simp (sym c.is_dash.ensures ∙ c.if-is_dash.true, le-ltb (length c.args.out.now) 0 (omega arith))
 
-pub returns-then-not-is_row : goal.returns-then-not-is_row
+pub returns-then-is_dash-clause-out_after : goal.returns-then-is_dash-clause-out_after
 unfolding row_word
-returns-then-not-is_row c = let h = sym c.is_row.ensures ∙ c.if-not-is_row.true in
-    let d = sym c.is_dash.ensures ∙ c.if-is_dash.false in record { value = simp (d, h); out_after = refl }
+returns-then-is_dash-clause-out_after c = simp (sym c.is_dash.ensures ∙ c.if-is_dash.true) (sym (overlay_nil c.args.out.now 0))
 
-pub returns-then-out-n : goal.returns-then-out-n
+pub returns-then-not-is_row-clause-value : goal.returns-then-not-is_row-clause-value
 unfolding row_word
-returns-then-out-n c = let h = sym c.is_row.ensures ∙ c.if-not-is_row.false in
-    let d = sym c.is_dash.ensures ∙ c.if-is_dash.false in record { value = simp (d, h, length_row_bits, lt-ltb _ _ c.if-out-n.true); out_after = refl }
+returns-then-not-is_row-clause-value c = simp (sym c.is_dash.ensures ∙ c.if-is_dash.false, sym c.is_row.ensures ∙ c.if-not-is_row.true)
 
-pub returns : goal.returns
+pub returns-then-out-n-clause-value : goal.returns-then-out-n-clause-value
 unfolding row_word
-returns c = let h = sym c.is_row.ensures ∙ c.if-not-is_row.false in
-    let d = sym c.is_dash.ensures ∙ c.if-is_dash.false in record { value = simp (d, h, length_row_bits, le-ltb _ _ c.if-out-n.false); out_after = simp (d, h) c.write_row.ensures }
+returns-then-out-n-clause-value c =
+    simp (sym c.is_dash.ensures ∙ c.if-is_dash.false, sym c.is_row.ensures ∙ c.if-not-is_row.false, length_row_bits, lt-ltb _ _ c.if-out-n.true)
+
+pub returns-else-out-n-clause-value : goal.returns-else-out-n-clause-value
+unfolding row_word
+returns-else-out-n-clause-value c =
+    simp (sym c.is_dash.ensures ∙ c.if-is_dash.false, sym c.is_row.ensures ∙ c.if-not-is_row.false, length_row_bits, le-ltb _ _ c.if-out-n.false)
+
+pub returns-else-out-n-clause-out_after : goal.returns-else-out-n-clause-out_after
+unfolding row_word
+returns-else-out-n-clause-out_after c = simp (sym c.is_dash.ensures ∙ c.if-is_dash.false, sym c.is_row.ensures ∙ c.if-not-is_row.false) c.write_row.ensures

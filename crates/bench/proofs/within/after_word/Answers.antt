@@ -1,6 +1,5 @@
 -- `bench::within::after_word` meets its contract. Assumes nothing.
 use mathlib.Core.Path.{ap, ◌∙◌}
-use borrow.Author.Rules.{rules}
 use Rattle.bench.specs.Words.{after_run}
 use Rattle.bench.proofs.within.after_word.Goals as goal
 

@@ -1,8 +1,6 @@
-use Prim.Native.Nat.{◌≤◌, ◌-◌}
 use mathlib.Core.Path.{◌≡◌, refl, sym, ◌∙◌}
 use native.Mathlib.Omega.{arith}
-use lib.ListN.{length, drop}
-use Rattle.bench.specs.Words.{after_gap}
+use lib.ListN.{length}
 use Rattle.bench.specs.WordLaws.{gap_next, gap_here, gap_done}
 use Rattle.bench.proofs.within.skip.Goals as goal
 

@@ -1,10 +1,8 @@
 -- `bench::within::skip` meets its contract. The loop's invariant: what is left without its gap does not change. Assumes nothing.
 use Prim.Native.Nat.{◌≤◌, ◌-◌}
-use mathlib.Core.Path.{◌≡◌, refl, sym, ◌∙◌}
-use native.Mathlib.Omega.{arith}
+use mathlib.Core.Path.{◌≡◌}
 use lib.ListN.{length, drop}
 use Rattle.bench.specs.Words.{after_gap}
-use Rattle.bench.specs.WordLaws.{gap_next, gap_here, gap_done}
 use Rattle.bench.proofs.within.skip.Given as goal
 
 abbrev pub invariant-loop-i : goal.invariant-loop-i

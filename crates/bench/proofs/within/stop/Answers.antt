@@ -1,10 +1,8 @@
-use Prim.Native.Nat.{◌≤◌, ◌-◌}
 use mathlib.Core.Path.{◌≡◌, refl, sym, ◌∙◌}
-use mathlib.Core.List.{◌++◌, append-nil}
+use mathlib.Core.List.{append-nil}
 use native.Mathlib.Omega.{arith}
 use native.Mathlib.Nat.{sub_self}
-use lib.ListN.{length, take, drop}
-use Rattle.bench.specs.Words.{after_run, first_run}
+use lib.ListN.{length}
 use Rattle.bench.specs.WordLaws.{run_next, run_here, run_done, letters_next, letters_here, letters_done}
 use Rattle.bench.proofs.within.stop.Goals as goal
 

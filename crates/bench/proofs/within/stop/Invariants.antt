@@ -1,12 +1,9 @@
 -- `bench::within::stop` meets its contract. The loop's invariant: the letters so far and those that are left are the run. Assumes nothing.
 use Prim.Native.Nat.{◌≤◌, ◌-◌}
-use mathlib.Core.Path.{◌≡◌, refl, sym, ◌∙◌}
-use mathlib.Core.List.{◌++◌, append-nil}
-use native.Mathlib.Omega.{arith}
-use native.Mathlib.Nat.{sub_self}
+use mathlib.Core.Path.{◌≡◌}
+use mathlib.Core.List.{◌++◌}
 use lib.ListN.{length, take, drop}
 use Rattle.bench.specs.Words.{after_run, first_run}
-use Rattle.bench.specs.WordLaws.{run_next, run_here, run_done, letters_next, letters_here, letters_done}
 use Rattle.bench.proofs.within.stop.Given as goal
 
 abbrev pub invariant-loop-i : goal.invariant-loop-i

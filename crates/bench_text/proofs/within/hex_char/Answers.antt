@@ -1,6 +1,5 @@
 -- `bench_text::within::hex_char` meets its contract. Assumes nothing.
 use borrow.Author.Tests.{lt-ltb, le-ltb}
-use borrow.Author.Rules.{rules}
 use Rattle.bench_text.specs.Text.{hex_char}
 use Rattle.bench_text.proofs.within.hex_char.Goals as goal
 

@@ -1,7 +1,6 @@
 -- `bench_text::within::put_byte` meets its contract. Assumes nothing.
 use mathlib.Core.Path.{refl}
 use native.Mathlib.Omega.{arith}
-use borrow.Author.Rules.{rules}
 use Rattle.bench_text.proofs.within.put_byte.Goals as goal
 
 pub hex_char-requires : goal.hex_char-requires

@@ -1,7 +1,5 @@
 -- `bench_text::within::put_last_digit` meets its contract. Assumes nothing.
 use mathlib.Core.Path.{refl}
-use native.Mathlib.Omega.{arith}
-use borrow.Author.Rules.{rules}
 use Rattle.bench_text.proofs.within.put_last_digit.Goals as goal
 
 pub slice_bounds-put-end : goal.slice_bounds-put-end

@@ -1,5 +1,4 @@
 -- `bench_values::within::value_of` meets its contract. Assumes nothing.
-use borrow.Author.Rules.{rules}
 use Rattle.bench_values.proofs.within.value_of.Goals as goal
 
 pub returns-in-Hex : goal.returns-in-Hex

@@ -1,13 +1,9 @@
 -- `bench_values::within::write_hex` meets its contract. The loop's invariant: the first i bytes are written. Assumes nothing.
 use Prim.Native.Nat.{◌≤◌, ◌-◌, ◌/◌}
-use mathlib.Core.Path.{◌≡◌, refl, sym, ap, ◌∙◌}
-use native.Mathlib.Omega.{arith}
-use lib.ListN.{length, take, length-set}
-use lib.Seq.{take_all}
+use mathlib.Core.Path.{◌≡◌}
+use lib.ListN.{length, take}
 use Rattle.rows.specs.Rows.{overlay}
-use Rattle.rows.proofs.RowLaws.{overlay_nil}
 use Rattle.bench_values.specs.Values.{hex_bytes}
-use Rattle.bench_values.specs.ValueLaws.{copy_front, hex_at, length_hex_bytes}
 use Rattle.bench_values.proofs.within.write_hex.Given as goal
 
 abbrev pub invariant-loop-i : goal.invariant-loop-i
