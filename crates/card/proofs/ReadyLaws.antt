@@ -1,6 +1,6 @@
 -- The rules of Ready and Ready* by what the tests of a frame told. Assumes nothing.
-use Rattle.std.specs.Prelude.{◌≡◌, refl, ℕ, suc, ◌+◌, ◌-◌, ◌≤◌, ◌<◌, min, Bool, true, false, cond, ◌&&◌, take, drop, get_or, ltb}
-use Rattle.std.proofs.Common.{sym, ap, ◌∙◌, length-drop, take_all, add-one, arith}
+use Rattle.std.specs.Prelude.{◌≡◌, refl, ℕ, ◌+◌, ◌-◌, ◌≤◌, ◌<◌, min, Bool, true, false, cond, take, drop, get_or, ltb}
+use Rattle.std.proofs.Common.{sym, ◌∙◌, length-drop, take_all, add-one, arith}
 use mathlib.Core.List.{List, []}
 use Rattle.std.proofs.Math.ListN.{length, get_or-append}
 use borrow.Author.Tests.{ltb-true, lt-ltb, le-ltb}

@@ -1,6 +1,5 @@
 -- The rules of Idle, Halt, Active and Active* by what the tests of a frame told. Assumes nothing.
 use Rattle.std.specs.Prelude.{◌≡◌, refl, ℕ, Bool, true, false, cond, ◌&&◌, ◌||◌, List, []}
-use Rattle.std.proofs.Common.{◌∙◌}
 use Rattle.rows.specs.Rows.{same}
 use Rattle.selection.specs.Selection.{reqa, wupa, hlta, atqa, rats, ats, at_most8}
 use Rattle.card.specs.Card.{Step, fsdi, home, ready_in, active_in, ready_at, active, rules}

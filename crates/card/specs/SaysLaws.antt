@@ -1,7 +1,7 @@
 -- What a new card says in the table's numbers: 6 for a UID that is not valid or an index over 8, and only then. Assumes nothing.
-use Rattle.std.specs.Prelude.{◌≡◌, refl, ℕ, ◌≤◌, Bool, true, false, cond, not, ◌||◌, List, [], ltb, Result, Ok, Err}
-use Rattle.std.proofs.Common.{sym, ap, ◌∙◌, arith}
-use Rattle.refusal.specs.Refusal.{Said, number_of, giving, declining, decline_if, made_says}
+use Rattle.std.specs.Prelude.{◌≡◌, refl, ℕ, Bool, true, false, cond, not, ◌||◌, List, [], ltb, Result, Ok, Err}
+use Rattle.std.proofs.Common.{sym, ap, ◌∙◌}
+use Rattle.refusal.specs.Refusal.{giving, declining, decline_if, made_says}
 use Rattle.refusal.specs.declared.Refusal.{Refusal}
 use Rattle.refusal.specs.declared.Refusal.TheVariants.{Argument}
 use Rattle.uid.specs.Calls.{new_uid, valid_bytes}

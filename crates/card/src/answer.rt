@@ -9,22 +9,15 @@ use crate::{Card, CardState, Taken};
 pub fn with_state(c: Card, s: CardState) -> Card
     ensures { result ≡ with_state c s }
 {
-    let u = c.uid;
-    Card {
-        uid: u,
-        blocks: c.blocks,
-        index: c.index,
-        state: s,
-    }
+    Card { state: s, ..c }
 }
 
 // The card goes to a state and is silent.
 pub fn silent(c: Card, s: CardState) -> Taken
     ensures { result ≡ taken c (s, []) }
 {
-    let k = with_state(c, s);
     Taken {
-        card: k,
+        card: with_state(c, s),
         answer: None,
     }
 }
@@ -36,12 +29,11 @@ pub fn send(c: Card, s: CardState, row: &[u8], out: &mut [u8]) -> Taken
     ensures out_after { out.new ≡ overlay out.old 0 row.now }
 {
     rows::within::put(out, 0, row);
-    if row.len() == 0 {
+    if row.is_empty() {
         return silent(c, s);
     }
-    let k = with_state(c, s);
     Taken {
-        card: k,
+        card: with_state(c, s),
         answer: Some(row.len()),
     }
 }

@@ -3,6 +3,7 @@
 #![tactic(auto)]
 
 mod answer;
+pub mod anticollision;
 mod rats;
 mod ready;
 pub mod within;
@@ -67,13 +68,7 @@ fn powered(s: CardState) -> CardState
 {
     match s {
         CardState::Off => CardState::Idle,
-        CardState::Idle => CardState::Idle,
-        CardState::Ready(l) => CardState::Ready(l),
-        CardState::Active => CardState::Active,
-        CardState::Halt => CardState::Halt,
-        CardState::ReadyStar(l) => CardState::ReadyStar(l),
-        CardState::ActiveStar => CardState::ActiveStar,
-        CardState::Protocol(i) => CardState::Protocol(i),
+        _ => s,
     }
 }
 
@@ -81,8 +76,7 @@ fn powered(s: CardState) -> CardState
 pub fn power_on(c: Card) -> Card
     ensures { result ≡ power_on c }
 {
-    let s = c.state;
-    answer::with_state(c, powered(s))
+    answer::with_state(c, powered(c.state))
 }
 
 // Power is lost: Off from anywhere.

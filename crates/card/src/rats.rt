@@ -19,9 +19,5 @@ pub fn is_rats(row: &[u8]) -> bool
         return false;
     }
     let i = fsdi(row);
-    if i > 15 {
-        return false;
-    }
-    let rats = selection::within::rats(i as u8);
-    rows::is_same(row, &rats)
+    i <= 15 && rows::is_same(row, &selection::within::rats(i as u8))
 }

@@ -8,7 +8,7 @@ ghost use Rattle.card.specs.declared.CardState.TheVariants.{Idle, Halt};
 ghost use Rattle.card.specs.Card.{ready_in, active_in, rules};
 ghost use Rattle.card.specs.Calls.{taken, bits_in};
 
-use crate::{Card, CardState, Taken};
+use crate::{Card, CardState, Taken, answer, rats, ready, woken};
 use uid::Level;
 
 // ATQA, and Ready at level 1, or Ready* for a card that is woken from Halt.
@@ -17,10 +17,12 @@ fn send_atqa(c: Card, woken: bool, out: &mut [u8]) -> Taken
     ensures value { result ≡ taken c (ready_in woken One, atqa c.uid.size) }
     ensures out_after { out.new ≡ overlay out.old 0 (atqa c.uid.size) }
 {
-    let u = c.uid;
-    let z = u.size;
-    let row = selection::sent::atqa(z);
-    crate::answer::send(c, crate::woken::ready_in(woken, Level::One), &row, out)
+    answer::send(
+        c,
+        woken::ready_in(woken, Level::One),
+        &selection::sent::atqa(c.uid.size),
+        out,
+    )
 }
 
 fn take_idle(c: Card, row: &[u8], out: &mut [u8]) -> Taken
@@ -28,15 +30,12 @@ fn take_idle(c: Card, row: &[u8], out: &mut [u8]) -> Taken
     ensures value { result ≡ taken c (rules c Idle row.now) }
     ensures out_after { out.new ≡ overlay out.old 0 (rules c Idle row.now).1 }
 {
-    let reqa = selection::sent::reqa();
-    if rows::is_same(row, &reqa) {
+    if rows::is_same(row, &selection::sent::reqa())
+        || rows::is_same(row, &selection::sent::wupa())
+    {
         return send_atqa(c, false, out);
     }
-    let wupa = selection::sent::wupa();
-    if rows::is_same(row, &wupa) {
-        return send_atqa(c, false, out);
-    }
-    crate::answer::silent(c, CardState::Idle)
+    answer::silent(c, CardState::Idle)
 }
 
 fn take_halt(c: Card, row: &[u8], out: &mut [u8]) -> Taken
@@ -44,11 +43,10 @@ fn take_halt(c: Card, row: &[u8], out: &mut [u8]) -> Taken
     ensures value { result ≡ taken c (rules c Halt row.now) }
     ensures out_after { out.new ≡ overlay out.old 0 (rules c Halt row.now).1 }
 {
-    let wupa = selection::sent::wupa();
-    if rows::is_same(row, &wupa) {
+    if rows::is_same(row, &selection::sent::wupa()) {
         return send_atqa(c, true, out);
     }
-    crate::answer::silent(c, CardState::Halt)
+    answer::silent(c, CardState::Halt)
 }
 
 // A card in Active, or woken in Active*.
@@ -57,21 +55,20 @@ fn take_active(c: Card, woken: bool, row: &[u8], out: &mut [u8]) -> Taken
     ensures value { result ≡ taken c (rules c (active_in woken) row.now) }
     ensures out_after { out.new ≡ overlay out.old 0 (rules c (active_in woken) row.now).1 }
 {
-    let hlta = selection::sent::hlta();
-    if rows::is_same(row, &hlta) {
-        return crate::answer::silent(c, CardState::Halt);
+    if rows::is_same(row, &selection::sent::hlta()) {
+        return answer::silent(c, CardState::Halt);
     }
-    if !c.blocks {
-        return crate::answer::silent(c, crate::woken::home(woken));
-    }
-    if crate::rats::is_rats(row) {
-        let fsdi = crate::rats::fsdi(row);
-        let theirs = selection::numbers::at_most_8(fsdi as u8);
+    if c.blocks && rats::is_rats(row) {
+        let theirs = selection::numbers::at_most_8(rats::fsdi(row) as u8);
         let ours = selection::numbers::at_most_8(c.index);
-        let ats = selection::within::ats(ours);
-        return crate::answer::send(c, CardState::Protocol(theirs), &ats, out);
+        return answer::send(
+            c,
+            CardState::Protocol(theirs),
+            &selection::within::ats(ours),
+            out,
+        );
     }
-    crate::answer::silent(c, crate::woken::home(woken))
+    answer::silent(c, woken::home(woken))
 }
 
 // A frame, by the card's state.
@@ -80,16 +77,14 @@ pub fn take_rules(c: Card, row: &[u8], out: &mut [u8]) -> Taken
     ensures value { result ≡ taken c (rules c c.state row.now) }
     ensures out_after { out.new ≡ overlay out.old 0 (rules c c.state row.now).1 }
 {
-    let s = c.state;
-    match s {
-        CardState::Off => crate::answer::silent(c, CardState::Off),
+    match c.state {
+        CardState::Off | CardState::Protocol(_) => answer::silent(c, c.state),
         CardState::Idle => take_idle(c, row, out),
-        CardState::Ready(l) => crate::ready::take_ready(c, false, l, row, out),
+        CardState::Ready(l) => ready::take_ready(c, false, l, row, out),
         CardState::Active => take_active(c, false, row, out),
         CardState::Halt => take_halt(c, row, out),
-        CardState::ReadyStar(l) => crate::ready::take_ready(c, true, l, row, out),
+        CardState::ReadyStar(l) => ready::take_ready(c, true, l, row, out),
         CardState::ActiveStar => take_active(c, true, row, out),
-        CardState::Protocol(i) => crate::answer::silent(c, CardState::Protocol(i)),
     }
 }
 
@@ -97,8 +92,5 @@ pub fn take_rules(c: Card, row: &[u8], out: &mut [u8]) -> Taken
 pub fn bits_in(a: Option<usize>) -> usize
     ensures { result ≡ bits_in a }
 {
-    match a {
-        Some(n) => n,
-        None => 0,
-    }
+    a.unwrap_or(0)
 }

@@ -1,6 +1,5 @@
 -- `card::rats::fsdi` meets its contract: an element is a byte, so the sums fit. Assumes nothing.
 use native.Mathlib.Omega.{arith}
-use borrow.Author.Rules.{rules}
 use Rattle.card.specs.RatsLaws.{fsdi_read}
 use Rattle.card.proofs.rats.fsdi.Goals as goal
 

@@ -24,10 +24,10 @@ returns-then-is_matching c = let a = c.args in
 
 pub returns-then-is_same : goal.returns-then-is_same
 returns-then-is_same c = let a = c.args in
-    let s = told a.row.now c.is_same.ensures c.select-select.ensures c.if-is_same.true in
+    let s = told a.row.now c.is_same.ensures c.select.ensures c.if-is_same.true in
     let e = ready_step a.c a.woken a.l a.five a.row.now false true c.is_matching.ensures c.if-is_matching.false s in let both = handed a.c a.out.now e (c.send_sak.ensures.value, c.send_sak.ensures.out_after) in record { value = both.0; out_after = both.1 }
 
 pub returns : goal.returns
 returns c = let a = c.args in
-    let s = told a.row.now c.is_same.ensures c.select-select.ensures c.if-is_same.false in
+    let s = told a.row.now c.is_same.ensures c.select.ensures c.if-is_same.false in
     let e = ready_step a.c a.woken a.l a.five a.row.now false false c.is_matching.ensures c.if-is_matching.false s in let both = unmoved a.c a.out.now (ap (λ s. (s, [])) c.home.ensures ∙ e) c.silent.ensures in record { value = both.0; out_after = both.1 }

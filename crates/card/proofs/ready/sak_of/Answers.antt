@@ -1,6 +1,5 @@
 -- `card::ready::sak_of` meets its contract: the definition has the same tests. Assumes nothing.
 use mathlib.Core.Path.{sym, ◌∙◌}
-use borrow.Author.Rules.{rules}
 use Rattle.card.specs.Card.{sak}
 use Rattle.card.proofs.ready.sak_of.Goals as goal
 
@@ -12,6 +11,6 @@ pub returns-then-c : goal.returns-then-c
 unfolding sak
 returns-then-c c = rw (sym c.remains.ensures ∙ c.if-remains.false, c.if-c.true)
 
-pub returns : goal.returns
+pub returns-else-c : goal.returns-else-c
 unfolding sak
-returns c = rw (sym c.remains.ensures ∙ c.if-remains.false, c.if-c.false)
+returns-else-c c = rw (sym c.remains.ensures ∙ c.if-remains.false, c.if-c.false)

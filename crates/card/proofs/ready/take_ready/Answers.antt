@@ -2,8 +2,7 @@
 use mathlib.Core.Path.{ap, ◌∙◌}
 use mathlib.Core.List.{[]}
 use native.Mathlib.Omega.{arith}
-use borrow.Author.Rules.{rules}
-use Rattle.card.proofs.ReadyLaws.{place_most, level_step, level_none}
+use Rattle.card.proofs.ReadyLaws.{level_step, level_none}
 use Rattle.card.specs.TakenLaws.{handed, unmoved}
 use Rattle.card.proofs.ready.take_ready.Goals as goal
 
@@ -12,14 +11,8 @@ returns-then-i-level_count c = let a = c.args in
     let p = c.place-i in
     let n = c.level_count in let both = unmoved a.c a.out.now (ap (λ s. (s, [])) c.home.ensures ∙ level_none a.c a.woken a.l a.row.now p.result n.result p.ensures n.ensures (omega arith)) c.silent.ensures in record { value = both.0; out_after = both.1 }
 
-pub offset_bounds-three-i : goal.offset_bounds-three-i
-offset_bounds-three-i c = omega (arith, c.place-i.ensures, place_most c.args.l)
-
-pub bounds-three-i : goal.bounds-three-i
-bounds-three-i c = omega (arith, c.place-i.ensures, place_most c.args.l)
-
 pub returns : goal.returns
 returns c = let a = c.args in
     let p = c.place-i in
     let n = c.level_count in
-    let ls = c.levels-three in let both = handed a.c a.out.now (level_step a.c a.woken a.l a.row.now p.result n.result p.ensures n.ensures ls.result ls.ensures (omega arith)) (c.ready_at.ensures.value, c.ready_at.ensures.out_after) in record { value = both.0; out_after = both.1 }
+    let ls = c.levels in let both = handed a.c a.out.now (level_step a.c a.woken a.l a.row.now p.result n.result p.ensures n.ensures ls.result ls.ensures (omega arith)) (c.ready_at.ensures.value, c.ready_at.ensures.out_after) in record { value = both.0; out_after = both.1 }

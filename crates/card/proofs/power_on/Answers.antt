@@ -1,8 +1,0 @@
--- `card::power_on` meets its contract, by that of `powered`. Assumes nothing.
-use mathlib.Core.Path.{ap, ◌∙◌}
-use borrow.Author.Rules.{rules}
-use Rattle.card.specs.Card.{with_state}
-use Rattle.card.proofs.power_on.Goals as goal
-
-pub returns : goal.returns
-returns c = c.with_state.ensures ∙ ap (with_state c.args.c) c.powered.ensures
