@@ -1,5 +1,5 @@
 -- Laws of two rows sent together, the one written over the front of the other: what the loop in crate field's `join` does. Assumes nothing.
-use Rattle.std.specs.Prelude.{◌≡◌, refl, ℕ, zero, suc, ◌+◌, ◌≤◌, ◌<◌, Bool, true, false, cond, List, [], ◌∷◌, ◌++◌, length, take, drop, get_or, set, ltb}
+use Rattle.std.specs.Prelude.{◌≡◌, refl, ℕ, zero, suc, ◌+◌, ◌≤◌, ◌<◌, max, Bool, true, false, cond, List, [], ◌∷◌, ◌++◌, length, take, drop, get_or, set, ltb}
 use Rattle.std.proofs.Common.{sym, ap, ◌∙◌, not-suc-le-zero, zero-add, take-append-drop, get_or-take, drop-cons, length-take-le, lt-ltb, le-ltb, ltb-true, arith}
 use Rattle.std.proofs.Math.Seq.{take-length}
 use Rattle.std.proofs.lemmas.List.{get_or_at}
@@ -10,31 +10,18 @@ use Rattle.field.specs.Merge.{meet, join}
 
 -- ---- how long they are together
 
-pub length_join_most : (a s : List ℕ) → length s ≤ length a → length (join a s) ≡ length a
+pub length_join : (a s : List ℕ) → length (join a s) ≡ max (length s) (length a)
 unfolding join
-length_join_most [] [] h = refl
-length_join_most [] (y ∷ s) h = absurd (not-suc-le-zero h)
-length_join_most (x ∷ a) [] h = refl
-length_join_most (x ∷ a) (y ∷ s) h = ap suc (length_join_most a s (omega arith))
-
-pub length_join_more : (a s : List ℕ) → length a ≤ length s → length (join a s) ≡ length s
-unfolding join
-length_join_more [] s h = refl
-length_join_more (x ∷ a) [] h = absurd (not-suc-le-zero h)
-length_join_more (x ∷ a) (y ∷ s) h = ap suc (length_join_more a s (omega arith))
+length_join [] s = omega arith
+length_join (x ∷ a) [] = omega arith
+length_join (x ∷ a) (y ∷ s) = omega (arith, length_join a s)
 
 -- no shorter than either
 length_join_least : (a s : List ℕ) → length a ≤ length (join a s)
-unfolding join
-length_join_least [] s = omega arith
-length_join_least (x ∷ a) [] = omega arith
-length_join_least (x ∷ a) (y ∷ s) = omega (arith, length_join_least a s)
+length_join_least a s = omega (arith, length_join a s)
 
 pub length_join_other : (a s : List ℕ) → length s ≤ length (join a s)
-unfolding join
-length_join_other [] s = omega arith
-length_join_other (x ∷ a) [] = omega arith
-length_join_other (x ∷ a) (y ∷ s) = omega (arith, length_join_other a s)
+length_join_other a s = omega (arith, length_join a s)
 
 -- ---- a turn of the loop
 

@@ -1,7 +1,7 @@
 -- Laws of the loop in which the cards of a field take a frame, the last first. Assumes nothing.
 use Rattle.std.specs.Prelude.{◌≡◌, length, take, drop, get_or, set}
 use Rattle.std.proofs.Math.Path.{refl, ap}
-use Rattle.std.proofs.Common.{sym, ◌∙◌, not-suc-le-zero, length-append, take-append-drop, drop_of_length-le, drop-cons, get_or-take, drop-drop, arith}
+use Rattle.std.proofs.Common.{sym, ◌∙◌, not-suc-le-zero, take-append-drop, drop_of_length-le, drop-cons, get_or-take, drop-drop, arith}
 use Prim.Native.Nat.{ℕ, zero, suc, ◌+◌, ◌-◌, ◌≤◌, ◌<◌}
 use mathlib.Core.List.{List, [], ◌∷◌, ◌++◌, map}
 use Rattle.std.proofs.Math.ListN.{length-take}

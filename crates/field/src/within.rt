@@ -1,5 +1,5 @@
 // One frame taken by every card of a field. Called by our own crates only, which lend the room: firmware sweeps a field.
-ghost use Rattle.std.specs.Prelude.{◌≡◌, cond, ◌≤◌, length, take};
+ghost use Rattle.std.specs.Prelude.{◌≡◌, ◌≤◌, length, take};
 ghost use Rattle.limits.specs.Limits.{most_cards};
 ghost use Rattle.rows.specs.Rows.{overlay};
 ghost use Rattle.card.specs.Card.{takes, answers};
@@ -28,20 +28,7 @@ pub struct Together {
 fn meet(x: u8, y: u8) -> u8
     ensures { result ≡ meet x y }
 {
-    if x == y {
-        return x;
-    }
-    2
-}
-
-// What is heard of a bit x, at a place where others send y, or none.
-fn beside(x: u8, y: u8, others: bool) -> u8
-    ensures { result ≡ cond others (meet x y) x }
-{
-    if others {
-        return meet(x, y);
-    }
-    x
+    if x == y { x } else { 2 }
 }
 
 // An answer sent together with the first bits of a row: what is heard then stands at the front of the row. The result is its number of bits.
@@ -50,13 +37,10 @@ pub fn join(row: &mut [u8], bits: usize, answer: &[u8]) -> usize
     ensures value { result ≡ length (join answer.now (take bits row.old)) }
     ensures row_after { row.new ≡ overlay row.old 0 (join answer.now (take bits row.old)) }
 {
-    for i in 0..answer.len() {
-        row[i] = beside(answer[i], row[i], i < bits);
+    for (i, &x) in answer.iter().enumerate() {
+        row[i] = if i < bits { meet(x, row[i]) } else { x };
     }
-    if answer.len() < bits {
-        return bits;
-    }
-    answer.len()
+    bits.max(answer.len())
 }
 
 // One card takes the frame, and its answer joins the bits that are heard so far.
@@ -67,11 +51,11 @@ pub fn take_one(c: Card, frame: &[u8], heard: &mut [u8], bits: usize) -> One
 {
     let mut row = [0u8; 45];
     let t = card::within::take_rules(c, frame, &mut row);
-    let a = t.answer;
-    let n = card::within::bits_in(a);
-    let m = join(heard, bits, &row[..n]);
-    let k = t.card;
-    One { card: k, bits: m }
+    let sent = card::within::bits_in(t.answer);
+    One {
+        card: t.card,
+        bits: join(heard, bits, &row[..sent]),
+    }
 }
 
 // Each of the first n cards takes the frame. The row in which all answers are heard grows from the last card to the first.
@@ -81,18 +65,11 @@ pub fn take_all(start: [Card; MOST_CARDS], n: usize, frame: &[u8], heard: &mut [
     ensures heard_after { heard.new ≡ overlay heard.old 0 (heard_from frame.now (take n start)) }
 {
     let mut cards = start;
-    let mut bits: usize = 0;
-    let mut i = n;
-    while 0 < i {
-        i -= 1;
-        let c = cards[i];
-        let o = take_one(c, frame, heard, bits);
-        let k = o.card;
-        cards[i] = k;
-        bits = o.bits;
+    let mut bits = 0;
+    for i in (0..n).rev() {
+        let one = take_one(cards[i], frame, heard, bits);
+        cards[i] = one.card;
+        bits = one.bits;
     }
-    Together {
-        cards: cards,
-        bits: bits,
-    }
+    Together { cards, bits }
 }

@@ -1,14 +1,9 @@
 -- `field::within::join` meets its contract. The loop's invariant: the first i bits of both rows together stand at the row's front. Assumes nothing.
 use Prim.Native.Nat.{◌≤◌, ◌-◌}
-use mathlib.Core.Path.{◌≡◌, sym, ◌∙◌}
-use native.Mathlib.Omega.{arith}
-use borrow.Author.Rules.{rules}
-use lib.ListN.{length, take, length-set}
-use lib.Seq.{length-take-le}
+use mathlib.Core.Path.{◌≡◌}
+use lib.ListN.{length, take}
 use Rattle.rows.specs.Rows.{overlay}
-use Rattle.rows.proofs.RowLaws.{overlay_nil}
 use Rattle.field.specs.Merge.{join}
-use Rattle.field.specs.JoinLaws.{length_join_most, length_join_more, join_turn, join_done}
 use Rattle.field.proofs.within.join.Given as goal
 
 abbrev pub invariant-loop-i : goal.invariant-loop-i

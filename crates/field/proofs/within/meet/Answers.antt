@@ -7,6 +7,6 @@ pub returns-then-x-y : goal.returns-then-x-y
 unfolding meet
 returns-then-x-y c = simp (eq-eqb _ _ c.if-x-y.true)
 
-pub returns : goal.returns
+pub returns-else-x-y : goal.returns-else-x-y
 unfolding meet
-returns c = simp (ne_eqb _ _ c.if-x-y.false)
+returns-else-x-y c = simp (ne_eqb _ _ c.if-x-y.false)

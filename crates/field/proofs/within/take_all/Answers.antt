@@ -1,10 +1,8 @@
-use Prim.Native.Nat.{◌≤◌}
 use mathlib.Core.Path.{◌≡◌, refl, sym, ap, ap₂, ◌∙◌}
 use native.Mathlib.Omega.{arith}
 use borrow.Author.Rules.{rules}
 use lib.ListN.{length, length-set}
-use Rattle.limits.specs.Limits.{most_cards}
-use Rattle.field.specs.TakeLaws.{Under, under_turn, from_none, from_done, heard_none, front_fits}
+use Rattle.field.specs.TakeLaws.{under_turn, from_none, from_done, heard_none, front_fits}
 use Rattle.rows.proofs.RowLaws.{overlay_nil}
 use Rattle.field.proofs.within.take_all.Goals as goal
 
@@ -21,8 +19,8 @@ loop-i-init c = let a = c.args in (
   },
 )
 
-pub take_one-o-requires : goal.take_one-o-requires
-take_one-o-requires c = let l = c.loop-i in
+pub take_one-one-requires : goal.take_one-one-requires
+take_one-one-requires c = let l = c.loop-i in
     let a = c.args in
     let u = l.invariant.4 in
     (omega (arith, l.invariant.3, u.count, front_fits a.heard.now _ _ (sym (ap length u.row) ∙ l.invariant.3)), omega (arith, l.invariant.3))
@@ -30,7 +28,7 @@ take_one-o-requires c = let l = c.loop-i in
 pub loop-i-preserved : goal.loop-i-preserved
 loop-i-preserved c = let l = c.loop-i in
     let a = c.args in
-    let t = c.take_one-o in (
+    let t = c.take_one-one in (
       omega arith,
       simp length-set (omega arith),
       omega arith,

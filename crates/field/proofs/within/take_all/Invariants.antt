@@ -1,12 +1,9 @@
 -- `field::within::take_all` meets its contract. The loop's invariant: the cards from i on have taken the frame, and what is heard of them stands at the row's front. Assumes nothing.
 use Prim.Native.Nat.{◌≤◌}
-use mathlib.Core.Path.{◌≡◌, refl, sym, ap, ap₂, ◌∙◌}
-use native.Mathlib.Omega.{arith}
-use borrow.Author.Rules.{rules}
-use lib.ListN.{length, length-set}
+use mathlib.Core.Path.{◌≡◌}
+use lib.ListN.{length}
 use Rattle.limits.specs.Limits.{most_cards}
-use Rattle.field.specs.TakeLaws.{Under, under_turn, from_none, from_done, heard_none, front_fits}
-use Rattle.rows.proofs.RowLaws.{overlay_nil}
+use Rattle.field.specs.TakeLaws.{Under}
 use Rattle.field.proofs.within.take_all.Given as goal
 
 abbrev pub invariant-loop-i : goal.invariant-loop-i

@@ -10,7 +10,7 @@ use Rattle.field.proofs.within.take_one.Goals as goal
 
 pub slice_bounds-row-end : goal.slice_bounds-row-end
 slice_bounds-row-end c = let t = c.take_rules-t in
-    let b = c.bits_in-n in
+    let b = c.bits_in-sent in
     let a = c.args in
     let s : Step = rules a.c a.c.state a.frame.now in
     let k : Answered s b.result t.new.out = answered a.c s t.result b.result _ t.new.out t.ensures.value b.ensures t.ensures.out_after t.auto.out in
@@ -18,25 +18,17 @@ slice_bounds-row-end c = let t = c.take_rules-t in
 
 pub slice_bounds-join-end : goal.slice_bounds-join-end
 slice_bounds-join-end c = let t = c.take_rules-t in
-    let b = c.bits_in-n in
+    let b = c.bits_in-sent in
     let a = c.args in
     let s : Step = rules a.c a.c.state a.frame.now in
     let k : Answered s b.result t.new.out = answered a.c s t.result b.result _ t.new.out t.ensures.value b.ensures t.ensures.out_after t.auto.out in
     rw length-take (omega (arith, k.fits, t.auto.out))
 
-pub join-m-requires : goal.join-m-requires
-join-m-requires c = let t = c.take_rules-t in
-    let b = c.bits_in-n in
-    let a = c.args in
-    let s : Step = rules a.c a.c.state a.frame.now in
-    let k : Answered s b.result t.new.out = answered a.c s t.result b.result _ t.new.out t.ensures.value b.ensures t.ensures.out_after t.auto.out in
-    (search rules, rw length-take (omega (arith, k.fits, t.auto.out)))
-
 pub returns : goal.returns
 unfolding takes answers
 returns c = let t = c.take_rules-t in
-    let b = c.bits_in-n in
-    let j = c.join-m in
+    let b = c.bits_in-sent in
+    let j = c.join in
     let a = c.args in
     let s : Step = rules a.c a.c.state a.frame.now in
     let k : Answered s b.result t.new.out = answered a.c s t.result b.result _ t.new.out t.ensures.value b.ensures t.ensures.out_after t.auto.out in record { value = ap₂ (λ x m. record { card = x; bits = m }) (ap (λ x. x.card) t.ensures.value) (j.ensures.value ∙ ap (λ r. length (join r (take a.bits a.heard.now))) k.bits); heard_after = j.ensures.row_after ∙ ap (λ r. overlay a.heard.now 0 (join r (take a.bits a.heard.now))) k.bits }
