@@ -1,8 +1,8 @@
 -- T-09, the judge's rounding: "the nearest n*128 + 84 after a 1, or n*128 + 20 after a 0, with n at least 9, ties to the smaller n"; "early below zero
 -- and late above it". d is the delay, `off_by` how far it is from due. Both ends of what can be answered are stated. Assumes nothing.
-use Rattle.std.specs.Prelude.{◌≡◌, ℕ, suc, ◌+◌, ◌-◌, ◌*◌, ◌/◌, ◌<◌, ◌≤◌, Bool, true, false, ℤ, pos, negsuc, ◌-ℤ◌, ◌≤ℤ◌, unsigned_abs}
+use Rattle.std.specs.Prelude.{◌≡◌, ℕ, suc, ◌+◌, ◌-◌, ◌<◌, ◌≤◌, Bool, true, false, pos, negsuc, ◌-ℤ◌, ◌≤ℤ◌, unsigned_abs}
 use Rattle.std.proofs.Math.Path.{refl, sym, ap}
-use Rattle.std.proofs.Common.{◌∙◌, arith, le→leb, ltb-true, ltb-false}
+use Rattle.std.proofs.Common.{◌∙◌, arith}
 use Rattle.delay.specs.declared.Kind.{Kind}
 use Rattle.delay.specs.declared.Kind.TheVariants.{Reqa, Wupa, Anticollision, Select, Other}
 use Rattle.delay.specs.Delay.{grid, point, nearest, fixed, due}

@@ -1,5 +1,5 @@
 -- What the code of the judge finds in a row is what `Kind` says of it. Assumes nothing.
-use Rattle.std.specs.Prelude.{◌≡◌, ℕ, ◌+◌, ◌-◌, ◌%◌, ◌<◌, ◌≤◌, Bool, true, false, cond, ◌&&◌, List, [], ◌∷◌, length, take, drop, ◌==◌, ◌≢◌, nat_lt, slice_index}
+use Rattle.std.specs.Prelude.{◌≡◌, ℕ, ◌-◌, ◌%◌, ◌<◌, ◌≤◌, Bool, true, false, cond, ◌&&◌, List, [], ◌∷◌, length, take, drop, ◌==◌, ◌≢◌, nat_lt, slice_index}
 use Rattle.std.proofs.Math.Path.{refl}
 use Rattle.std.proofs.Common.{sym, ap, ◌∙◌, true≢false, arith, length-drop, drop_of_length-le, drop-drop, take_all, eq-eqb, ne_eqb}
 use Rattle.rows.specs.Rows.{clean, same, Bits}
@@ -12,7 +12,6 @@ use Rattle.uid.specs.declared.Level.{Level}
 use Rattle.uid.specs.declared.Level.TheVariants.{One, Two, Three}
 use Rattle.selection.specs.Selection.{sel, nvb, cut, anticollision, select}
 use Rattle.card.specs.Card.{bits_sent, matching}
-use Rattle.delay.specs.declared.Kind.{Kind}
 use Rattle.delay.specs.declared.Kind.TheVariants.{Anticollision, Select, Other}
 use Rattle.delay.specs.Kind.{bytes_in, five_of, is_anticollision, is_select, level_kind, after_one}
 

@@ -1,13 +1,13 @@
 -- T-09: the judge takes each frame that a reader sends in a selection for what it is, and takes no other row for one of them. Assumes nothing.
-use Rattle.std.specs.Prelude.{◌≡◌, ℕ, zero, suc, ◌+◌, ◌-◌, ◌*◌, ◌/◌, ◌<◌, ◌≤◌, Bool, true, false, cond, ◌&&◌, ◌||◌, List, [], ◌∷◌, ◌++◌, length, take, drop, nat_lt}
+use Rattle.std.specs.Prelude.{◌≡◌, ℕ, zero, suc, ◌+◌, ◌-◌, ◌<◌, ◌≤◌, Bool, true, false, cond, ◌||◌, List, [], ◌∷◌, ◌++◌, length, take, drop, nat_lt}
 use Rattle.std.proofs.Math.Path.{refl, ap}
-use Rattle.std.proofs.Common.{sym, ap₂, ◌∙◌, take-append-drop, drop_at, take_at}
+use Rattle.std.proofs.Common.{sym, ◌∙◌, take-append-drop, drop_at}
 use mathlib.Core.List.{append_assoc}
 use native.Mathlib.Omega.{arith}
 use Rattle.std.proofs.Math.ListN.{length-take, drop_of_length-le}
 use Rattle.std.proofs.Math.Seq.{take-append-le, take-append-add}
 use borrow.Author.Tests.{ltb-true, ltb-false, lt-ltb, le-ltb}
-use Rattle.rows.specs.Rows.{same, Bits, Bytes}
+use Rattle.rows.specs.Rows.{same, Bytes}
 use Rattle.rows.specs.ListLaws.{both, same_eq, same_sound, same_length, all_take_law}
 use Rattle.parity.specs.Bits.{bits_of, unbits, odd}
 use Rattle.parity.specs.BitLaws.{length_bits, unbits_bits}

@@ -10,7 +10,7 @@ ghost use Rattle.delay.specs.Calls.{judged_says, judge_says, number_of};
 mod frames;
 
 // The frame that the card answered. Each of the first four has one due delay.
-#[derive(Clone, Copy)]
+#[derive(Clone, Copy, Debug, PartialEq, Eq)]
 pub enum Kind {
     Reqa,
     Wupa,
@@ -19,14 +19,9 @@ pub enum Kind {
     Other,
 }
 
-// How far the answer was from due; or why that cannot be told.
-#[derive(Clone, Copy)]
-pub enum Judged {
-    // carrier periods, "early below zero and late above it"
-    Off(i64),
-    // 14: a delay of 2^31 carrier periods or more, taken modulo 2^32
-    TooLong,
-}
+// 14: why it cannot be told how far an answer was from due. The delay, taken modulo 2^32, was 2^31 carrier periods or more.
+#[derive(Clone, Copy, Debug, PartialEq, Eq)]
+pub struct TooLong;
 
 // Where the points at which an answer may begin stand within each 128 carrier periods: by the last data bit sent.
 fn grid(one: bool) -> u32
@@ -42,9 +37,10 @@ fn nearest(one: bool, delay: u32) -> u32
 {
     let g = grid(one);
     if delay < 1152 + g {
-        return 1152 + g;
+        1152 + g
+    } else {
+        (delay - g + 63) / 128 * 128 + g
     }
-    (delay - g + 63) / 128 * 128 + g
 }
 
 // "1236 carrier periods if the last data bit sent was 1, else 1172".
@@ -60,10 +56,7 @@ fn due(kind: Kind, one: bool, delay: u32) -> u32
     ensures { result ≡ due kind one delay }
 {
     match kind {
-        Kind::Reqa => fixed(one),
-        Kind::Wupa => fixed(one),
-        Kind::Anticollision => fixed(one),
-        Kind::Select => fixed(one),
+        Kind::Reqa | Kind::Wupa | Kind::Anticollision | Kind::Select => fixed(one),
         Kind::Other => nearest(one, delay),
     }
 }
@@ -76,32 +69,30 @@ fn difference(delay: u32, due: u32) -> i64
 }
 
 // Judges an answer that began at tick `heard` to a frame of this kind whose last pause ended at tick `sent`; `one`: its last data bit was a 1.
-pub fn judge(kind: Kind, one: bool, sent: u32, heard: u32) -> Judged
+// The result is in carrier periods, "early below zero and late above it".
+pub fn judge(kind: Kind, one: bool, sent: u32, heard: u32) -> Result<i64, TooLong>
     ensures { judged_says result ≡ judge_says kind one sent heard }
 {
     let delay = std::num::wrapping_sub_u32(heard, sent);
     if 2147483648 <= delay {
-        return Judged::TooLong;
+        return Err(TooLong);
     }
-    let at = due(kind, one, delay);
-    Judged::Off(difference(delay, at))
+    Ok(difference(delay, due(kind, one, delay)))
 }
 
 // .. to the reader's frame `row`, one byte for each air bit. Its kind and its last data bit are found in the row.
-pub fn judge_row(row: &[u8], sent: u32, heard: u32) -> Judged
+pub fn judge_row(row: &[u8], sent: u32, heard: u32) -> Result<i64, TooLong>
     ensures { judged_says result ≡ judge_says (kind_of row.now) (after_one row.now) sent heard }
 {
-    let kind = frames::kind_of(row);
-    let one = frames::after_one(row);
-    judge(kind, one, sent, heard)
+    judge(frames::kind_of(row), frames::after_one(row), sent, heard)
 }
 
 // The number of a refusal; 0 where there is none.
-pub fn number(j: Judged) -> u8
+pub fn number(j: Result<i64, TooLong>) -> u8
     ensures { result ≡ number_of j }
 {
     match j {
-        Judged::Off(_) => 0,
-        Judged::TooLong => 14,
+        Ok(_) => 0,
+        Err(TooLong) => 14,
     }
 }

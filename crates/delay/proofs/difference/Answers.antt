@@ -1,5 +1,5 @@
 -- `delay::difference` meets its contract. Assumes nothing.
-use Rattle.std.proofs.Common.{arith, rules}
+use Rattle.std.proofs.Common.{arith}
 use Rattle.delay.specs.CallLaws.{difference_fits, difference_is}
 use Rattle.delay.proofs.difference.Goals as goal
 

@@ -1,16 +1,22 @@
 -- `delay::frames::is_anticollision` meets its contract: the levels one after the other. Assumes nothing.
-use Rattle.std.proofs.Common.{sym, ◌∙◌, rules}
+use Rattle.std.proofs.Common.{sym, ◌∙◌, true≢false}
 use Rattle.delay.specs.Kind.{is_anticollision}
 use Rattle.delay.proofs.frames.is_anticollision.Goals as goal
-
-pub returns-then-is_matching : goal.returns-then-is_matching
-unfolding is_anticollision
-returns-then-is_matching c = rw (sym c.is_matching.ensures ∙ c.if-is_matching.true)
+use Rattle.delay.proofs.frames.is_anticollision.Goals.{then-is_matching, else-is_matching}
 
 pub returns-then-is_matching-2 : goal.returns-then-is_matching-2
 unfolding is_anticollision
-returns-then-is_matching-2 c = rw (sym c.is_matching.ensures ∙ c.if-is_matching.false, sym c.is_matching-2.ensures ∙ c.if-is_matching-2.true)
+returns-then-is_matching-2 c = elim c.if-is_matching.branch [
+  | then-is_matching w ↦ rw (sym c.is_matching.ensures ∙ w.if-is_matching.true) (w.value-is ∙ w.if-is_matching.true)
+  | else-is_matching w ↦ rw (sym c.is_matching.ensures ∙ w.if-is_matching.false, sym w.is_matching-else-is_matching.ensures ∙ sym w.value-is ∙ c.if-is_matching-2.true) c.if-is_matching-2.true
+]
 
-pub returns : goal.returns
+pub returns-else-is_matching-2 : goal.returns-else-is_matching-2
 unfolding is_anticollision
-returns c = rw (sym c.is_matching.ensures ∙ c.if-is_matching.false, sym c.is_matching-2.ensures ∙ c.if-is_matching-2.false, c.is_matching-3.ensures)
+returns-else-is_matching-2 c = elim c.if-is_matching.branch [
+  | then-is_matching w ↦ absurd (true≢false (sym (w.value-is ∙ w.if-is_matching.true) ∙ c.if-is_matching-2.false))
+  | else-is_matching w ↦ rw (
+    sym c.is_matching.ensures ∙ w.if-is_matching.false,
+    sym w.is_matching-else-is_matching.ensures ∙ sym w.value-is ∙ c.if-is_matching-2.false,
+  ) c.is_matching-else-is_matching-2.ensures
+]

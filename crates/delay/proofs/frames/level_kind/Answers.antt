@@ -1,5 +1,5 @@
 -- `delay::frames::level_kind` meets its contract. Assumes nothing.
-use Rattle.std.proofs.Common.{sym, refl, ◌∙◌, rules}
+use Rattle.std.proofs.Common.{sym, refl, ◌∙◌}
 use Rattle.delay.specs.KindLaws.{level_kind_law}
 use Rattle.delay.proofs.frames.level_kind.Goals as goal
 
@@ -9,5 +9,5 @@ returns-then-is_anticollision c = sym (level_kind_law _ _ c.five_of-five.ensures
 pub returns-then-is_select : goal.returns-then-is_select
 returns-then-is_select c = sym (level_kind_law _ _ c.five_of-five.ensures (sym c.is_anticollision.ensures ∙ c.if-is_anticollision.false) (sym c.is_select.ensures ∙ c.if-is_select.true))
 
-pub returns : goal.returns
-returns c = sym (level_kind_law _ _ c.five_of-five.ensures (sym c.is_anticollision.ensures ∙ c.if-is_anticollision.false) (sym c.is_select.ensures ∙ c.if-is_select.false))
+pub returns-else-is_select : goal.returns-else-is_select
+returns-else-is_select c = sym (level_kind_law _ _ c.five_of-five.ensures (sym c.is_anticollision.ensures ∙ c.if-is_anticollision.false) (sym c.is_select.ensures ∙ c.if-is_select.false))
