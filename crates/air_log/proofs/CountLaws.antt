@@ -4,7 +4,7 @@ use Rattle.std.proofs.Math.Path.{refl, ap}
 use Rattle.std.proofs.Common.{sym, ◌∙◌, length-append, drop-drop, drop_at, le-leb}
 use Prim.Native.Nat.{ℕ, zero, suc, ◌+◌, ◌*◌, ◌≤◌, ◌<◌}
 use native.Mathlib.Omega.{arith}
-use mathlib.Core.List.{List, [], ◌∷◌, ◌++◌, append-nil, append_assoc}
+use mathlib.Core.List.{List, [], ◌∷◌, ◌++◌, append_assoc}
 use Rattle.std.proofs.Math.ListN.{length}
 use Rattle.rows.specs.Rows.{All, Bits, clean}
 use Rattle.air_log.specs.Log.{Exchange, tick_bytes, sent_record, heard_record, exchange_bytes, log_bytes}
@@ -12,7 +12,6 @@ use Rattle.air_log.specs.Calls.{most_bits, tick_size, row_size}
 use Rattle.air_log.specs.Reading.{behind, record_at, sent_from, sent_in}
 use Rattle.air_log.proofs.RecordLaws.{length_sent, length_heard_silent, length_heard_clean, length_heard_collided}
 use Rattle.air_log.proofs.ReadBackLaws.{sent_back, silence_back, clean_back, collided_back}
-use Rattle.air_log.specs.declared.Record.TheVariants.{Sent, Clean, Collided, Silence, End}
 
 -- an exchange whose records can be read: its frame is bits, and both rows have a number of bits that a header holds
 pub record Loggable (e : Exchange) : Type 0 where

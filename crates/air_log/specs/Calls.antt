@@ -1,6 +1,10 @@
 -- The calls that write records: what of a row each of a record's rows shows, and how much room a record takes.
 use Rattle.std.specs.Prelude.{ℕ, ◌+◌, ◌/◌, Bool, true, false, cond, List, ltb}
 use Rattle.air_log.specs.Log.{plain, marks}
+use Rattle.air_log.specs.declared.Kind.{Kind}
+use Rattle.air_log.specs.declared.Kind.TheVariants.{Sent, Clean, Collided, Silence}
+use Rattle.air_log.specs.declared.within.Part.{Part}
+use Rattle.air_log.specs.declared.within.Part.TheVariants.{Bits, Marks}
 
 -- "13 bits giving the number of air bits": a longer row has no record
 abbrev pub most_bits : ℕ
@@ -22,3 +26,15 @@ shown_bit false x = cond (ltb 1 x) 0 x
 abbrev pub shown : Bool → List ℕ → List ℕ
 shown true r = marks r
 shown false r = plain r
+
+-- which of the two a part of a record is
+abbrev pub is_marks : Part → Bool
+is_marks Marks = true
+is_marks Bits = false
+
+-- the number of a kind of record, in its header
+abbrev pub kind_number : Kind → ℕ
+kind_number Sent = 0
+kind_number Clean = 1
+kind_number Collided = 2
+kind_number Silence = 3

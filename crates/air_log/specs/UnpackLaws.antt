@@ -3,7 +3,9 @@ use Rattle.std.specs.Prelude.{◌≡◌, refl, ℕ, zero, suc, ◌+◌, ◌-◌,
 use Rattle.std.proofs.Common.{sym, ap, ◌∙◌, add-one, arith, length-append, length-drop, drop-cons, get_or-append-add, get_or-drop, ltb-true, ltb-false, eq-eqb, ne_eqb}
 use Rattle.std.proofs.Math.ListN.{get_or-append, get_or-eq_default}
 use Rattle.air_log.specs.Reading.{top_bits, unpacked, zeros, clash, apart, rows_size}
-use Rattle.air_log.specs.Calls.{row_size}
+use Rattle.air_log.specs.Calls.{row_size, kind_number}
+use Rattle.air_log.specs.declared.Kind.{Kind}
+use Rattle.air_log.specs.declared.Kind.TheVariants.{Sent, Clean, Collided, Silence}
 
 pub length_top : (n b : ℕ) → length (top_bits n b) ≡ n
 unfolding top_bits
@@ -105,3 +107,11 @@ size_most k n = go (eqb k 2)
     go : (t : Bool) → cond t (2 * row_size n) (row_size n) ≤ 2 * row_size n
     go true = omega arith
     go false = omega arith
+
+-- ---- the kind of a record
+
+pub not_silence : (k : Kind) → (k ≡ Silence → ⊥) → eqb (kind_number k) 3 ≡ false
+not_silence Sent h = refl
+not_silence Clean h = refl
+not_silence Collided h = refl
+not_silence Silence h = absurd (h refl)

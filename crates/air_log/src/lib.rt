@@ -4,7 +4,7 @@
 ghost use Rattle.std.specs.Prelude.{◌≡◌, get_or};
 ghost use Rattle.uid.specs.Uid.{uid_bytes};
 ghost use Rattle.air_log.specs.Log.{entry_bytes};
-ghost use Rattle.air_log.specs.Calls.{tick_size};
+ghost use Rattle.air_log.specs.Calls.{tick_size, kind_number};
 ghost use Rattle.air_log.specs.Reading.{bits_from, record_at, tick_at};
 
 use uid::Uid;
@@ -19,13 +19,33 @@ mod reading;
 pub fn entry(u: Uid) -> [u8; 11]
     ensures { result ≡ entry_bytes (uid_bytes u) }
 {
-    let size = u.size;
-    let b = u.bytes;
-    let n = uid::byte_count(size);
+    let n = uid::byte_count(u.size);
     let mut bytes = [0u8; 11];
     bytes[0] = n as u8;
-    rows::within::put(&mut bytes, 1, &b[..n]);
+    rows::within::put(&mut bytes, 1, &u.bytes[..n]);
     bytes
+}
+
+// "2 bits kind": a reader frame, a clean answer, an answer with a collision, silence.
+#[derive(Clone, Copy, Debug, PartialEq, Eq)]
+pub enum Kind {
+    Sent,
+    Clean,
+    Collided,
+    Silence,
+}
+
+impl From<Kind> for u8 {
+    ghost from_gives = { λ kind number. number ≡ kind_number kind };
+
+    fn from(kind: Kind) -> u8 {
+        match kind {
+            Kind::Sent => 0,
+            Kind::Clean => 1,
+            Kind::Collided => 2,
+            Kind::Silence => 3,
+        }
+    }
 }
 
 // What stands at a place of a log: a whole record, with the place of its rows, their number of bits and the place behind it.
@@ -62,15 +82,11 @@ pub enum Record {
 pub fn bit_at(log: &[u8], start: usize, i: usize) -> u8
     ensures { result ≡ get_or (bits_from log.now start) i 0 }
 {
-    if log.len() <= start {
-        return 0;
-    }
     let k = i / 8;
-    if log.len() <= start + k {
+    if log.len() <= start || log.len() - start <= k {
         return 0;
     }
-    let bits = reading::top_bits(log[start + k]);
-    bits[i % 8]
+    reading::top_bits(log[start + k])[i % 8]
 }
 
 // The record at a place of a log whose records have stamps of so many bytes: 4 for a tick, 0 in a log without ticks (T-12).
@@ -81,10 +97,7 @@ pub fn record_in(log: &[u8], stamp: usize, at: usize) -> Record
         return Record::End;
     }
     let left = log.len() - at;
-    if left < 2 {
-        return Record::Cut;
-    }
-    if left - 2 < stamp {
+    if left < 2 || left - 2 < stamp {
         return Record::Cut;
     }
     reading::after_header(log, at + 2 + stamp, log[at], log[at + 1])
@@ -105,9 +118,10 @@ pub fn tick_at(log: &[u8], at: usize) -> u32
     if log.len() <= at {
         return 0;
     }
-    let a = reading::byte_at(log, at + 2) as u32;
-    let b = reading::byte_at(log, at + 3) as u32;
-    let c = reading::byte_at(log, at + 4) as u32;
-    let d = reading::byte_at(log, at + 5) as u32;
-    16777216 * a + 65536 * b + 256 * c + d
+    u32::from_be_bytes([
+        reading::byte_at(log, at + 2),
+        reading::byte_at(log, at + 3),
+        reading::byte_at(log, at + 4),
+        reading::byte_at(log, at + 5),
+    ])
 }

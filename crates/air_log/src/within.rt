@@ -3,84 +3,80 @@ ghost use Rattle.std.specs.Prelude.{◌≡◌, true, ◌++◌, ◌+◌, ◌<◌,
 ghost use Rattle.rows.specs.Rows.{overlay, clean};
 ghost use Rattle.uid.specs.Uid.{uid_bytes};
 ghost use Rattle.air_log.specs.Log.{from_top, pack, header, tick_bytes, plain, sent_record, heard_record, entry_bytes};
-ghost use Rattle.air_log.specs.Calls.{most_bits, row_size, shown_bit, shown};
+ghost use Rattle.air_log.specs.Calls.{most_bits, row_size, kind_number, is_marks, shown_bit, shown};
 
+use super::Kind;
 use uid::Uid;
 
+// What a row of a record shows: the bits, or where they collided.
+#[derive(Clone, Copy, Debug, PartialEq, Eq)]
+pub enum Part {
+    Bits,
+    Marks,
+}
+
 // What a record shows of a bit: in the row of marks a 1 if it collided; else the bit, 0 if it collided.
-pub fn shown_bit(x: u8, mark: bool) -> u8
-    ensures { result ≡ shown_bit mark x }
+pub fn shown_bit(x: u8, part: Part) -> u8
+    ensures { result ≡ shown_bit (is_marks part) x }
 {
-    if mark {
-        if x > 1 {
-            return 1;
-        }
-        return 0;
+    match part {
+        Part::Marks => { if x > 1 { 1 } else { 0 } }
+        Part::Bits => { if x > 1 { 0 } else { x } }
     }
-    if x > 1 {
-        return 0;
-    }
-    x
 }
 
 // What a record shows at a place of a row; 0 past its end, which fills the last byte.
-pub fn bit(row: &[u8], i: usize, mark: bool) -> u8
-    ensures { result ≡ get_or (shown mark row.now) i 0 }
+pub fn bit(row: &[u8], i: usize, part: Part) -> u8
+    ensures { result ≡ get_or (shown (is_marks part) row.now) i 0 }
 {
-    if i < row.len() {
-        return shown_bit(row[i], mark);
+    match row.get(i) {
+        Some(&x) => shown_bit(x, part),
+        None => 0,
     }
-    0
 }
 
 // Eight bits of a row from a place on, the first in the top bit.
-pub fn packed_byte(row: &[u8], from: usize, mark: bool) -> u8
+pub fn packed_byte(row: &[u8], from: usize, part: Part) -> u8
     requires { from < length row.now }
-    ensures { result ≡ from_top 8 (take 8 (drop from (shown mark row.now))) }
+    ensures { result ≡ from_top 8 (take 8 (drop from (shown (is_marks part) row.now))) }
 {
     let mut v: u8 = 0;
     for j in 0..8usize {
-        v = 2 * v + bit(row, from + j, mark);
+        v = 2 * v + bit(row, from + j, part);
     }
     v
 }
 
 // A row, zero-filled to a byte, written into out from index at on.
-pub fn put_packed(out: &mut [u8], at: usize, row: &[u8], mark: bool)
+pub fn put_packed(out: &mut [u8], at: usize, row: &[u8], part: Part)
     requires { at + row_size (length row.now) ≤ length out.old }
-    ensures { out.new ≡ overlay out.old at (pack (shown mark row.now)) }
+    ensures { out.new ≡ overlay out.old at (pack (shown (is_marks part) row.now)) }
 {
     let n = (row.len() + 7) / 8;
     // Kept: lent memory is filled by its index. Once the borrow of `iter_mut` is over, a proof has its length alone.
     for k in 0..n {
-        out[at + k] = packed_byte(row, 8 * k, mark);
+        out[at + k] = packed_byte(row, 8 * k, part);
     }
 }
 
 // A record's first six bytes: its header and its tick, of which the low 32 bits count.
-pub fn head_of(kind: u8, n: usize, tick: usize) -> [u8; 6]
-    requires { (kind < 4) × (n ≤ most_bits) }
-    ensures { result ≡ header kind n ++ tick_bytes tick }
+pub fn head_of(kind: Kind, n: usize, tick: usize) -> [u8; 6]
+    requires { n ≤ most_bits }
+    ensures { result ≡ header (kind_number kind) n ++ tick_bytes tick }
 {
-    [
-        64 * kind + (n / 256) as u8,
-        (n % 256) as u8,
-        (tick / 16777216 % 256) as u8,
-        (tick / 65536 % 256) as u8,
-        (tick / 256 % 256) as u8,
-        (tick % 256) as u8,
-    ]
+    let [high, low] = (n as u16).to_be_bytes();
+    let [a, b, c, d] = ((tick % 4294967296) as u32).to_be_bytes();
+    [64 * u8::from(kind) + high, low, a, b, c, d]
 }
 
 // A header, its tick and one row. The answer is their number of bytes.
-pub fn put_row(out: &mut [u8], at: usize, tick: usize, kind: u8, row: &[u8]) -> usize
-    requires { (kind < 4) × (length row.now ≤ most_bits) × (at + (6 + row_size (length row.now)) ≤ length out.old) }
+pub fn put_row(out: &mut [u8], at: usize, tick: usize, kind: Kind, row: &[u8]) -> usize
+    requires { (length row.now ≤ most_bits) × (at + (6 + row_size (length row.now)) ≤ length out.old) }
     ensures value { result ≡ 6 + row_size (length row.now) }
-    ensures out_after { out.new ≡ overlay out.old at (header kind (length row.now) ++ (tick_bytes tick ++ pack (plain row.now))) }
+    ensures out_after { out.new ≡ overlay out.old at (header (kind_number kind) (length row.now) ++ (tick_bytes tick ++ pack (plain row.now))) }
 {
-    let head = head_of(kind, row.len(), tick);
-    rows::within::put(out, at, &head);
-    put_packed(out, at + 6, row, false);
+    rows::within::put(out, at, &head_of(kind, row.len(), tick));
+    put_packed(out, at + 6, row, Part::Bits);
     6 + (row.len() + 7) / 8
 }
 
@@ -90,7 +86,7 @@ pub fn put_sent(out: &mut [u8], at: usize, tick: usize, frame: &[u8]) -> usize
     ensures value { result ≡ length (sent_record (tick_bytes tick) frame.now) }
     ensures out_after { out.new ≡ overlay out.old at (sent_record (tick_bytes tick) frame.now) }
 {
-    put_row(out, at, tick, 0, frame)
+    put_row(out, at, tick, Kind::Sent, frame)
 }
 
 // The record of what was heard after a reader frame. The answer is its number of bytes.
@@ -99,14 +95,14 @@ pub fn put_heard(out: &mut [u8], at: usize, tick: usize, row: &[u8]) -> usize
     ensures value { result ≡ length (heard_record (tick_bytes tick) row.now) }
     ensures out_after { out.new ≡ overlay out.old at (heard_record (tick_bytes tick) row.now) }
 {
-    if row.len() == 0 {
-        return put_row(out, at, tick, 3, row);
+    if row.is_empty() {
+        return put_row(out, at, tick, Kind::Silence, row);
     }
     if rows::is_clean(row) {
-        return put_row(out, at, tick, 1, row);
+        return put_row(out, at, tick, Kind::Clean, row);
     }
-    let first = put_row(out, at, tick, 2, row);
-    put_packed(out, at + first, row, true);
+    let first = put_row(out, at, tick, Kind::Collided, row);
+    put_packed(out, at + first, row, Part::Marks);
     first + (row.len() + 7) / 8
 }
 
@@ -115,6 +111,5 @@ pub fn put_entry(list: &mut [u8], at: usize, u: Uid)
     requires { at + 11 ≤ length list.old }
     ensures { list.new ≡ overlay list.old at (entry_bytes (uid_bytes u)) }
 {
-    let bytes = super::entry(u);
-    rows::within::put(list, at, &bytes);
+    rows::within::put(list, at, &super::entry(u));
 }

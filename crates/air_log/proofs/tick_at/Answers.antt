@@ -1,6 +1,4 @@
 -- `air_log::tick_at` meets its contract: four bytes, the greatest first. Assumes nothing.
-use borrow.Author.Rules.{rules}
-use mathlib.Core.Path.{sym}
 use Prim.Native.Nat.{◌+◌}
 use native.Mathlib.Omega.{arith}
 use lib.ListN.{get_or-eq_default}
@@ -20,4 +18,4 @@ returns-then-log-at c = let a = c.args in
 
 pub returns : goal.returns
 unfolding tick_at
-returns c = rw (c.byte_at-a.ensures, c.byte_at-b.ensures, c.byte_at-c.ensures, c.byte_at-d.ensures)
+returns c = omega (arith, c.from_be_bytes.ensures, c.byte_at.ensures, c.byte_at-2.ensures, c.byte_at-3.ensures, c.byte_at-4.ensures)

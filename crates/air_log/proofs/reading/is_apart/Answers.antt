@@ -1,9 +1,7 @@
-use Prim.Native.Nat.{◌≤◌, ◌-◌}
+use Prim.Native.Nat.{◌-◌}
 use mathlib.Core.Path.{◌≡◌, refl, sym, ◌∙◌}
-use borrow.Author.Rules.{rules}
 use native.Mathlib.Omega.{arith}
-use lib.ListN.{take, drop}
-use Rattle.air_log.specs.Reading.{bits_from, row_at, apart}
+use Rattle.air_log.specs.Reading.{bits_from}
 use Rattle.air_log.specs.UnpackLaws.{apart_turn, apart_done}
 use Rattle.air_log.proofs.reading.is_apart.Goals as goal
 
@@ -15,7 +13,7 @@ loop-i-init c = let a = c.args in
 pub returns-then-is_clash : goal.returns-then-is_clash
 returns-then-is_clash c = let l = c.loop-i in
     let a = c.args in
-    let e = rw (c.bit_at-x.ensures, c.bit_at-y.ensures) at c.is_clash.ensures in
+    let e = rw (c.bit_at.ensures, c.bit_at-in-loop-i.ensures) at c.is_clash.ensures in
     let t =
     apart_turn (bits_from a.log.now a.start) (bits_from a.log.now a.marks) l.i a.n c.is_clash.result
     (omega arith) (omega arith) (omega arith) e in
@@ -24,7 +22,7 @@ returns-then-is_clash c = let l = c.loop-i in
 pub loop-i-preserved : goal.loop-i-preserved
 loop-i-preserved c = let l = c.loop-i in
     let a = c.args in
-    let e = rw (c.bit_at-x.ensures, c.bit_at-y.ensures) at c.is_clash.ensures in
+    let e = rw (c.bit_at.ensures, c.bit_at-in-loop-i.ensures) at c.is_clash.ensures in
     let t =
     apart_turn (bits_from a.log.now a.start) (bits_from a.log.now a.marks) l.i a.n c.is_clash.result
     (omega arith) (omega arith) (omega arith) e in

@@ -1,11 +1,8 @@
 -- `air_log::reading::is_apart` meets its contract. The loop's invariant: what is left does not clash exactly where nothing does. Assumes nothing.
 use Prim.Native.Nat.{◌≤◌, ◌-◌}
-use mathlib.Core.Path.{◌≡◌, refl, sym, ◌∙◌}
-use borrow.Author.Rules.{rules}
-use native.Mathlib.Omega.{arith}
+use mathlib.Core.Path.{◌≡◌}
 use lib.ListN.{take, drop}
 use Rattle.air_log.specs.Reading.{bits_from, row_at, apart}
-use Rattle.air_log.specs.UnpackLaws.{apart_turn, apart_done}
 use Rattle.air_log.proofs.reading.is_apart.Given as goal
 
 abbrev pub invariant-loop-i : goal.invariant-loop-i

@@ -1,5 +1,4 @@
 -- `air_log::reading::is_good_marks` meets its contract, test by test. Assumes nothing.
-use borrow.Author.Rules.{rules}
 use mathlib.Core.Path.{sym, ◌∙◌}
 use native.Mathlib.Omega.{arith}
 use Rattle.air_log.specs.Reading.{good_marks}
@@ -34,8 +33,8 @@ returns-then-is_apart c = let a = c.args in
     let e = sym (row_all (bits_from a.log.now a.marks) a.n c.is_zero.ensures) in
     rw (e ∙ c.if-is_zero.false, ← c.is_apart.ensures, c.if-is_apart.true, c.is_zero-then-is_apart.ensures)
 
-pub returns : goal.returns
+pub returns-else-is_apart : goal.returns-else-is_apart
 unfolding good_marks
-returns c = let a = c.args in
+returns-else-is_apart c = let a = c.args in
     let e = sym (row_all (bits_from a.log.now a.marks) a.n c.is_zero.ensures) in
     rw (e ∙ c.if-is_zero.false, ← c.is_apart.ensures, c.if-is_apart.false)

@@ -1,9 +1,6 @@
-use Prim.Native.Nat.{◌≤◌, ◌-◌}
-use mathlib.Core.Path.{◌≡◌, refl, sym, ◌∙◌}
-use borrow.Author.Rules.{rules}
+use mathlib.Core.Path.{refl, sym, ◌∙◌}
 use native.Mathlib.Omega.{arith}
-use lib.ListN.{take, drop}
-use Rattle.air_log.specs.Reading.{bits_from, zeros}
+use Rattle.air_log.specs.Reading.{bits_from}
 use Rattle.air_log.specs.UnpackLaws.{zeros_found, zeros_next, zeros_done}
 use Rattle.air_log.proofs.reading.is_zero.Goals as goal
 

@@ -1,11 +1,8 @@
 -- `air_log::reading::is_zero` meets its contract. The loop's invariant: the bits left are all 0 exactly where all are. Assumes nothing.
 use Prim.Native.Nat.{◌≤◌, ◌-◌}
-use mathlib.Core.Path.{◌≡◌, refl, sym, ◌∙◌}
-use borrow.Author.Rules.{rules}
-use native.Mathlib.Omega.{arith}
+use mathlib.Core.Path.{◌≡◌}
 use lib.ListN.{take, drop}
 use Rattle.air_log.specs.Reading.{bits_from, zeros}
-use Rattle.air_log.specs.UnpackLaws.{zeros_found, zeros_next, zeros_done}
 use Rattle.air_log.proofs.reading.is_zero.Given as goal
 
 abbrev pub invariant-loop-i : goal.invariant-loop-i
