@@ -1,10 +1,10 @@
 -- Laws of the loops over halves. Assumes nothing.
 use Rattle.std.specs.Prelude.{◌≡◌, Bool, cond, drop, get_or, set, Float}
 use Rattle.std.proofs.Math.Path.{refl}
-use Rattle.std.proofs.Common.{length-drop, drop_of_length-le}
-use Prim.Native.Nat.{ℕ, suc, ◌+◌, ◌*◌, ◌≤◌, ◌<◌}
+use Rattle.std.proofs.Common.{drop_of_length-le}
+use Prim.Native.Nat.{ℕ, ◌+◌, ◌*◌, ◌≤◌, ◌<◌}
 use Rattle.std.proofs.Math.Bool.{true, false}
-use mathlib.Core.List.{List, [], ◌∷◌}
+use mathlib.Core.List.{List, [], ◌∷◌, ◌++◌}
 use Rattle.std.proofs.Math.Numerals.{add-one}
 use native.Mathlib.Omega.{arith}
 use Rattle.std.proofs.Math.ListN.{length}
@@ -50,31 +50,25 @@ module _ (level floor : Float) where
       go true e = omega arith
       go false e = omega arith
 
-  -- the halves from the i-th bit on
-  pub row_turn : (h : List Float) (i : ℕ) → 2 * i + 1 < length h
-      → row_at level floor (drop (2 * i) h)
-      ≡ cond (ending (at h (2 * i)) (at h (2 * i + 1))) [] (bit_of (at h (2 * i)) (at h (2 * i + 1)) ∷ row_at level floor (drop (2 * (i + 1)) h))
+  -- a row begins with what its first two halves say: the end, or a bit and the rest
+  row_pair : (p h : List Float) → length p ≡ 2 → {a b : Bool} → a ≡ at p 0 → b ≡ at p 1
+      → row_at level floor (p ++ h) ≡ cond (ending a b) [] (bit_of a b ∷ row_at level floor h)
   unfolding row_at
-  row_turn h i l =
-      let e : 2 * (i + 1) ≡ suc (suc (2 * i)) = omega arith in
-      let f : 2 * i < length h = omega arith in
-      let g : suc (2 * i) < length h = omega arith in
-      rw (e, add-one (2 * i), drop-cons h (2 * i) nan f, drop-cons h (suc (2 * i)) nan g)
+  row_pair [] h n p q = absurd (omega arith)
+  row_pair (x ∷ []) h n p q = absurd (omega arith)
+  row_pair (x ∷ y ∷ []) h n p q = rw (p, q)
+  row_pair (x ∷ y ∷ z ∷ r) h n p q = absurd (omega arith)
 
-  -- .. where these two halves are loaded or not: the end, or a bit and the rest
-  pub row_ends : (h : List Float) (i : ℕ) → 2 * i + 1 < length h → {a b : Bool} → a ≡ at h (2 * i) → b ≡ at h (2 * i + 1) → ending a b ≡ true
-      → row_at level floor (drop (2 * i) h) ≡ []
-  row_ends h i l p q e = rw (row_turn h i l, ← p, ← q, e)
+  pub row_ends : (p h : List Float) → length p ≡ 2 → {a b : Bool} → a ≡ at p 0 → b ≡ at p 1 → ending a b ≡ true → row_at level floor (p ++ h) ≡ []
+  row_ends p h n x y e = rw (row_pair p h n x y, e)
 
-  pub row_goes : (h : List Float) (i : ℕ) → 2 * i + 1 < length h → {a b : Bool} → a ≡ at h (2 * i) → b ≡ at h (2 * i + 1) → ending a b ≡ false
-      → row_at level floor (drop (2 * i) h) ≡ bit_of a b ∷ row_at level floor (drop (2 * (i + 1)) h)
-  row_goes h i l p q e = rw (row_turn h i l, ← p, ← q, e)
+  pub row_goes : (p h : List Float) → length p ≡ 2 → {a b : Bool} → a ≡ at p 0 → b ≡ at p 1 → ending a b ≡ false
+      → row_at level floor (p ++ h) ≡ bit_of a b ∷ row_at level floor h
+  row_goes p h n x y e = rw (row_pair p h n x y, e)
 
-  short : (h : List Float) → length h ≤ 1 → row_at level floor h ≡ []
+  -- .. a half alone is no bit
+  pub row_done : (h : List Float) → length h ≤ 1 → row_at level floor h ≡ []
   unfolding row_at
-  short [] l = refl
-  short (a ∷ []) l = refl
-  short (a ∷ b ∷ h) l = absurd (omega arith)
-
-  pub row_done : (h : List Float) (i : ℕ) → length h ≤ 2 * i + 1 → row_at level floor (drop (2 * i) h) ≡ []
-  row_done h i l = short (drop (2 * i) h) (simp length-drop (omega arith))
+  row_done [] l = refl
+  row_done (a ∷ []) l = refl
+  row_done (a ∷ b ∷ h) l = absurd (omega arith)

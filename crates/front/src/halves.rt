@@ -47,14 +47,13 @@ pub fn write(level: f32, floor: f32, halves: &[f32], places: &mut [u8]) -> usize
     ensures value { result ≡ length (row_at level floor halves.now) }
     ensures places_after { places.new ≡ overlay places.old 0 (row_at level floor halves.now) }
 {
-    let n = halves.len() / 2;
-    for i in 0..n {
-        let first = is_loaded(level, floor, halves[2 * i]);
-        let second = is_loaded(level, floor, halves[2 * i + 1]);
+    for (i, pair) in halves.chunks_exact(2).enumerate() {
+        let first = is_loaded(level, floor, pair[0]);
+        let second = is_loaded(level, floor, pair[1]);
         if is_end(first, second) {
             return i;
         }
         places[i] = bit_of(first, second);
     }
-    n
+    halves.len() / 2
 }
