@@ -4,15 +4,15 @@ ghost use Rattle.delay.specs.Kind.{kind_of, after_one};
 ghost use Rattle.delay.specs.Calls.{judged_says, judge_says};
 ghost use Rattle.lacrivosum.specs.Delays.{delay_number};
 
-use delay::Judged;
+use delay::TooLong;
 
 // The difference; or the least number of 64 bits, which no difference is.
-fn off_number(j: Judged) -> i64
+fn off_number(j: Result<i64, TooLong>) -> i64
     ensures { result ≡ delay_number (judged_says j) }
 {
     match j {
-        Judged::Off(z) => z,
-        Judged::TooLong => 0 - 9223372036854775807 - 1,
+        Ok(z) => z,
+        Err(TooLong) => i64::MIN,
     }
 }
 
@@ -22,6 +22,5 @@ fn off_number(j: Judged) -> i64
 pub extern "C" fn lac_delay(row: &[u8], sent: u32, heard: u32) -> i64
     ensures { result ≡ delay_number (judge_says (kind_of row.now) (after_one row.now) sent heard) }
 {
-    let j = delay::judge_row(row, sent, heard);
-    off_number(j)
+    off_number(delay::judge_row(row, sent, heard))
 }

@@ -7,4 +7,4 @@ use borrow.Author.Rules.{rules}
 use Rattle.lacrivosum.proofs.delays.lac_delay.Goals as goal
 
 pub returns : goal.returns
-returns c = to_z-of_z w64 c.off_number.result (search rules) ∙ c.off_number.ensures ∙ ap delay_number c.judge_row-j.ensures
+returns c = to_z-of_z w64 c.off_number.result (search rules) ∙ c.off_number.ensures ∙ ap delay_number c.judge_row.ensures

@@ -4,8 +4,8 @@ use mir.ValLaws.{to_z-of_z}
 use borrow.Author.Rules.{rules}
 use Rattle.lacrivosum.proofs.delays.off_number.Goals as goal
 
-pub returns-in-Off : goal.returns-in-Off
-returns-in-Off c = rw c.in-Off.is (to_z-of_z w64 c.in-Off.z (search rules))
+pub returns-in-Ok : goal.returns-in-Ok
+returns-in-Ok c = rw c.in-Ok.is (to_z-of_z w64 c.in-Ok.z (search rules))
 
-pub returns-in-TooLong : goal.returns-in-TooLong
-returns-in-TooLong c = rw c.in-TooLong.is
+pub returns-in-Err : goal.returns-in-Err
+returns-in-Err c = rw c.in-Err.is
