@@ -27,6 +27,7 @@ pub fn is_zero(log: &[u8], start: usize, from: usize, to: usize) -> bool
     requires { (from ≤ to) × (to ≤ length (bits_from log.now start)) }
     ensures { result ≡ zeros (take (to - from) (drop from (bits_from log.now start))) }
 {
+    // Kept: as (from..to).all(..) the proof did not close. What is known of the calls of its closure did not reach the bits.
     for i in from..to {
         if super::bit_at(log, start, i) != 0 {
             return false;
@@ -47,6 +48,7 @@ pub fn is_apart(log: &[u8], start: usize, marks: usize, n: usize) -> bool
     requires { (n ≤ length (bits_from log.now start)) × (n ≤ length (bits_from log.now marks)) }
     ensures { result ≡ apart (row_at log.now start n) (row_at log.now marks n) }
 {
+    // Kept: as in is_zero, (0..n).all(..) did not close.
     for i in 0..n {
         if is_clash(super::bit_at(log, start, i), super::bit_at(log, marks, i)) {
             return false;

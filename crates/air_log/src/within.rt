@@ -41,6 +41,7 @@ pub fn packed_byte(row: &[u8], from: usize, part: Part) -> u8
     ensures { result ≡ from_top 8 (take 8 (drop from (shown (is_marks part) row.now))) }
 {
     let mut v: u8 = 0;
+    // Kept: eight bits are taken even where the row ends before them; an iterator over the row needs a second step that fills.
     for j in 0..8usize {
         v = 2 * v + bit(row, from + j, part);
     }
