@@ -16,6 +16,12 @@ length_join [] s = omega arith
 length_join (x ∷ a) [] = omega arith
 length_join (x ∷ a) (y ∷ s) = omega (arith, length_join a s)
 
+pub length_join_most : (a s : List ℕ) → length s ≤ length a → length (join a s) ≡ length a
+length_join_most a s h = omega (arith, length_join a s)
+
+pub length_join_more : (a s : List ℕ) → length a ≤ length s → length (join a s) ≡ length s
+length_join_more a s h = omega (arith, length_join a s)
+
 -- no shorter than either
 length_join_least : (a s : List ℕ) → length a ≤ length (join a s)
 length_join_least a s = omega (arith, length_join a s)
