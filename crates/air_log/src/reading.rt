@@ -48,7 +48,7 @@ pub fn is_apart(log: &[u8], start: usize, marks: usize, n: usize) -> bool
     requires { (n ≤ length (bits_from log.now start)) × (n ≤ length (bits_from log.now marks)) }
     ensures { result ≡ apart (row_at log.now start n) (row_at log.now marks n) }
 {
-    // Kept: as in is_zero, (0..n).all(..) did not close.
+    // Kept: the form of is_zero, which did not close by `all`.
     for i in 0..n {
         if is_clash(super::bit_at(log, start, i), super::bit_at(log, marks, i)) {
             return false;
