@@ -2,7 +2,6 @@
 use bench_lines::{number_to, tick_word};
 use bench_talk::{LineError, Program};
 use bench_text::Row;
-use delay::Judged;
 use front::Profile;
 use std::alloc::{AllocError, Global};
 use std::fmt;
@@ -92,7 +91,7 @@ fn delay(alloc: Global, row: &[u8], sent: &[u8], heard: &[u8]) -> Result<String,
     let row = bench_lines::bits(alloc, row, 8192)?;
     let judged = delay::judge_row(row.as_slice(), tick_word(sent)?, tick_word(heard)?);
     Ok(match judged {
-        Judged::Off(n) => format!(in alloc; "off {n}")?,
-        Judged::TooLong => format!(in alloc; "refused {}", delay::number(judged))?,
+        Ok(n) => format!(in alloc; "off {n}")?,
+        Err(_) => format!(in alloc; "refused {}", delay::number(judged))?,
     })
 }
