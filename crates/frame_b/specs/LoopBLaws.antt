@@ -1,8 +1,8 @@
 -- Laws for the loops over the bytes of a Type B frame: one turn, and the end. Assumes nothing.
 use Rattle.std.specs.Prelude.{◌≡◌, refl, List, [], ◌∷◌, ◌++◌, ℕ, zero, suc, ◌+◌, ◌*◌, ◌≤◌, ◌<◌, length, take, drop, get_or, set}
-use Rattle.std.proofs.Common.{ap, ◌∙◌, add-one, zero-add, arith, take-suc, length-take-le, drop-drop}
+use Rattle.std.proofs.Common.{sym, ap, ◌∙◌, add-one, zero-add, arith, take-suc, length-take-le, drop-drop}
 use Rattle.rows.specs.Rows.{overlay}
-use Rattle.rows.proofs.RowLaws.{overlay_next, overlay_set}
+use Rattle.rows.proofs.RowLaws.{overlay_next, overlay_set, overlay_all}
 use Rattle.parity.specs.Bits.{bits_of, unbits}
 use Rattle.parity.specs.BitLaws.{length_bits}
 use Rattle.crc.specs.CrcOf.{with_of, crc_bytes_b}
@@ -44,3 +44,14 @@ bytes_turn d r i h =
     let e : length (bytes_of i r) ≡ i = length_bytes i r in
     rw (add-one, bytes_last i r)
     (rw (zero-add, e) at (overlay_set d 0 (bytes_of i r) (unbits (take 8 (drop (8 * i) r))) (rw (zero-add, e) h)))
+
+-- a row at the front of another, and what is left of that one
+front : (d s : List ℕ) → overlay d 0 s ≡ s ++ drop (length s) d
+unfolding overlay
+front d s = rw zero-add
+
+-- all of the part that they are written over
+pub bytes_over : (d r : List ℕ) (n : ℕ) → n ≤ length d → overlay (take n d) 0 (bytes_of n r) ++ drop n d ≡ overlay d 0 (bytes_of n r)
+bytes_over d r n h =
+    let e : length (bytes_of n r) ≡ n = length_bytes n r in
+    rw (overlay_all (take n d) (bytes_of n r) (length-take-le n d h ∙ sym e), front d (bytes_of n r), e)

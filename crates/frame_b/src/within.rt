@@ -9,9 +9,8 @@ pub fn put_bits(out: &mut [u8], at: usize, bytes: &[u8])
     requires { at + 8 * length bytes.now ≤ length out.old }
     ensures { out.new ≡ overlay out.old at (air_bits bytes.now) }
 {
-    for i in 0..bytes.len() {
-        let a = parity::bits_of(bytes[i]);
-        rows::within::put(out, at + 8 * i, &a);
+    for (i, b) in bytes.iter().enumerate() {
+        rows::within::put(out, at + 8 * i, &parity::bits_of(*b));
     }
 }
 
@@ -30,7 +29,7 @@ pub fn bytes_of(row: &[u8], n: usize, out: &mut [u8])
     requires { (8 * n ≤ length row.now) × (n ≤ length out.old) × (clean row.now ≡ true) }
     ensures { out.new ≡ overlay out.old 0 (bytes_of n row.now) }
 {
-    for i in 0..n {
-        out[i] = parity::within::byte_at(row, 8 * i);
+    for (i, byte) in out[..n].iter_mut().enumerate() {
+        *byte = parity::within::byte_at(row, 8 * i);
     }
 }

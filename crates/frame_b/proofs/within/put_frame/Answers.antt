@@ -1,7 +1,6 @@
 -- `frame_b::within::put_frame` meets its contract: the bytes' bits, and behind them those of CRC_B. Assumes nothing.
 use native.Mathlib.Omega.{arith}
 use Rattle.frame_b.specs.LoopBLaws.{bits_crc}
-use borrow.Author.Rules.{rules}
 use Rattle.frame_b.proofs.within.put_frame.Goals as goal
 
 pub returns : goal.returns
