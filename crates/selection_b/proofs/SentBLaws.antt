@@ -1,22 +1,19 @@
 -- Laws for the code that builds a row and compares with it. Assumes nothing.
-use Rattle.std.specs.Prelude.{◌≡◌, ◌≢◌, ℕ, ◌+◌, ◌-◌, ◌*◌, ◌/◌, ◌%◌, ◌≤◌, ◌<◌, Bool, ◌&&◌, ◌||◌, List, [], ◌∷◌, ◌++◌, length, take, drop, get_or, replicate, leb}
+use Rattle.std.specs.Prelude.{◌≡◌, ℕ, ◌+◌, ◌-◌, ◌*◌, ◌≤◌, List, [], ◌∷◌, ◌++◌, length, take, drop, get_or, replicate, None}
 use Rattle.std.proofs.Math.Path.{refl}
 use Rattle.std.proofs.Common.{sym, ap, ◌∙◌, true≢false, append_assoc, append-nil, length-append, length-drop, take_all, arith}
-use Rattle.std.proofs.Math.Bool.{true, false, and-false}
+use Rattle.std.proofs.Math.Bool.{false}
 use Rattle.std.proofs.lemmas.List.{length-replicate}
-use Rattle.std.proofs.Math.Dec.{eqb}
-use borrow.Author.Tests.{lt-ltb, le-ltb, le-leb, lt-leb, eq-eqb, ne_eqb}
 use Rattle.rows.specs.ListLaws.{same_ne}
 use Rattle.rows.proofs.RowLaws.{overlay_all, overlay_next}
-use Rattle.rows.specs.Rows.{overlay, clean, same}
+use Rattle.rows.specs.Rows.{overlay, clean}
 use Rattle.frame.specs.ByteLaws.{length_bytes}
 use Rattle.frame.specs.Frame.{bytes_of}
 use Rattle.frame_b.specs.FrameB.{frame_b}
 use Rattle.frame_b.specs.FrameBLaws.{length_frame, clean_frame}
 use Rattle.selection_b.specs.TypeB.{attrib}
-use Rattle.selection_b.specs.TakenB.{afi_in, param_in, is_request, wakes, slots_of, slots_in, no_request, request_read, admits, is_attrib}
+use Rattle.selection_b.specs.TakenB.{is_request, request_read, is_attrib}
 use Rattle.selection_b.proofs.TypeBLaws.{not_request}
-use Rattle.selection_b.specs.declared.RequestRead.{RequestRead}
 
 -- a frame written over a row of its length is the frame
 pub framed : (n : ℕ) (l row : List ℕ) → n ≡ 8 * (length l + 2) → row ≡ overlay (replicate n 0) 0 (frame_b l) → row ≡ frame_b l
@@ -49,31 +46,13 @@ module _ (b : ℕ) (u : List ℕ) (hu : length u ≡ 4) where
 
 -- ---- what a card reads
 
-pub no_request_law : (f : List ℕ) → is_request f ≡ false → request_read f ≡ no_request
-unfolding request_read
-no_request_law f e = rw e
-
 pub not_clean : (f : List ℕ) → clean f ≡ false → is_request f ≡ false
 not_clean f e = not_request f (λ q. true≢false (sym (clean_frame _) ∙ ap clean (sym q) ∙ e))
 
--- the tests of PARAM
-module _ (f : List ℕ) (a m : ℕ) (ea : a ≡ afi_in f) (em : m ≡ param_in f) where
-  pub high_param : 15 < m → request_read f ≡ no_request
-  unfolding request_read is_request
-  high_param h = rw (← em, le-ltb m 16 (omega arith))
-
-  pub no_code : 4 < m % 8 → request_read f ≡ no_request
-  unfolding request_read is_request
-  no_code h = rw (← em, lt-leb (m % 8) 4 h, and-false)
-
-  pub other_row : same f (frame_b (0x05 ∷ a ∷ m ∷ [])) ≡ false → request_read f ≡ no_request
-  unfolding request_read is_request
-  other_row h = rw (← ea, ← em, h, and-false)
-
-  pub request_is : m ≤ 15 → m % 8 ≤ 4 → same f (frame_b (0x05 ∷ a ∷ m ∷ [])) ≡ true
-      → ◌≡◌ {A = RequestRead} (record { is = true; wake = leb 8 m; slots = slots_of (m % 8); afi = a }) (request_read f)
-  unfolding request_read is_request wakes slots_in
-  request_is h k e = rw (← ea, ← em, lt-ltb m 16 (omega arith), le-leb (m % 8) 4 k, e)
+-- what is no request
+pub unread : (f : List ℕ) → is_request f ≡ false → None ≡ request_read f
+unfolding request_read
+unread f e = rw e
 
 -- ---- ATTRIB
 
@@ -86,29 +65,6 @@ pub parameters_are : (f q : List ℕ) → length f ≡ 88 → q ≡ overlay (rep
 parameters_are f q n e =
     let t : take (length f - 40) (drop 40 f) ≡ drop 40 f = take_all (length f - 40) (drop 40 f) (rw length-drop (omega arith)) in
     e ∙ overlay_all (replicate 4 0) _ (sym (length_bytes 4 _)) ∙ ap (bytes_of 4) t
-
--- ---- AFI
-
-module _ (a o : ℕ) where
-  pub admits_all : a ≡ 0 → true ≡ admits a o
-  unfolding admits
-  admits_all e = rw (eq-eqb a 0 e)
-
-  pub admits_own : a ≡ o → true ≡ admits a o
-  unfolding admits
-  admits_own e = rw (eq-eqb a o e) (go (eqb a 0))
-    where
-      go : (b : Bool) → true ≡ (b || true || eqb (a % 16) 0 && eqb (a / 16) (o / 16))
-      go true = refl
-      go false = refl
-
-  pub admits_other : a ≢ 0 → a ≢ o → a % 16 ≢ 0 → false ≡ admits a o
-  unfolding admits
-  admits_other e f g = rw (ne_eqb a 0 e, ne_eqb a o f, ne_eqb (a % 16) 0 g)
-
-  pub admits_family : a ≢ 0 → a ≢ o → a % 16 ≡ 0 → eqb (a / 16) (o / 16) ≡ admits a o
-  unfolding admits
-  admits_family e f g = rw (ne_eqb a 0 e, ne_eqb a o f, eq-eqb (a % 16) 0 g)
 
 -- ---- PUPI in an ATQB
 

@@ -1,13 +1,12 @@
 -- Laws for the code that reads what the reader hears: the tests, one by one. Assumes nothing.
-use Rattle.std.specs.Prelude.{◌≡◌, refl, ◌≢◌, ℕ, ◌-◌, ◌/◌, ◌%◌, true, false, List, take, get_or, replicate, Result, Ok, Err}
-use Rattle.std.proofs.Common.{sym, ap, ◌∙◌, length-take-le}
+use Rattle.std.specs.Prelude.{◌≡◌, refl, ◌≢◌, ℕ, ◌-◌, ◌/◌, ◌%◌, true, false, List, [], ◌∷◌, take, get_or, replicate, eqb, Result, Ok, Err}
+use Rattle.std.proofs.Common.{ap, ◌∙◌}
 use Rattle.std.proofs.Math.ListN.{length}
 use Rattle.std.proofs.lemmas.List.{length-replicate}
 use Rattle.std.proofs.Math.Seq.{get_or-take}
 use borrow.Author.Tests.{eq-eqb, ne_eqb}
 use native.Mathlib.Omega.{arith}
-use Rattle.rows.specs.CleanLaws.{not_nil}
-use Rattle.rows.specs.ListLaws.{is_nil_law}
+use Rattle.std.proofs.lemmas.Bool.Decides.{nat_tests}
 use Rattle.rows.proofs.RowLaws.{overlay_all}
 use Rattle.rows.specs.Rows.{overlay, is_nil, clean}
 use Rattle.crc.specs.CrcOf.{crc_good_b}
@@ -26,16 +25,18 @@ bytes_whole n f held e = e ∙ overlay_all (replicate n 0) (bytes_of n f) (rw (l
 
 -- ---- a slot
 
-nil : (h : List ℕ) → length h ≡ 0 → is_nil h ≡ true
-nil h e = rw (is_nil_law h e) (unfold is_nil in refl)
+is_nil_is : (h : List ℕ) → is_nil h ≡ eqb (length h) 0
+unfolding is_nil
+is_nil_is [] = refl
+is_nil_is (x ∷ h) = grind (arith, nat_tests)
 
-pub slot_none : (h : List ℕ) → length h ≡ 0 → nobody (Ok None) ≡ read_slot h
+pub slot_none : (h : List ℕ) → eqb (length h) 0 ≡ true → nobody (Ok None) ≡ read_slot h
 unfolding read_slot
-slot_none h e = rw (nil h e)
+slot_none h e = rw (is_nil_is h, e)
 
-module _ (h : List ℕ) (some : length h ≢ 0) where
+module _ (h : List ℕ) (some : eqb (length h) 0 ≡ false) where
   not_none : is_nil h ≡ false
-  not_none = not_nil h (omega (arith, some))
+  not_none = is_nil_is h ∙ some
 
   pub slot_length : length h ≢ 112 → nobody (Err Length) ≡ read_slot h
   unfolding read_slot
@@ -61,9 +62,9 @@ module _ (h : List ℕ) (some : length h ≢ 0) where
   unfolding read_byte read_b
   byte_clean n c = rw (not_none, eq-eqb (length h) 24 n, c)
 
-pub byte_silence : (h : List ℕ) → length h ≡ 0 → Err Silence ≡ read_byte h
+pub byte_silence : (h : List ℕ) → eqb (length h) 0 ≡ true → Err Silence ≡ read_byte h
 unfolding read_byte
-byte_silence h e = rw (nil h e)
+byte_silence h e = rw (is_nil_is h, e)
 
 -- ---- held bytes l that are those of a row
 
@@ -76,11 +77,11 @@ module _ (l m : List ℕ) (e : l ≡ m) where
   unfolding without_crc_b
   slot_forbidden n c f = rw (← e, c, get_or-take (length l - 2) l 0 0 (omega arith), ne_eqb (get_or l 0 0) 0x50 f)
 
-  pub slot_one : length l ≡ 14 → crc_good_b l ≡ true → get_or l 0 0 ≡ 0x50 → (a : List ℕ) → a ≡ overlay (replicate 12 0) 0 (take 12 l) → alone a ≡ slot_of (without_crc_b m)
+  pub slot_one : length l ≡ 14 → crc_good_b l ≡ true → get_or l 0 0 ≡ 0x50 → (a : List ℕ) → a ≡ take 12 l → alone a ≡ slot_of (without_crc_b m)
   unfolding without_crc_b
   slot_one n c f a g =
       let z : length l - 2 ≡ 12 = omega arith in
-      rw (← e, c, get_or-take (length l - 2) l 0 0 (omega arith), eq-eqb (get_or l 0 0) 0x50 f, z) (ap alone (g ∙ overlay_all (replicate 12 0) (take 12 l) (sym (length-take-le 12 l (omega arith)))))
+      rw (← e, c, get_or-take (length l - 2) l 0 0 (omega arith), eq-eqb (get_or l 0 0) 0x50 f, z) (ap alone g)
 
   pub byte_crc : crc_good_b l ≡ false → Err Crc ≡ byte_of (without_crc_b m)
   unfolding without_crc_b

@@ -34,18 +34,6 @@ unfolding param code_of slots_of
 param_is true n e = slots_cases (Param true) n e (record { small = omega arith; coded = omega arith; slots = refl; wakes = refl }) (record { small = omega arith; coded = omega arith; slots = refl; wakes = refl }) (record { small = omega arith; coded = omega arith; slots = refl; wakes = refl }) (record { small = omega arith; coded = omega arith; slots = refl; wakes = refl }) (record { small = omega arith; coded = omega arith; slots = refl; wakes = refl })
 param_is false n e = slots_cases (Param false) n e (record { small = omega arith; coded = omega arith; slots = refl; wakes = refl }) (record { small = omega arith; coded = omega arith; slots = refl; wakes = refl }) (record { small = omega arith; coded = omega arith; slots = refl; wakes = refl }) (record { small = omega arith; coded = omega arith; slots = refl; wakes = refl }) (record { small = omega arith; coded = omega arith; slots = refl; wakes = refl })
 
--- the tests, one by one
-pub slots_is : (n : ℕ) → is_slots n ≡ cond (eqb n 1) true (cond (eqb n 2) true (cond (eqb n 4) true (cond (eqb n 8) true (eqb n 16))))
-unfolding is_slots
-slots_is n = go (eqb n 1) (eqb n 2) (eqb n 4) (eqb n 8)
-  where
-    go : (a b c d : Bool) → (a || b || c || d || eqb n 16) ≡ cond a true (cond b true (cond c true (cond d true (eqb n 16))))
-    go true b c d = refl
-    go false true c d = refl
-    go false false true d = refl
-    go false false false true = refl
-    go false false false false = refl
-
 pub code_most : (n : ℕ) → code_of n ≤ 4
 unfolding code_of
 code_most n = go (eqb n 1) (eqb n 2) (eqb n 4) (eqb n 8)

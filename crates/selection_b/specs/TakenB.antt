@@ -1,11 +1,11 @@
 -- What a card makes of a row. A row is the frame that it looks like if it equals it bit for bit, so that wrong length, wrong CRC_B and
 -- collided bits need no rule of their own.
-use Rattle.std.specs.Prelude.{ℕ, ◌/◌, ◌%◌, Bool, true, false, cond, ◌&&◌, ◌||◌, List, [], ◌∷◌, drop, eqb, leb, ltb}
+use Rattle.std.specs.Prelude.{ℕ, ◌/◌, ◌%◌, Bool, cond, ◌&&◌, ◌||◌, List, [], ◌∷◌, drop, eqb, leb, ltb, Option, Some, None}
 use Rattle.rows.specs.Rows.{same}
 use Rattle.frame.specs.Frame.{bytes_of}
 use Rattle.frame_b.specs.FrameB.{frame_b, byte_at}
 use Rattle.selection_b.specs.TypeB.{marker, attrib}
-use Rattle.selection_b.specs.declared.RequestRead.{RequestRead}
+use Rattle.selection_b.specs.declared.Request.{Request}
 
 -- AFI and PARAM, if the row is a request
 abbrev pub afi_in : List ℕ → ℕ
@@ -30,12 +30,9 @@ slots_of k = cond (eqb k 0) 1 (cond (eqb k 1) 2 (cond (eqb k 2) 4 (cond (eqb k 3
 unfoldable pub slots_in : List ℕ → ℕ
 slots_in f = slots_of (param_in f % 8)
 
-abbrev pub no_request : RequestRead
-no_request = record { is = false; wake = false; slots = 0; afi = 0 }
-
--- what a card reads of it
-unfoldable pub request_read : List ℕ → RequestRead
-request_read f = cond (is_request f) (record { is = true; wake = wakes f; slots = slots_in f; afi = afi_in f }) no_request
+-- what a card reads of it, if it is one
+unfoldable pub request_read : List ℕ → Option Request
+request_read f = cond (is_request f) (Some (record { wake = wakes f; slots = slots_in f; afi = afi_in f })) None
 
 -- "admitted by the request's AFI": 00 admits all, X0 every card of family X, another value the card with that AFI
 unfoldable pub admits : ℕ → ℕ → Bool

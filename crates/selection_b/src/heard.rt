@@ -10,13 +10,12 @@ ghost use Rattle.refusal.specs.Refusal.{made_says, number_says};
 use crate::{Held, SlotRead};
 use refusal::Refusal;
 
-fn nobody(s: Result<Held, Refusal>) -> SlotRead
-    ensures { result ≡ nobody s }
+fn nobody(says: Result<Held, Refusal>) -> SlotRead
+    ensures { result ≡ nobody says }
 {
-    let atqb = [0u8; 12];
     SlotRead {
-        says: s,
-        atqb: atqb,
+        says,
+        atqb: [0; 12],
     }
 }
 
@@ -34,10 +33,10 @@ fn slot_in(row: &[u8]) -> SlotRead
         return nobody(Err(Refusal::Forbidden));
     }
     let mut atqb = [0u8; 12];
-    rows::within::put(&mut atqb, 0, &held[..12]);
+    atqb.copy_from_slice(&held[..12]);
     SlotRead {
         says: Ok(Held::One),
-        atqb: atqb,
+        atqb,
     }
 }
 
@@ -46,7 +45,7 @@ pub fn read_slot(row: &[u8]) -> SlotRead
     ensures value { result ≡ read_slot row.now }
     ensures result_value { slot_says result ≡ slot_says (read_slot row.now) }
 {
-    if row.len() == 0 {
+    if row.is_empty() {
         return nobody(Ok(Held::None));
     }
     if row.len() != 112 {
@@ -75,7 +74,7 @@ fn byte_in(row: &[u8]) -> Result<u8, Refusal>
 fn read_byte(row: &[u8]) -> Result<u8, Refusal>
     ensures { result ≡ read_byte row.now }
 {
-    if row.len() == 0 {
+    if row.is_empty() {
         return Err(Refusal::Silence);
     }
     if row.len() != 24 {
@@ -92,16 +91,11 @@ pub fn read_attrib(row: &[u8]) -> Result<u8, Refusal>
     ensures value { result ≡ read_attrib row.now }
     ensures result_value { number_says result ≡ number_says (read_attrib row.now) }
 {
-    let a = read_byte(row);
-    match a {
-        Ok(b) => {
-            if b % 16 != 0 {
-                return Err(Refusal::Forbidden);
-            }
-            Ok(b / 16)
-        }
-        Err(e) => Err(e),
+    let b = read_byte(row)?;
+    if b % 16 != 0 {
+        return Err(Refusal::Forbidden);
     }
+    Ok(b / 16)
 }
 
 // The answer to HLTB.
@@ -109,14 +103,9 @@ pub fn read_hltb(row: &[u8]) -> Result<(), Refusal>
     ensures value { result ≡ read_hltb row.now }
     ensures result_value { made_says result ≡ made_says (read_hltb row.now) }
 {
-    let a = read_byte(row);
-    match a {
-        Ok(b) => {
-            if b != 0x00 {
-                return Err(Refusal::Forbidden);
-            }
-            Ok(())
-        }
-        Err(e) => Err(e),
+    let b = read_byte(row)?;
+    if b != 0x00 {
+        return Err(Refusal::Forbidden);
     }
+    Ok(())
 }

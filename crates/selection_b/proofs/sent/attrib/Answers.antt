@@ -1,12 +1,9 @@
 -- `selection_b::sent::attrib` meets its contract: the bytes are put together, and the frame takes the whole row. Assumes nothing.
 use mathlib.Core.Path.{◌≡◌, ap, ◌∙◌}
-use mathlib.Core.List.{◌∷◌, ◌++◌}
-use lib.ListN.{length, length-append, replicate}
-use native.Mathlib.Omega.{arith}
-use Rattle.rows.specs.Rows.{overlay}
+use lib.ListN.{length}
 use Rattle.frame_b.specs.FrameB.{frame_b}
 use Rattle.selection_b.specs.TypeB.{attrib}
-use Rattle.selection_b.proofs.SentBLaws.{framed, joined_two}
+use Rattle.selection_b.proofs.SentBLaws.{joined_two}
 use borrow.Author.Rules.{rules}
 use Rattle.selection_b.proofs.sent.attrib.Goals as goal
 
@@ -15,4 +12,4 @@ unfolding attrib
 returns c = let a = c.args in
     let n : length a.pupi ≡ 4 = search rules in
     let m : length a.parameters ≡ 4 = search rules in
-    framed 88 (0x1D ∷ (a.pupi ++ a.parameters)) _ (rw length-append (omega arith)) (c.put_frame.ensures ∙ ap (λ l. overlay (replicate 88 0) 0 (frame_b l)) (joined_two 0x1D a.pupi n a.parameters m _ _ c.put.ensures c.put-2.ensures))
+    c.framed.ensures ∙ ap frame_b (joined_two 0x1D a.pupi n a.parameters m _ _ c.put.ensures c.put-2.ensures)

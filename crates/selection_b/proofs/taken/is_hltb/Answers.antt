@@ -4,4 +4,4 @@ use Rattle.rows.specs.Rows.{same}
 use Rattle.selection_b.proofs.taken.is_hltb.Goals as goal
 
 pub returns : goal.returns
-returns c = c.is_same.ensures ∙ ap (same c.args.row.now) c.hltb-due.ensures
+returns c = c.is_same.ensures ∙ ap (same c.args.row.now) c.hltb.ensures
