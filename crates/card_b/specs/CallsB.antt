@@ -4,15 +4,15 @@ use Rattle.rows.specs.Rows.{overlay}
 use Rattle.frame_b.specs.LimitsB.{answer_room_b}
 use Rattle.selection_b.specs.TakenB.{is_request, slots_in}
 use Rattle.card_b.specs.CardB.{Step, drawn, with_state, rules, answers}
-use Rattle.refusal.specs.Refusal.{Said, giving, refusal_says, decline_if, sent_says}
+use Rattle.refusal.specs.Refusal.{Said, decline_if, sent_says}
 use Rattle.refusal.specs.declared.Refusal.TheVariants.{Room, Argument}
 use Rattle.card_b.specs.declared.CardB.{CardB}
 use Rattle.card_b.specs.declared.TakenB.{TakenB}
 use Rattle.refusal.specs.declared.Refusal.{Refusal}
 
 abbrev pub answer_of : List ℕ → Result (Option ℕ) Refusal
-answer_of [] = (Ok None)
-answer_of (x ∷ r) = Sends (length (x ∷ r))
+answer_of [] = Ok None
+answer_of (x ∷ r) = Ok (Some (length (x ∷ r)))
 
 -- the bits of an answer
 abbrev pub bits_in : Result (Option ℕ) Refusal → ℕ
@@ -38,10 +38,7 @@ take_row c number f out =
     (cond (is_request f && not (drawn number (slots_in f))) out
     (overlay out 0 (answers c number f)))
 
--- ---- what an answer says, in the table's numbers: the bits that the card sends, if any
-
-
--- "A call tests .. 1, 6"
+-- what an answer says, in the table's numbers: the bits that the card sends, if any. "A call tests .. 1, 6"
 abbrev pub take_says : CardB → ℕ → List ℕ → ℕ → Said
 take_says c number f room =
     decline_if (ltb room answer_room_b) 1

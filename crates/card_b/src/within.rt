@@ -10,8 +10,9 @@ ghost use Rattle.card_b.specs.declared.StateB.TheVariants.{Requested, Declared};
 ghost use Rattle.card_b.specs.CardB.{atqb_of, drawn, heeds, requested, asked, other, rules};
 ghost use Rattle.card_b.specs.CallsB.{taken, bits_in};
 
-use refusal::Refusal;
 use crate::{CardB, StateB, TakenB};
+use refusal::Refusal;
+use selection_b::Request;
 
 // The bits of an answer.
 pub fn bits_in(a: Result<Option<usize>, Refusal>) -> usize
@@ -19,30 +20,26 @@ pub fn bits_in(a: Result<Option<usize>, Refusal>) -> usize
 {
     match a {
         Ok(Some(n)) => n,
-        Ok(None) => 0,
-        Err(_) => 0,
+        _ => 0,
     }
 }
 
 // Is a slot number 1 to n?
+#[tactic(auto, using(std::proofs::lemmas::Bool::Decides::nat_tests), unfolding(crate::specs::CardB::drawn))]
 pub fn is_drawn(number: u8, n: u8) -> bool
     ensures { result ≡ drawn number n }
 {
-    if number < 1 {
-        return false;
-    }
-    number <= n
+    1 <= number && number <= n
 }
 
 // Is the row a request, and the number not 1 to its N?
 pub fn is_undrawn(number: u8, row: &[u8]) -> bool
     ensures { result ≡ (is_request row.now && not (drawn number (slots_in row.now))) }
 {
-    let q = selection_b::taken::read_request(row);
-    if !q.is {
-        return false;
+    match selection_b::taken::read_request(row) {
+        Some(q) => !is_drawn(number, q.slots),
+        None => false,
     }
-    !is_drawn(number, q.slots)
 }
 
 // Does a state take a request?
@@ -50,12 +47,9 @@ fn heeds(s: StateB, wake: bool) -> bool
     ensures { result ≡ heeds s wake }
 {
     match s {
-        StateB::Off => false,
-        StateB::Idle => true,
-        StateB::Requested(_) => true,
-        StateB::Declared => true,
-        StateB::Active => false,
+        StateB::Idle | StateB::Requested(_) | StateB::Declared => true,
         StateB::Halt => wake,
+        _ => false,
     }
 }
 
@@ -65,91 +59,84 @@ fn send_atqb(c: CardB, out: &mut [u8]) -> TakenB
     ensures value { result ≡ taken c (Declared, frame_b (atqb_of c)) }
     ensures out_after { out.new ≡ overlay out.old 0 (frame_b (atqb_of c)) }
 {
-    let pupi = c.pupi;
-    let application = c.application;
-    let protocol = c.protocol;
-    let row = selection_b::sent::atqb(pupi, application, protocol);
+    let row = selection_b::sent::atqb(c.pupi, c.application, c.protocol);
     crate::answer::send(c, StateB::Declared, &row, out)
 }
 
 // An admitted request.
+#[tactic(auto, using(std::proofs::lemmas::Bool::Decides::nat_tests, rows::proofs::RowLaws::overlay_nil), unfolding(crate::specs::CardB::requested))]
 fn take_requested(c: CardB, number: u8, out: &mut [u8]) -> TakenB
     requires { answer_room_b ≤ length out.old }
     ensures value { result ≡ taken c (requested c number) }
     ensures out_after { out.new ≡ overlay out.old 0 (requested c number).1 }
 {
     if number == 1 {
-        return send_atqb(c, out);
+        send_atqb(c, out)
+    } else if c.markers {
+        crate::answer::silent(c, StateB::Requested(number))
+    } else {
+        crate::answer::silent(c, StateB::Idle)
     }
-    if c.markers {
-        return crate::answer::silent(c, StateB::Requested(number));
-    }
-    crate::answer::silent(c, StateB::Idle)
 }
 
-// REQB, or WUPB where wake.
-fn take_asked(c: CardB, number: u8, wake: bool, n: u8, afi: u8, out: &mut [u8]) -> TakenB
+// A request.
+#[tactic(auto, using(std::proofs::lemmas::Bool::Decides::nat_tests, rows::proofs::RowLaws::overlay_nil), unfolding(crate::specs::CardB::asked))]
+fn take_asked(c: CardB, number: u8, q: Request, out: &mut [u8]) -> TakenB
     requires { answer_room_b ≤ length out.old }
-    ensures value { result ≡ taken c (asked c c.state number wake n afi) }
-    ensures out_after { out.new ≡ overlay out.old 0 (asked c c.state number wake n afi).1 }
+    ensures value { result ≡ taken c (asked c c.state number q.wake q.slots q.afi) }
+    ensures out_after { out.new ≡ overlay out.old 0 (asked c c.state number q.wake q.slots q.afi).1 }
 {
-    let s = c.state;
-    if !heeds(s, wake) {
-        return crate::answer::silent(c, s);
+    if heeds(c.state, q.wake)
+        && is_drawn(number, q.slots)
+        && selection_b::taken::admits(q.afi, c.afi)
+    {
+        take_requested(c, number, out)
+    } else {
+        crate::answer::silent(c, c.state)
     }
-    if !is_drawn(number, n) {
-        return crate::answer::silent(c, s);
-    }
-    if !selection_b::taken::admits(afi, c.afi) {
-        return crate::answer::silent(c, s);
-    }
-    take_requested(c, number, out)
 }
 
 // A frame that is no request, in Requested.
+#[tactic(auto, using(std::proofs::lemmas::Bool::Decides::nat_tests, rows::proofs::RowLaws::overlay_nil), unfolding(crate::specs::CardB::other))]
 fn take_marked(c: CardB, slot: u8, row: &[u8], out: &mut [u8]) -> TakenB
     requires { answer_room_b ≤ length out.old }
     ensures value { result ≡ taken c (other c (Requested slot) row.now) }
     ensures out_after { out.new ≡ overlay out.old 0 (other c (Requested slot) row.now).1 }
 {
     if selection_b::taken::is_marker(slot, row) {
-        return send_atqb(c, out);
+        send_atqb(c, out)
+    } else {
+        crate::answer::silent(c, StateB::Requested(slot))
     }
-    crate::answer::silent(c, StateB::Requested(slot))
 }
 
 // .. in Declared.
+#[tactic(auto, using(std::proofs::lemmas::Bool::Decides::nat_tests, rows::proofs::RowLaws::overlay_nil), unfolding(crate::specs::CardB::other))]
 fn take_declared(c: CardB, row: &[u8], out: &mut [u8]) -> TakenB
     requires { answer_room_b ≤ length out.old }
     ensures value { result ≡ taken c (other c Declared row.now) }
     ensures out_after { out.new ≡ overlay out.old 0 (other c Declared row.now).1 }
 {
-    let pupi = c.pupi;
-    if selection_b::taken::is_attrib(pupi, row) {
-        let done = selection_b::sent::done();
-        return crate::answer::send(c, StateB::Active, &done, out);
+    if selection_b::taken::is_attrib(c.pupi, row) {
+        crate::answer::send(c, StateB::Active, &selection_b::sent::done(), out)
+    } else if selection_b::taken::is_hltb(c.pupi, row) {
+        crate::answer::send(c, StateB::Halt, &selection_b::sent::done(), out)
+    } else {
+        crate::answer::silent(c, StateB::Declared)
     }
-    if selection_b::taken::is_hltb(pupi, row) {
-        let done = selection_b::sent::done();
-        return crate::answer::send(c, StateB::Halt, &done, out);
-    }
-    crate::answer::silent(c, StateB::Declared)
 }
 
 // .. by the card's state.
+#[tactic(auto, using(std::proofs::lemmas::Bool::Decides::nat_tests, rows::proofs::RowLaws::overlay_nil), unfolding(crate::specs::CardB::other))]
 fn take_other(c: CardB, row: &[u8], out: &mut [u8]) -> TakenB
     requires { answer_room_b ≤ length out.old }
     ensures value { result ≡ taken c (other c c.state row.now) }
     ensures out_after { out.new ≡ overlay out.old 0 (other c c.state row.now).1 }
 {
-    let s = c.state;
-    match s {
-        StateB::Off => crate::answer::silent(c, StateB::Off),
-        StateB::Idle => crate::answer::silent(c, StateB::Idle),
+    match c.state {
         StateB::Requested(n) => take_marked(c, n, row, out),
         StateB::Declared => take_declared(c, row, out),
-        StateB::Active => crate::answer::silent(c, StateB::Active),
-        StateB::Halt => crate::answer::silent(c, StateB::Halt),
+        s => crate::answer::silent(c, s),
     }
 }
 
@@ -159,9 +146,8 @@ pub fn take_rules(c: CardB, number: u8, row: &[u8], out: &mut [u8]) -> TakenB
     ensures value { result ≡ taken c (rules c c.state number row.now) }
     ensures out_after { out.new ≡ overlay out.old 0 (rules c c.state number row.now).1 }
 {
-    let q = selection_b::taken::read_request(row);
-    if q.is {
-        return take_asked(c, number, q.wake, q.slots, q.afi, out);
+    match selection_b::taken::read_request(row) {
+        Some(q) => take_asked(c, number, q, out),
+        None => take_other(c, row, out),
     }
-    take_other(c, row, out)
 }
