@@ -54,34 +54,24 @@ pub struct TurnB {
 pub fn new_reader() -> ReaderB
     ensures { result ≡ blank Ready }
 {
-    ReaderB {
-        phase: PhaseB::Ready,
-        slots: 0,
-        slot: 0,
-    }
+    within::blank(PhaseB::Ready)
 }
 
 // Is a row due?
 pub fn is_awaiting(p: PhaseB) -> bool
     ensures { result ≡ awaits p }
 {
-    match p {
-        PhaseB::Ready => false,
-        PhaseB::Slot => true,
-        PhaseB::AttribSent => true,
-        PhaseB::HltbSent => true,
-        PhaseB::Stopped => false,
-    }
+    matches!(p, PhaseB::Slot | PhaseB::AttribSent | PhaseB::HltbSent)
 }
 
 // REQB, or WUPB where wake, with N slots.
+#[tactic(auto, using(std::proofs::lemmas::Bool::Decides::nat_tests), unfolding(crate::specs::ReaderB::requests, crate::specs::ReaderB::call_with))]
 pub fn request(r: ReaderB, wake: bool, n: u8, afi: u8, out: &mut [u8]) -> TurnB
     ensures value { result ≡ call_with (is_ready r.phase) r (length out.old) (requests r wake n afi) }
     ensures out_after { out.new ≡ row_after result.answer (request wake n afi) out.old }
     ensures result_value { turn_says result ≡ call_says (is_ready r.phase) (length out.old) (requests r wake n afi) }
 {
-    let p = r.phase;
-    if !within::is_ready(p) {
+    if !within::is_ready(r.phase) {
         return within::turn(r, AnswerB::Declines(Refusal::NotDue));
     }
     if out.len() < frame_b::FRAME_ROOM {
@@ -90,47 +80,39 @@ pub fn request(r: ReaderB, wake: bool, n: u8, afi: u8, out: &mut [u8]) -> TurnB
     if !selection_b::sent::is_slots(n) {
         return within::turn(r, AnswerB::Declines(Refusal::Argument));
     }
-    let row = selection_b::sent::request(wake, n, afi);
-    rows::within::put(out, 0, &row);
-    let k = ReaderB {
+    let next = ReaderB {
         phase: PhaseB::Slot,
         slots: n,
         slot: 1,
     };
-    within::turn(k, AnswerB::Sends(40))
+    within::send(next, &selection_b::sent::request(wake, n, afi), out)
 }
 
 // HLTB to the card with this PUPI.
+#[tactic(auto, using(std::proofs::lemmas::Bool::Decides::nat_tests), unfolding(crate::specs::ReaderB::halts, crate::specs::ReaderB::call_with))]
 pub fn halt(r: ReaderB, pupi: [u8; 4], out: &mut [u8]) -> TurnB
     ensures value { result ≡ call_with (is_ready r.phase) r (length out.old) (halts r) }
     ensures out_after { out.new ≡ row_after result.answer (hltb pupi) out.old }
     ensures result_value { turn_says result ≡ call_says (is_ready r.phase) (length out.old) (halts r) }
 {
-    let p = r.phase;
-    if !within::is_ready(p) {
+    if !within::is_ready(r.phase) {
         return within::turn(r, AnswerB::Declines(Refusal::NotDue));
     }
     if out.len() < frame_b::FRAME_ROOM {
         return within::turn(r, AnswerB::Declines(Refusal::Room));
     }
-    let row = selection_b::sent::hltb(pupi);
-    rows::within::put(out, 0, &row);
-    let k = ReaderB {
-        phase: PhaseB::HltbSent,
-        slots: 0,
-        slot: 0,
-    };
-    within::turn(k, AnswerB::Sends(56))
+    let next = within::blank(PhaseB::HltbSent);
+    within::send(next, &selection_b::sent::hltb(pupi), out)
 }
 
 // ATTRIB to the card of an ATQB, with the reader's own size index.
+#[tactic(auto, using(std::proofs::lemmas::Bool::Decides::nat_tests), unfolding(crate::specs::ReaderB::attaches, crate::specs::ReaderB::call_with))]
 pub fn attach(r: ReaderB, atqb: [u8; 12], index: u8, out: &mut [u8]) -> TurnB
     ensures value { result ≡ call_with (is_ready r.phase) r (length out.old) (attaches r index) }
     ensures out_after { out.new ≡ row_after result.answer (attrib_for atqb index) out.old }
     ensures result_value { turn_says result ≡ call_says (is_ready r.phase) (length out.old) (attaches r index) }
 {
-    let p = r.phase;
-    if !within::is_ready(p) {
+    if !within::is_ready(r.phase) {
         return within::turn(r, AnswerB::Declines(Refusal::NotDue));
     }
     if out.len() < frame_b::FRAME_ROOM {
@@ -139,24 +121,18 @@ pub fn attach(r: ReaderB, atqb: [u8; 12], index: u8, out: &mut [u8]) -> TurnB
     if index > 8 {
         return within::turn(r, AnswerB::Declines(Refusal::Argument));
     }
-    let row = selection_b::sent::attrib_for(atqb, index);
-    rows::within::put(out, 0, &row);
-    let k = ReaderB {
-        phase: PhaseB::AttribSent,
-        slots: 0,
-        slot: 0,
-    };
-    within::turn(k, AnswerB::Sends(88))
+    let next = within::blank(PhaseB::AttribSent);
+    within::send(next, &selection_b::sent::attrib_for(atqb, index), out)
 }
 
 // A row is heard; an empty one is silence. The next slot's marker, if one goes out, stands at the front of the lent row.
+#[tactic(auto, using(std::proofs::lemmas::Bool::Decides::nat_tests), unfolding(crate::specs::ReaderB::call_with))]
 pub fn hear(r: ReaderB, row: &[u8], out: &mut [u8]) -> TurnB
     ensures value { result ≡ call_with (awaits r.phase) r (length out.old) (hear r row.now) }
     ensures out_after { out.new ≡ row_after result.answer (next result.reader) out.old }
     ensures result_value { turn_says result ≡ call_says (awaits r.phase) (length out.old) (hear r row.now) }
 {
-    let p = r.phase;
-    if !is_awaiting(p) {
+    if !is_awaiting(r.phase) {
         return within::turn(r, AnswerB::Declines(Refusal::NotDue));
     }
     if out.len() < frame_b::FRAME_ROOM {
