@@ -30,21 +30,13 @@ pub fn take_one(d: Drawn, frame: &[u8], heard: &mut [u8], bits: usize) -> OneB
     ensures value { result ≡ one d frame.now (take bits heard.old) }
     ensures heard_after { heard.new ≡ overlay heard.old 0 (join (answers_b frame.now d) (take bits heard.old)) }
 {
-    let c = d.card;
-    let number = d.number;
     let mut row = [0u8; frame_b::ANSWER_ROOM];
-    let t = card_b::within::take_rules(c, number, frame, &mut row);
-    let a = t.answer;
-    let n = card_b::within::bits_in(a);
-    let m = field::within::join(heard, bits, &row[..n]);
-    let k = t.card;
-    let after = Drawn {
-        card: k,
-        number: number,
-    };
+    let t = card_b::within::take_rules(d.card, d.number, frame, &mut row);
+    let n = card_b::within::bits_in(t.answer);
+    let bits = field::within::join(heard, bits, &row[..n]);
     OneB {
-        drawn: after,
-        bits: m,
+        drawn: Drawn { card: t.card, ..d },
+        bits,
     }
 }
 
@@ -59,14 +51,9 @@ pub fn take_all(start: [Drawn; MOST_CARDS], n: usize, frame: &[u8], heard: &mut 
     let mut i = n;
     while 0 < i {
         i -= 1;
-        let d = cards[i];
-        let o = take_one(d, frame, heard, bits);
-        let k = o.drawn;
-        cards[i] = k;
+        let o = take_one(cards[i], frame, heard, bits);
+        cards[i] = o.drawn;
         bits = o.bits;
     }
-    TogetherB {
-        cards: cards,
-        bits: bits,
-    }
+    TogetherB { cards, bits }
 }

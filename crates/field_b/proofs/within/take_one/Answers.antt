@@ -25,8 +25,8 @@ slice_bounds-join-end c = let t = c.take_rules-t in
     let k : Answered s b.result t.new.out = answered a.d.card s t.result b.result _ t.new.out t.ensures.value b.ensures t.ensures.out_after t.auto.out in
     rw length-take (omega (arith, k.fits, t.auto.out))
 
-pub join-m-requires : goal.join-m-requires
-join-m-requires c = let t = c.take_rules-t in
+pub join-bits-requires : goal.join-bits-requires
+join-bits-requires c = let t = c.take_rules-t in
     let b = c.bits_in-n in
     let a = c.args in
     let s : Step = rules a.d.card a.d.card.state a.d.number a.frame.now in
@@ -37,7 +37,7 @@ pub returns : goal.returns
 unfolding takes_b answers_b takes answers
 returns c = let t = c.take_rules-t in
     let b = c.bits_in-n in
-    let j = c.join-m in
+    let j = c.join-bits in
     let a = c.args in
     let s : Step = rules a.d.card a.d.card.state a.d.number a.frame.now in
     let k : Answered s b.result t.new.out = answered a.d.card s t.result b.result _ t.new.out t.ensures.value b.ensures t.ensures.out_after t.auto.out in record { value = ap₂ (λ x m. record { drawn = record { card = x; number = a.d.number }; bits = m }) (ap (λ x. x.card) t.ensures.value) (j.ensures.value ∙ ap (λ r. length (join r (take a.bits a.heard.now))) k.bits); heard_after = j.ensures.row_after ∙ ap (λ r. overlay a.heard.now 0 (join r (take a.bits a.heard.now))) k.bits }
