@@ -1,9 +1,12 @@
 -- Laws of rows of whole bytes: the loops over them, their CRC_B, and that what is written is sound. Assumes nothing.
-use Rattle.std.specs.Prelude.{◌≡◌, ℕ, zero, suc, ◌+◌, ◌-◌, ◌*◌, ◌/◌, ◌%◌, ◌≤◌, ◌<◌, true, ◌&&◌, List, [], ◌∷◌, ◌++◌, length, get_or, eqb, leb}
+use Rattle.std.specs.Prelude.{◌≡◌, ℕ, zero, suc, ◌+◌, ◌-◌, ◌*◌, ◌/◌, ◌%◌, ◌≤◌, ◌<◌, Bool, true, ◌&&◌, List, [], ◌∷◌, ◌++◌, length, get_or, eqb, leb}
 use Rattle.std.proofs.Math.Path.{refl}
-use Rattle.std.proofs.Common.{ap, ◌∙◌, not-suc-le-zero, zero-add, arith, append_assoc, drop-drop, take-take, take_at, drop_at, eq-eqb, le-leb, eqb-true, leb-true}
+use Rattle.std.proofs.Common.{ap, ◌∙◌, not-suc-le-zero, zero-add, arith, rules, append_assoc, drop-drop, take-take, take_at, drop_at, eq-eqb, le-leb, eqb-true, leb-true}
 use Rattle.std.proofs.Math.ListN.{take, drop, length-drop}
 use Rattle.std.proofs.Math.Seq.{take_all}
+use Rattle.std.specs.Cmp.Lexicographic.{pointwise}
+use Rattle.std.proofs.lemmas.Bool.Decides.{same_from_decides, Decides-eqb}
+use Rattle.std.proofs.lemmas.Slice.Eq.{slice_eq-Decides, compares_Decides}
 use Rattle.rows.specs.Rows.{overlay, clean, same, Bytes}
 use Rattle.rows.specs.ListLaws.{both}
 use Rattle.rows.specs.CleanLaws.{bits_clean}
@@ -71,6 +74,11 @@ unfolding shifts
 shifts_done i x h = let e : 8 - i ≡ 0 = omega arith in rw e
 
 -- ---- the last two bytes
+
+-- what `==` says of two rows of bytes
+pub same_eq : (xs ys : List ℕ) (r : Bool) → r ≡ pointwise eqb xs ys → r ≡ same xs ys
+unfolding same
+same_eq xs ys r e = same_from_decides r (same xs ys) (slice_eq-Decides Decides-eqb xs ys r e) (compares_Decides same (search rules) xs ys)
 
 pub last_good : (f d : List ℕ) (n : ℕ) → n ≡ length f / 8 - 2 → 16 ≤ length f → d ≡ crc_bytes_b (bytes_of n f)
     → same (unbits (take 8 (drop (8 * n) f)) ∷ unbits (take 8 (drop (8 * n + 8) f)) ∷ []) d ≡ crc_good_b (bytes_of (length f / 8) f)

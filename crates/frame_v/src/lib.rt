@@ -8,17 +8,9 @@ ghost use Rattle.std.specs.Prelude.{◌≡◌};
 ghost use Rattle.frame_v.specs.FrameV.{sound};
 
 // Is a row a request that a tag can look into: whole bytes, four at least, no collided bit, right CRC_B?
+#[tactic(auto, using(std::proofs::lemmas::Bool::Decides::nat_tests), unfolding(crate::specs::FrameV::sound))]
 pub fn is_sound(row: &[u8]) -> bool
     ensures { result ≡ sound row.now }
 {
-    if row.len() % 8 != 0 {
-        return false;
-    }
-    if row.len() < 32 {
-        return false;
-    }
-    if !rows::is_clean(row) {
-        return false;
-    }
-    within::is_good(row)
+    row.len() % 8 == 0 && 32 <= row.len() && rows::is_clean(row) && within::is_good(row)
 }

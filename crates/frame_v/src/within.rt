@@ -6,21 +6,19 @@ ghost use Rattle.crc.specs.CrcOf.{crc_b, crc_bytes_b, crc_good_b};
 ghost use Rattle.frame.specs.Frame.{air_bits, bytes_of};
 
 // The register after one bit.
+#[tactic(auto, using(std::proofs::lemmas::Bool::Decides::nat_tests), unfolding(crc::specs::Crc::shift))]
 fn shift(c: u16) -> u16
     ensures { result ≡ shift c }
 {
-    if c % 2 == 1 {
-        return (c / 2) ^ 0x8408;
-    }
-    c / 2
+    if c % 2 == 1 { (c / 2) ^ 0x8408 } else { c / 2 }
 }
 
 // .. after one byte more.
 fn shift_byte(c: u16, b: u8) -> u16
     ensures { result ≡ crc_byte c b }
 {
-    let mut x = c ^ (b as u16);
-    for i in 0..8usize {
+    let mut x = c ^ u16::from(b);
+    for _ in 0..8usize {
         x = shift(x);
     }
     x
@@ -33,8 +31,7 @@ fn row_crc(row: &[u8], n: usize) -> u16
 {
     let mut c: u16 = 0xFFFF;
     for i in 0..n {
-        let b = parity::within::byte_at(row, 8 * i);
-        c = shift_byte(c, b);
+        c = shift_byte(c, parity::within::byte_at(row, 8 * i));
     }
     c ^ 0xFFFF
 }
@@ -66,6 +63,5 @@ pub fn is_good(row: &[u8]) -> bool
     let due = row_crc_bytes(row, n);
     let low = parity::within::byte_at(row, 8 * n);
     let high = parity::within::byte_at(row, 8 * n + 8);
-    let last = [low, high];
-    rows::is_same(&last, &due)
+    [low, high] == due
 }

@@ -12,14 +12,14 @@ use Rattle.frame_v.proofs.within.row_crc.Goals as goal
 pub loop-i-init : goal.loop-i-init
 loop-i-init c = (omega arith, refl)
 
-pub byte_at-b-requires : goal.byte_at-b-requires
-byte_at-b-requires c = (omega arith, part_clean (8 * c.args.n) (8 * c.loop-i.i) c.args.row.now (omega arith) c.requires.1)
+pub byte_at-requires : goal.byte_at-requires
+byte_at-requires c = (omega arith, part_clean (8 * c.args.n) (8 * c.loop-i.i) c.args.row.now (omega arith) c.requires.1)
 
 pub loop-i-preserved : goal.loop-i-preserved
 loop-i-preserved c = let l = c.loop-i in
     let a = c.args in
     let r = a.row.now in
-    let b = c.byte_at-b.ensures ∙ sym (byte_of a.n r l.i (omega arith)) in
+    let b = c.byte_at.ensures ∙ sym (byte_of a.n r l.i (omega arith)) in
     (omega arith, rw (c.shift_byte-c.ensures, b) (sym (crc_next (bytes_of a.n r) l.i l.c (omega (arith, length_bytes a.n r))) ∙ l.invariant.1))
 
 pub returns : goal.returns

@@ -1,15 +1,14 @@
-use mathlib.Core.Path.{refl, sym, ◌∙◌}
+use Rattle.std.proofs.Common.{sym, ◌∙◌, arith}
 use Rattle.crc.specs.Crc.{crc_byte}
 use Rattle.frame_v.specs.FrameVLaws.{shifts_next, shifts_done}
-use native.Mathlib.Omega.{arith}
 use Rattle.frame_v.proofs.within.shift_byte.Goals as goal
 
-pub loop-i-init : goal.loop-i-init
+pub loop-init : goal.loop-init
 unfolding crc_byte
-loop-i-init c = (omega arith, refl)
+loop-init c = rw c.from.ensures
 
-pub loop-i-preserved : goal.loop-i-preserved
-loop-i-preserved c = let l = c.loop-i in (omega arith, rw c.shift-x.ensures (sym (shifts_next l.i l.x (omega arith)) ∙ l.invariant.1))
+pub loop-preserved : goal.loop-preserved
+loop-preserved c = let l = c.loop in rw c.shift-x.ensures (sym (shifts_next l.counter l.x (omega arith)) ∙ l.invariant)
 
 pub returns : goal.returns
-returns c = let l = c.loop-i in sym (shifts_done l.i l.x (omega arith)) ∙ l.invariant.1
+returns c = let l = c.loop in sym (shifts_done l.counter l.x (omega arith)) ∙ l.invariant
