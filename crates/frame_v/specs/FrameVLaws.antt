@@ -142,3 +142,9 @@ sound_is f e =
     let b = both (leb 32 (length f)) (clean f && crc_good_b (bytes_of (length f / 8) f)) a.1 in
     let d = both (clean f) (crc_good_b (bytes_of (length f / 8) f)) b.1 in
     record { whole = eqb-true (length f % 8) 0 a.0; long = leb-true 32 (length f) b.0; clear = d.0 }
+
+pub sound_long : (f : List ℕ) → sound f ≡ true → 32 ≤ length f
+sound_long f e = (sound_is f e).long
+
+pub sound_clear : (f : List ℕ) → sound f ≡ true → clean f ≡ true
+sound_clear f e = (sound_is f e).clear

@@ -1,7 +1,7 @@
 -- Document 02, T-10: "stay quiet, select, reset to ready, read and write of single and several blocks, lock, and the error codes in its table 7".
 -- What a request other than an inventory makes a tag do. Codes: 02 stay quiet, 20 and 23 read, 21 and 24 write, 22 lock, 25 select, 26 reset to ready;
 -- 23 and 24 name several blocks, with their count less one.
-use Rattle.std.specs.Prelude.{ℕ, ◌+◌, ◌-◌, ◌*◌, Bool, cond, not, ◌&&◌, ◌||◌, List, take, drop, eqb, leb, ltb}
+use Rattle.std.specs.Prelude.{ℕ, ◌+◌, ◌-◌, ◌*◌, Bool, cond, not, ◌&&◌, ◌||◌, List, take, drop, eqb, leb, ltb, Result, Ok, Err}
 use Rattle.rows.specs.Rows.{any}
 use Rattle.frame_b.specs.FrameB.{byte_at}
 use Rattle.frame_v.specs.FrameV.{bytes_in, sound}
@@ -67,6 +67,10 @@ error_of t q locks code m a b =
     (cond (absent t.blocks a (count_of code b)) 0x10
     (let e : ℕ = lock_error code (any_locked locks a (count_of code b)) in
     cond (eqb e 0) (option_error q code) e)))
+
+-- an error as the code has it: Err with its number, Ok for 0
+abbrev pub unless : ℕ → Result Unit ℕ
+unless e = cond (eqb e 0) (Ok tt) (Err e)
 
 -- 01 and 02 are answered only where the Address flag or the Select flag is set
 unfoldable pub fails_with : Flags → ℕ → Deed

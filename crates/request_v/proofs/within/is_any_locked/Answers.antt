@@ -1,22 +1,14 @@
-use mathlib.Core.Path.{sym, ◌∙◌}
-use Rattle.request_v.proofs.RequestLaws.{any_start, any_next, any_here, any_done}
-use native.Mathlib.Omega.{arith}
+-- `request_v::within::is_any_locked` meets its contract: the locks of the named blocks, and no others. Assumes nothing.
+use Rattle.std.proofs.Common.{sym, ◌∙◌, rules, tests}
+use Rattle.std.proofs.lemmas.Iterator.{YieldsList-from_slice, YieldsList-from_take}
+use Rattle.std.proofs.lemmas.Iterator.Adapters.{YieldsList-from_skip}
+use Rattle.std.proofs.lemmas.Iterator.Search.{any_from_yields_List}
+use Rattle.request_v.specs.Request.{is_lock, any_locked}
+use Rattle.request_v.proofs.RequestLaws.{any_is}
 use Rattle.request_v.proofs.within.is_any_locked.Goals as goal
 
-pub loop-i-init : goal.loop-i-init
-loop-i-init c = (omega arith, any_start c.args.locks.now c.args.first c.args.count 0)
-
-pub overflow_add-first : goal.overflow_add-first
-overflow_add-first c = omega (arith, c.requires (omega arith))
-
-pub bounds-locks-first : goal.bounds-locks-first
-bounds-locks-first c = omega (arith, c.requires (omega arith))
-
-pub returns-then-locks-first-ne0 : goal.returns-then-locks-first-ne0
-returns-then-locks-first-ne0 c = sym (any_here c.args.locks.now c.args.first c.args.count c.loop-i.i (omega arith) (c.requires (omega arith)) c.if-locks-first-ne0.true) ∙ c.loop-i.invariant.1
-
-pub loop-i-preserved : goal.loop-i-preserved
-loop-i-preserved c = (omega arith, sym (any_next c.args.locks.now c.args.first c.args.count c.loop-i.i (omega arith) (c.requires (omega arith)) c.if-locks-first-ne0.false) ∙ c.loop-i.invariant.1)
-
 pub returns : goal.returns
-returns c = sym (any_done c.args.locks.now c.args.first c.args.count c.loop-i.i (omega arith)) ∙ c.loop-i.invariant.1
+unfolding any_locked
+returns c =
+    let y = YieldsList-from_take c.args.count (YieldsList-from_skip c.args.first (YieldsList-from_slice c.args.locks.now cc) (cc)) (cc) in
+    any_from_yields_List is_lock _ _ _ c.any.ensures.ran y (λ x b q k. search (rules, tests)) ∙ sym (any_is is_lock _)
