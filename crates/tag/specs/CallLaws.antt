@@ -1,6 +1,6 @@
 -- Laws for the tag's calls: rooms, and what a write leaves. Assumes nothing.
 use Rattle.std.specs.Prelude.{◌≡◌, refl, ℕ, ◌+◌, ◌-◌, ◌*◌, ◌≤◌, ◌<◌, Bool, true, false, cond, not, ◌||◌, List, length, take, drop, ltb}
-use Rattle.std.proofs.Common.{ap, ◌∙◌, mul-le-mul_right, mul_comm, mul-add, mul-le-mul, le_trans, arith, true≢false, length-take, length-drop, take_all, ltb-false}
+use Rattle.std.proofs.Common.{mul-le-mul_right, mul_comm, mul-add, mul-le-mul, le_trans, arith, true≢false, length-take, length-drop, take_all, ltb-false}
 use Rattle.rows.specs.Rows.{clean}
 use Rattle.rows.specs.HeardLaws.{clean_take, clean_drop}
 use Rattle.frame_v.specs.FrameV.{bytes_in, sound}
@@ -11,7 +11,6 @@ use Rattle.tag.specs.Memory.{geometry}
 use Rattle.tag.specs.Tag.{takes, answers, takes_eof, answers_eof}
 use Rattle.tag.specs.Calls.{room_for, is_short, answer_of, taken, refused, take_call, take_says, eof_call, eof_says}
 use Rattle.request_v.specs.declared.Tag.{Tag}
-use Rattle.tag.specs.declared.TakenV.{TakenV}
 
 -- ---- rooms
 
@@ -80,10 +79,3 @@ eof_says_law t room = go (ltb room 96)
     go : (a : Bool) → sent_says (cond a (refused t Room) (taken (takes_eof t) (answers_eof t))).answer ≡ cond a (declining 1) (sent_says (answer_of (length (answers_eof t))))
     go true = refl
     go false = refl
-
-pub takes_too : (t : Tag) (f memory locks out : List ℕ) {r : TakenV} {A B C : Type 0} → r ≡ take_call t f memory locks out → A × (B × C)
-    → (r ≡ take_call t f memory locks out) × (A × (B × (C × (sent_says r.answer ≡ take_says t f memory locks out))))
-takes_too t f memory locks out e h = (e, (h.0, (h.1.0, (h.1.1, ap (λ r. sent_says r.answer) e ∙ take_says_law t f memory locks out))))
-
-pub eof_too : (t : Tag) (room : ℕ) {r : TakenV} {A : Type 0} → r ≡ eof_call t room → A → (r ≡ eof_call t room) × (A × (sent_says r.answer ≡ eof_says t room))
-eof_too t room e h = (e, (h, ap (λ r. sent_says r.answer) e ∙ eof_says_law t room))

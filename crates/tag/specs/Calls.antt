@@ -1,11 +1,11 @@
 -- The tag's calls: a row with the memory, the locks and the room for the answer, all lent; an EOF; power.
-use Rattle.std.specs.Prelude.{ℕ, ◌+◌, ◌*◌, max, Bool, cond, not, ◌||◌, List, [], ◌∷◌, length, eqb, ltb, Result, Ok, Err, Option, Some, None}
+use Rattle.std.specs.Prelude.{ℕ, ◌+◌, ◌*◌, max, Bool, cond, not, ◌||◌, List, length, eqb, ltb, Result, Ok, Err, Option, Some, None}
 use Rattle.rows.specs.Rows.{overlay}
 use Rattle.request_v.specs.Request.{deed_of}
 use Rattle.request_v.specs.declared.Tag.{Tag}
 use Rattle.tag.specs.Memory.{geometry}
 use Rattle.tag.specs.Tag.{takes, answers, memory_after, locks_after, takes_eof, answers_eof}
-use Rattle.refusal.specs.Refusal.{Said, giving, refusal_says, decline_if, sent_says}
+use Rattle.refusal.specs.Refusal.{Said, decline_if, sent_says}
 use Rattle.refusal.specs.declared.Refusal.{Refusal}
 use Rattle.refusal.specs.declared.Refusal.TheVariants.{Room, Argument}
 use Rattle.tag.specs.declared.TakenV.{TakenV}
@@ -54,10 +54,7 @@ eof_call t room = cond (ltb room 96) (refused t Room) (taken (takes_eof t) (answ
 unfoldable pub eof_row : Tag → List ℕ → List ℕ
 eof_row t out = cond (ltb (length out) 96) out (overlay out 0 (answers_eof t))
 
--- ---- what an answer says, in the table's numbers: the bits that the tag sends, if any
-
-
--- "A call tests .. 1, 6"
+-- what an answer says, in the table's numbers: the bits that the tag sends, if any. "A call tests .. 1, 6"
 abbrev pub take_says : Tag → List ℕ → List ℕ → List ℕ → List ℕ → Said
 take_says t f memory locks out =
     decline_if (is_short t (length memory) (length locks) (length out)) 1

@@ -22,8 +22,7 @@ pub struct TakenV {
 pub fn power_on(t: Tag) -> Tag
     ensures { result ≡ power_on t }
 {
-    let y = t.state;
-    within::with_state(t, within::powered(y))
+    within::with_state(t, within::powered(t.state))
 }
 
 // Power is lost: Off from anywhere.
@@ -35,6 +34,7 @@ pub fn power_off(t: Tag) -> Tag
 
 // The tag takes a row, any bits of any number. Its answer stands at the front of `out`. 1: memory, locks or `out` are shorter than the tag's
 // geometry asks for; 6: the geometry is none.
+#[tactic(auto, using(std::proofs::lemmas::Bool::Decides::nat_tests), unfolding(crate::specs::Calls::take_call, crate::specs::Calls::take_memory, crate::specs::Calls::take_locks, crate::specs::Calls::take_row, crate::specs::Tag::answers))]
 pub fn take(t: Tag, row: &[u8], memory: &mut [u8], locks: &mut [u8], out: &mut [u8]) -> TakenV
     ensures value { result ≡ take_call t row.now memory.old locks.old out.old }
     ensures memory_after { memory.new ≡ take_memory t row.now memory.old locks.old out.old }
@@ -58,6 +58,7 @@ pub fn take(t: Tag, row: &[u8], memory: &mut [u8], locks: &mut [u8], out: &mut [
 }
 
 // An EOF begins the next slot of a round. 1: `out` has no room for 96 bits.
+#[tactic(auto, using(std::proofs::lemmas::Bool::Decides::nat_tests), unfolding(crate::specs::Calls::eof_call, crate::specs::Calls::eof_row))]
 pub fn eof(t: Tag, out: &mut [u8]) -> TakenV
     ensures value { result ≡ eof_call t (length out.old) }
     ensures out_after { out.new ≡ eof_row t out.old }

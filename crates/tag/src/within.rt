@@ -10,8 +10,8 @@ ghost use Rattle.request_v.specs.Request.{deed_of};
 ghost use Rattle.tag.specs.Calls.{room_for, is_short, answer_of, taken};
 ghost use Rattle.tag.specs.Safe.{Safe};
 
-use refusal::Refusal;
 use crate::TakenV;
+use refusal::Refusal;
 use request_v::{Deed, StateV, Tag};
 
 // ---- states
@@ -19,26 +19,16 @@ use request_v::{Deed, StateV, Tag};
 pub fn with_state(t: Tag, y: StateV) -> Tag
     ensures { result ≡ with_state t y }
 {
-    let uid = t.uid;
-    Tag {
-        uid: uid,
-        dsfid: t.dsfid,
-        supports: t.supports,
-        afi: t.afi,
-        blocks: t.blocks,
-        size: t.size,
-        state: y,
-    }
+    Tag { state: y, ..t }
 }
 
 pub fn waiting(n: u8, y: StateV) -> StateV
     ensures { result ≡ waiting n y }
 {
     match y {
-        StateV::Off => StateV::Off,
         StateV::Ready(_) => StateV::Ready(n),
-        StateV::Quiet => StateV::Quiet,
         StateV::Selected(_) => StateV::Selected(n),
+        _ => y,
     }
 }
 
@@ -46,10 +36,8 @@ pub fn waits(y: StateV) -> u8
     ensures { result ≡ waits y }
 {
     match y {
-        StateV::Off => 0,
-        StateV::Ready(n) => n,
-        StateV::Quiet => 0,
-        StateV::Selected(n) => n,
+        StateV::Ready(n) | StateV::Selected(n) => n,
+        _ => 0,
     }
 }
 
@@ -57,37 +45,21 @@ pub fn state_after(d: Deed, y: StateV) -> StateV
     ensures { result ≡ state_after d y }
 {
     match d {
-        Deed::Nothing => waiting(0, y),
         Deed::Quiets => StateV::Quiet,
-        Deed::Drops => StateV::Ready(0),
-        Deed::Tells => waiting(0, y),
+        Deed::Drops | Deed::Resets => StateV::Ready(0),
         Deed::Waits(n) => waiting(n, y),
-        Deed::Fails(_) => waiting(0, y),
-        Deed::Reads {
-            first: _,
-            count: _,
-            status: _,
-        } => waiting(0, y),
-        Deed::Writes {
-            first: _,
-            count: _,
-            from: _,
-        } => waiting(0, y),
-        Deed::Locks(_) => waiting(0, y),
         Deed::Selects => StateV::Selected(0),
-        Deed::Resets => StateV::Ready(0),
+        _ => waiting(0, y),
     }
 }
 
 // ---- what a read shows
 
+#[tactic(auto, using(std::proofs::lemmas::Bool::Decides::nat_tests))]
 fn status_of(l: u8) -> u8
     ensures { result ≡ status_of l }
 {
-    if l == 0 {
-        return 0x00;
-    }
-    0x01
+    u8::from(l != 0)
 }
 
 // A block at byte `at` of a row, its status ahead of it if asked for. The answer is how many bytes it takes.
@@ -105,16 +77,14 @@ fn put_block(
     ensures upper_bound { result ≤ size + 1 }
     ensures out_after { out.new ≡ overlay out.old (8 * at) (air_bits (shown status size memory.now locks.now b)) }
 {
-    let from = size * b;
-    let to = from + size;
-    if status {
-        let s = [status_of(locks[b])];
-        frame_b::within::put_bits(out, 8 * at, &s);
-        frame_b::within::put_bits(out, 8 * (at + 1), &memory[from..to]);
-        return size + 1;
+    let block = &memory[size * b..size * b + size];
+    if !status {
+        frame_b::within::put_bits(out, 8 * at, block);
+        return size;
     }
-    frame_b::within::put_bits(out, 8 * at, &memory[from..to]);
-    size
+    frame_b::within::put_bits(out, 8 * at, &[status_of(locks[b])]);
+    frame_b::within::put_bits(out, 8 * (at + 1), block);
+    size + 1
 }
 
 // Blocks one behind the other, from byte 1 of a row on. The answer is the byte behind them.
@@ -134,8 +104,7 @@ fn put_shown(
 {
     let mut at: usize = 1;
     for i in 0..count {
-        let n = put_block(memory, locks, size, first + i, status, out, at);
-        at = at + n;
+        at += put_block(memory, locks, size, first + i, status, out, at);
     }
     at
 }
@@ -154,41 +123,29 @@ fn put_read(
     ensures value { result ≡ length (frame_b (0x00 ∷ shown_from status size memory.now locks.now first count)) }
     ensures out_after { out.new ≡ overlay out.old 0 (frame_b (0x00 ∷ shown_from status size memory.now locks.now first count)) }
 {
-    let good = [0x00u8];
-    frame_b::within::put_bits(out, 0, &good);
+    frame_b::within::put_bits(out, 0, &[0x00]);
     let n = put_shown(memory, locks, size, first, count, status, out);
     frame_v::within::put_crc(out, n);
     8 * (n + 2)
 }
 
-// An answer of one byte, of two, and to an inventory.
-fn put_good(out: &mut [u8]) -> usize
-    requires { 96 ≤ length out.old }
-    ensures value { result ≡ length (frame_b (0x00 ∷ [])) }
-    ensures out_after { out.new ≡ overlay out.old 0 (frame_b (0x00 ∷ [])) }
+// An answer of so many bytes. The answer is how many bits it has.
+#[tactic(auto, using(frame_b::specs::FrameBLaws::length_frame))]
+fn put_bytes(bytes: &[u8], out: &mut [u8]) -> usize
+    requires { 8 * (length bytes.now + 2) ≤ length out.old }
+    ensures value { result ≡ length (frame_b bytes.now) }
+    ensures out_after { out.new ≡ overlay out.old 0 (frame_b bytes.now) }
 {
-    let bytes = [0x00u8];
-    frame_b::within::put_frame(out, &bytes);
-    24
-}
-
-fn put_error(e: u8, out: &mut [u8]) -> usize
-    requires { 96 ≤ length out.old }
-    ensures value { result ≡ length (frame_b (0x01 ∷ e ∷ [])) }
-    ensures out_after { out.new ≡ overlay out.old 0 (frame_b (0x01 ∷ e ∷ [])) }
-{
-    let bytes = [0x01, e];
-    frame_b::within::put_frame(out, &bytes);
-    32
+    frame_b::within::put_frame(out, bytes);
+    8 * (bytes.len() + 2)
 }
 
 fn told(t: Tag) -> [u8; 10]
     ensures { result ≡ told t }
 {
-    let uid = t.uid;
     let mut bytes = [0u8; 10];
     bytes[1] = t.dsfid;
-    rows::within::put(&mut bytes, 2, &uid);
+    rows::within::put(&mut bytes, 2, &t.uid);
     bytes
 }
 
@@ -197,37 +154,26 @@ pub fn put_told(t: Tag, out: &mut [u8]) -> usize
     ensures value { result ≡ length (frame_b (told t)) }
     ensures out_after { out.new ≡ overlay out.old 0 (frame_b (told t)) }
 {
-    let bytes = told(t);
-    frame_b::within::put_frame(out, &bytes);
-    96
+    put_bytes(&told(t), out)
 }
 
 // What a deed makes the tag send, at the front of the lent row. The answer is how many bits that are.
+#[tactic(auto, using(rows::proofs::RowLaws::overlay_nil), unfolding(crate::specs::Tag::row_of))]
 pub fn put_answer(t: Tag, d: Deed, row: &[u8], memory: &[u8], locks: &[u8], out: &mut [u8]) -> usize
     requires { Safe t row.now d × (t.blocks * t.size ≤ length memory.now) × (t.blocks ≤ length locks.now) × (room_for t ≤ length out.old) }
     ensures value { result ≡ length (row_of t memory.now locks.now d) }
     ensures out_after { out.new ≡ overlay out.old 0 (row_of t memory.now locks.now d) }
 {
     match d {
-        Deed::Nothing => 0,
-        Deed::Quiets => 0,
-        Deed::Drops => 0,
+        Deed::Nothing | Deed::Quiets | Deed::Drops | Deed::Waits(_) => 0,
         Deed::Tells => put_told(t, out),
-        Deed::Waits(_) => 0,
-        Deed::Fails(e) => put_error(e, out),
+        Deed::Fails(e) => put_bytes(&[0x01, e], out),
         Deed::Reads {
             first,
             count,
             status,
         } => put_read(memory, locks, t.size as usize, first, count, status, out),
-        Deed::Writes {
-            first: _,
-            count: _,
-            from: _,
-        } => put_good(out),
-        Deed::Locks(_) => put_good(out),
-        Deed::Selects => put_good(out),
-        Deed::Resets => put_good(out),
+        _ => put_bytes(&[0x00], out),
     }
 }
 
@@ -246,29 +192,8 @@ pub fn write_memory(t: Tag, d: Deed, row: &[u8], memory: &mut [u8])
     requires { Safe t row.now d × (t.blocks * t.size ≤ length memory.old) }
     ensures { memory.new ≡ memory_after t.size row.now d memory.old }
 {
-    match d {
-        Deed::Nothing => {},
-        Deed::Quiets => {},
-        Deed::Drops => {},
-        Deed::Tells => {},
-        Deed::Waits(_) => {},
-        Deed::Fails(_) => {},
-        Deed::Reads {
-            first: _,
-            count: _,
-            status: _,
-        } => {},
-        Deed::Writes { first, count, from } => write_blocks(
-            row,
-            from,
-            count,
-            t.size as usize,
-            first,
-            memory,
-        ),
-        Deed::Locks(_) => {},
-        Deed::Selects => {},
-        Deed::Resets => {},
+    if let Deed::Writes { first, count, from } = d {
+        write_blocks(row, from, count, t.size as usize, first, memory);
     }
 }
 
@@ -277,77 +202,42 @@ pub fn write_locks(t: Tag, d: Deed, row: &[u8], locks: &mut [u8])
     requires { Safe t row.now d × (t.blocks ≤ length locks.old) }
     ensures { locks.new ≡ locks_after d locks.old }
 {
-    match d {
-        Deed::Nothing => {},
-        Deed::Quiets => {},
-        Deed::Drops => {},
-        Deed::Tells => {},
-        Deed::Waits(_) => {},
-        Deed::Fails(_) => {},
-        Deed::Reads {
-            first: _,
-            count: _,
-            status: _,
-        } => {},
-        Deed::Writes {
-            first: _,
-            count: _,
-            from: _,
-        } => {},
-        Deed::Locks(b) => {
-            locks[b] = 1;
-        }
-        Deed::Selects => {},
-        Deed::Resets => {},
+    if let Deed::Locks(b) = d {
+        locks[b] = 1;
     }
 }
 
 // ---- tests of a call
 
+#[tactic(auto, using(std::proofs::lemmas::Bool::Decides::nat_tests), unfolding(crate::specs::Memory::geometry))]
 pub fn is_geometry(blocks: u16, size: u8) -> bool
     ensures { result ≡ geometry blocks size }
 {
-    if blocks < 1 {
-        return false;
-    }
-    if blocks > 256 {
-        return false;
-    }
-    if size < 1 {
-        return false;
-    }
-    size <= 32
+    matches!(blocks, 1..=256) && matches!(size, 1..=32)
 }
 
+#[tactic(auto, unfolding(crate::specs::Calls::room_for))]
 fn room_for(t: Tag) -> usize
     ensures { result ≡ room_for t }
 {
     let n = 8 * (3 + (t.blocks as usize) * (t.size as usize + 1));
-    if n < 96 {
-        return 96;
-    }
-    n
+    n.max(96)
 }
 
+#[tactic(auto, using(std::proofs::lemmas::Bool::Decides::nat_tests), unfolding(crate::specs::Calls::is_short))]
 pub fn is_short(t: Tag, memory: usize, locks: usize, room: usize) -> bool
     ensures { result ≡ is_short t memory locks room }
 {
-    if memory < (t.blocks as usize) * (t.size as usize) {
-        return true;
-    }
-    if locks < t.blocks as usize {
-        return true;
-    }
-    room < room_for(t)
+    memory < (t.blocks as usize) * (t.size as usize)
+        || locks < t.blocks as usize
+        || room < room_for(t)
 }
 
+#[tactic(auto, using(std::proofs::lemmas::Bool::Decides::nat_tests))]
 pub fn answer_of(n: usize) -> Result<Option<usize>, Refusal>
     ensures { result ≡ answer_of n }
 {
-    if n == 0 {
-        return Ok(None);
-    }
-    Ok(Some(n))
+    if n == 0 { Ok(None) } else { Ok(Some(n)) }
 }
 
 // ---- the rules
@@ -357,9 +247,7 @@ pub fn powered(y: StateV) -> StateV
 {
     match y {
         StateV::Off => StateV::Ready(0),
-        StateV::Ready(n) => StateV::Ready(n),
-        StateV::Quiet => StateV::Quiet,
-        StateV::Selected(n) => StateV::Selected(n),
+        _ => y,
     }
 }
 
@@ -375,37 +263,23 @@ pub fn take_rules(t: Tag, row: &[u8], memory: &mut [u8], locks: &mut [u8], out: 
     let n = put_answer(t, d, row, memory, locks, out);
     write_memory(t, d, row, memory);
     write_locks(t, d, row, locks);
-    let y = t.state;
-    let k = with_state(t, state_after(d, y));
     TakenV {
-        tag: k,
+        tag: with_state(t, state_after(d, t.state)),
         answer: answer_of(n),
     }
 }
 
 // An EOF, by the tag's rules.
+#[tactic(auto, using(std::proofs::lemmas::Bool::Decides::nat_tests, rows::proofs::RowLaws::overlay_nil), unfolding(crate::specs::Tag::takes_eof, crate::specs::Tag::answers_eof))]
 pub fn eof_rules(t: Tag, out: &mut [u8]) -> TakenV
     requires { 96 ≤ length out.old }
     ensures value { result ≡ taken (takes_eof t) (answers_eof t) }
     ensures out_after { out.new ≡ overlay out.old 0 (answers_eof t) }
 {
-    let y = t.state;
-    let w = waits(y);
-    if w == 1 {
-        let n = put_told(t, out);
-        return TakenV {
-            tag: with_state(t, waiting(0, y)),
-            answer: answer_of(n),
-        };
-    }
-    if w == 0 {
-        return TakenV {
-            tag: with_state(t, waiting(0, y)),
-            answer: Ok(None),
-        };
-    }
+    let w = waits(t.state);
+    let n = if w == 1 { put_told(t, out) } else { 0 };
     TakenV {
-        tag: with_state(t, waiting(w - 1, y)),
-        answer: Ok(None),
+        tag: with_state(t, waiting(w.saturating_sub(1), t.state)),
+        answer: answer_of(n),
     }
 }

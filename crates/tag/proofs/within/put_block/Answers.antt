@@ -6,16 +6,16 @@ use Rattle.tag.specs.MemoryLaws.{length_block, block_part, length_shown, status_
 use native.Mathlib.Omega.{arith}
 use Rattle.tag.proofs.within.put_block.Goals as goal
 
-pub returns-then-status : goal.returns-then-status
-unfolding shown
-returns-then-status c = let a = c.args in
-    let m = a.memory.now in
-    let l = a.locks.now in
-    let k = length_shown a.size m a.b c.requires.0 true l in record { value = rw c.if-status.true (sym k); upper_bound = omega arith; out_after = rw (c.put_bits-then-status.ensures, c.put_bits.ensures, c.status_of.ensures, c.if-status.true, block_part a.size m a.b c.requires.0) (status_put a.out.now _ _ a.at (rw (length_block a.size m a.b c.requires.0) c.requires.2)) }
-
 pub returns : goal.returns
 unfolding shown
 returns c = let a = c.args in
     let m = a.memory.now in
     let l = a.locks.now in
-    let k = length_shown a.size m a.b c.requires.0 false l in record { value = rw c.if-status.false (sym k); upper_bound = omega arith; out_after = rw (c.put_bits-2.ensures, c.if-status.false, block_part a.size m a.b c.requires.0) }
+    let k = length_shown a.size m a.b c.requires.0 true l in record { value = rw c.if-not-status.false (sym k); upper_bound = omega arith; out_after = rw (c.put_bits-3.ensures, c.put_bits-2.ensures, c.status_of.ensures, c.if-not-status.false, block_part a.size m a.b c.requires.0) (status_put a.out.now _ _ a.at (rw (length_block a.size m a.b c.requires.0) c.requires.2)) }
+
+pub returns-then-not-status : goal.returns-then-not-status
+unfolding shown
+returns-then-not-status c = let a = c.args in
+    let m = a.memory.now in
+    let l = a.locks.now in
+    let k = length_shown a.size m a.b c.requires.0 false l in record { value = rw c.if-not-status.true (sym k); upper_bound = omega arith; out_after = rw (c.put_bits.ensures, c.if-not-status.true, block_part a.size m a.b c.requires.0) }

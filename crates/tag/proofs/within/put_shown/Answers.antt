@@ -11,22 +11,22 @@ pub loop-i-init : goal.loop-i-init
 unfolding shown_from air_bits
 loop-i-init c = (omega arith, refl, omega arith, refl, sym (overlay_nil _ _))
 
-pub put_block-n-requires : goal.put_block-n-requires
-put_block-n-requires c = let a = c.args in
+pub put_block-at-requires : goal.put_block-at-requires
+put_block-at-requires c = let a = c.args in
     let l = c.loop-i in
     let m = a.memory.now in
     let k = a.locks.now in
     (omega (arith, block_fits a.size (a.first + l.i) (a.first + a.count) (omega arith), c.requires.0), omega (arith, c.requires.1), omega (arith, l.invariant.2, l.invariant.3, turn_fits (a.size + 1) l.i a.count (omega arith), c.requires.2))
 
 pub overflow_add-at : goal.overflow_add-at
-overflow_add-at c = let a = c.args in let l = c.loop-i in omega (arith, c.put_block-n.ensures.upper_bound, l.invariant.2, l.invariant.3, turn_fits (a.size + 1) l.i a.count (omega arith), c.requires.2)
+overflow_add-at c = let a = c.args in let l = c.loop-i in omega (arith, c.put_block-at.ensures.upper_bound, l.invariant.2, l.invariant.3, turn_fits (a.size + 1) l.i a.count (omega arith), c.requires.2)
 
 pub loop-i-preserved : goal.loop-i-preserved
 loop-i-preserved c = let a = c.args in
     let l = c.loop-i in
     let m = a.memory.now in
     let k = a.locks.now in
-    let p = c.put_block-n in
+    let p = c.put_block-at in
     let s = turn_fits (a.size + 1) l.i a.count (omega arith) in
     let e : (l.i + 1) * (a.size + 1) ≡ l.i * (a.size + 1) + (a.size + 1) = next_blocks (a.size + 1) l.i in (
       omega arith,

