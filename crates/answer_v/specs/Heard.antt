@@ -8,6 +8,7 @@ use Rattle.frame.specs.Frame.{bytes_of}
 use Rattle.frame_b.specs.FrameB.{byte_at}
 use Rattle.request_v.specs.Inventory.{matching}
 use Rattle.refusal.specs.declared.Refusal.TheVariants.{Length, Silence, Collision, Crc, Forbidden}
+use Rattle.selection_b.specs.declared.Held.{Held}
 use Rattle.selection_b.specs.declared.Held.TheVariants.{None, One, More}
 use Rattle.answer_v.specs.declared.SlotV.{SlotV}
 use Rattle.answer_v.specs.declared.Turn.{Turn}

@@ -1,15 +1,12 @@
 -- Laws for the code that reads what the reader hears. Assumes nothing.
 use Rattle.std.specs.Prelude.{◌≡◌, refl, ℕ, ◌-◌, ◌/◌, ◌%◌, ◌≤◌, Bool, true, false, ◌&&◌, ◌||◌, List, length, take, drop, replicate, eqb, leb}
 use Rattle.std.proofs.Common.{sym, ap, ◌∙◌, arith, length-drop, take_all, eqb-true, leb-true}
-use Rattle.rows.specs.ListLaws.{both, is_nil_law}
-use Rattle.rows.specs.Rows.{is_nil, overlay}
+use Rattle.rows.specs.ListLaws.{both}
+use Rattle.rows.specs.Rows.{overlay}
 use Rattle.rows.proofs.RowLaws.{overlay_all}
 use Rattle.frame.specs.Frame.{bytes_of}
 use Rattle.frame.specs.ByteLaws.{length_bytes}
 use Rattle.answer_v.specs.Heard.{fitting, is_length}
-
-pub nil_is : (h : List ℕ) → length h ≡ 0 → is_nil h ≡ true
-nil_is h e = rw (is_nil_law h e) (unfold is_nil in refl)
 
 -- an awaited length is one of whole bytes, three at least
 pub length_whole : (reads : Bool) (count : ℕ) (status : Bool) (n : ℕ) → is_length reads count status n ≡ true → (n % 8 ≡ 0) × (24 ≤ n)

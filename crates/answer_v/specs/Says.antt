@@ -2,6 +2,7 @@
 use Rattle.std.specs.Prelude.{List, [], ◌∷◌, ℕ, Result, Ok, Err}
 use Rattle.refusal.specs.Refusal.{Said, giving, refusal_says}
 use Rattle.selection_b.specs.HeardB.{held_number}
+use Rattle.selection_b.specs.declared.Held.{Held}
 use Rattle.answer_v.specs.declared.SlotV.{SlotV}
 use Rattle.answer_v.specs.declared.AnswerSays.{AnswerSays}
 use Rattle.answer_v.specs.declared.AnswerSays.TheVariants.{Good, Fails, NotGood}

@@ -36,12 +36,21 @@ pub enum AnswerSays {
     NotGood(Refusal),
 }
 
+// The answer that is awaited: to a read of count + 1 blocks, each with its status or without, or to another request.
+#[derive(Clone, Copy)]
+pub struct Awaited {
+    pub reads: bool,
+    pub count: u8,
+    pub status: bool,
+}
+
 // What was heard in a slot.
+#[tactic(auto, using(std::proofs::lemmas::Bool::Decides::nat_tests, selection_b::specs::HeardBLaws::is_nil_is), unfolding(crate::specs::Heard::read_slot))]
 pub fn read_slot(k: Turn, row: &[u8]) -> SlotV
     ensures value { result ≡ read_slot k row.now }
     ensures result_value { slot_says result ≡ slot_says (read_slot k row.now) }
 {
-    if row.len() == 0 {
+    if row.is_empty() {
         return within::nobody(Ok(Held::None));
     }
     if row.len() != 96 {
@@ -54,18 +63,24 @@ pub fn read_slot(k: Turn, row: &[u8]) -> SlotV
 }
 
 // The answer to a read of count + 1 blocks, or to any other request that is answered.
+#[tactic(auto, using(std::proofs::lemmas::Bool::Decides::nat_tests, selection_b::specs::HeardBLaws::is_nil_is), unfolding(crate::specs::Heard::read_answer))]
 pub fn read_answer(reads: bool, count: u8, status: bool, row: &[u8]) -> AnswerSays
     ensures value { result ≡ read_answer reads count status row.now }
     ensures result_value { answer_says result ≡ answer_says (read_answer reads count status row.now) }
 {
-    if row.len() == 0 {
+    let k = Awaited {
+        reads,
+        count,
+        status,
+    };
+    if row.is_empty() {
         return AnswerSays::NotGood(Refusal::Silence);
     }
-    if !within::is_length(reads, count, status, row.len()) {
+    if !within::is_length(k, row.len()) {
         return AnswerSays::NotGood(Refusal::Length);
     }
     if !rows::is_clean(row) {
         return AnswerSays::NotGood(Refusal::Collision);
     }
-    within::answer_in(reads, count, status, row)
+    within::answer_in(k, row)
 }

@@ -25,7 +25,7 @@ bytes_whole n f held e = e ∙ overlay_all (replicate n 0) (bytes_of n f) (rw (l
 
 -- ---- a slot
 
-is_nil_is : (h : List ℕ) → is_nil h ≡ eqb (length h) 0
+pub is_nil_is : (h : List ℕ) → is_nil h ≡ eqb (length h) 0
 unfolding is_nil
 is_nil_is [] = refl
 is_nil_is (x ∷ h) = grind (arith, nat_tests)
