@@ -64,26 +64,19 @@ pub fn grown_mask(mask: [u8; 8], len: usize, slot: u8) -> [u8; 8]
 fn round_flags(one: bool, asks: bool) -> u8
     ensures { result ≡ round_flags one asks }
 {
-    if one {
-        if asks {
-            return 0x36;
-        }
-        return 0x26;
+    match (one, asks) {
+        (true, true) => 0x36,
+        (true, false) => 0x26,
+        (false, true) => 0x16,
+        (false, false) => 0x06,
     }
-    if asks {
-        return 0x16;
-    }
-    0x06
 }
 
 fn round_length(asks: bool) -> usize
     ensures value { result ≡ round_length asks }
     ensures upper_bound { result ≤ 3 }
 {
-    if asks {
-        return 3;
-    }
-    2
+    if asks { 3 } else { 2 }
 }
 
 // An inventory.
@@ -94,21 +87,16 @@ pub fn put_round(k: Round, out: &mut [u8]) -> usize
 {
     let head = [round_flags(k.one, k.asks), 0x01, k.afi];
     let n = round_length(k.asks);
-    let len = [k.len];
-    let uncut = k.mask;
-    let mask = cut_mask(uncut, k.len as usize);
+    let mask = cut_mask(k.mask, k.len as usize);
     let m = (k.len as usize + 7) / 8;
-    put_parts(&head[..n], &len, &mask[..m], out)
+    put_parts(&head[..n], &[k.len], &mask[..m], out)
 }
 
 fn head_flags(m: Mode, option: bool) -> u8
     ensures { result ≡ head_flags m option }
 {
     let f = mode_flags(m);
-    if option {
-        return f + 0x40;
-    }
-    f
+    if option { f + 0x40 } else { f }
 }
 
 fn mode_flags(m: Mode) -> u8
@@ -128,8 +116,7 @@ fn head_length(m: Mode) -> usize
 {
     match m {
         Mode::Addressed => 10,
-        Mode::Any => 2,
-        Mode::Chosen => 2,
+        Mode::Any | Mode::Chosen => 2,
     }
 }
 
@@ -137,12 +124,10 @@ fn head_length(m: Mode) -> usize
 fn head_bytes(k: Head) -> [u8; 10]
     ensures { result ≡ head_flags k.mode k.option ∷ k.code ∷ k.uid }
 {
-    let m = k.mode;
-    let uid = k.uid;
     let mut bytes = [0u8; 10];
-    bytes[0] = head_flags(m, k.option);
+    bytes[0] = head_flags(k.mode, k.option);
     bytes[1] = k.code;
-    rows::within::put(&mut bytes, 2, &uid);
+    rows::within::put(&mut bytes, 2, &k.uid);
     bytes
 }
 
@@ -153,7 +138,6 @@ pub fn put_request(k: Head, parameters: &[u8], bytes: &[u8], out: &mut [u8]) -> 
     ensures out_after { out.new ≡ overlay out.old 0 (frame_b (request_bytes k parameters.now bytes.now)) }
 {
     let head = head_bytes(k);
-    let m = k.mode;
-    let n = head_length(m);
+    let n = head_length(k.mode);
     put_parts(&head[..n], parameters, bytes, out)
 }
