@@ -3,7 +3,6 @@ pub mod ReaderV
 pub mod CallsV
 pub mod HearV
 pub mod MetLaws
-pub mod HearLaws
 pub mod CallLaws
 pub mod SafeV
 pub mod SafeLaws

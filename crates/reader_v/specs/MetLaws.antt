@@ -1,18 +1,18 @@
 -- Laws of the slots that are still to come. Assumes nothing.
-use Rattle.std.specs.Prelude.{◌≡◌, ◌≢◌, ℕ, ◌+◌, ◌≤◌, ◌<◌, List, length, drop, get_or}
-use Rattle.std.proofs.Common.{add-one, arith, drop_of_length-le, drop-cons, ne_eqb}
+use Rattle.std.specs.Prelude.{◌≡◌, refl, ℕ, suc, ◌+◌, Bool, true, false, cond, not, List, ◌∷◌, eqb}
+use Rattle.std.proofs.Common.{sym, arith}
+use Rattle.std.proofs.lemmas.List.Recursion.{is_position_or_len}
+use Rattle.std.specs.List.{position_or_len}
 use Rattle.reader_v.specs.Met.{first_met}
 
--- ---- the loop
-
-pub met_next : (m : List ℕ) (i : ℕ) → i < length m → get_or m i 0 ≡ 0 → i + first_met (drop i m) ≡ i + 1 + first_met (drop (i + 1) m)
+step : (x : ℕ) (m : List ℕ) → first_met (x ∷ m) ≡ cond (not (eqb x 0)) 0 (1 + first_met m)
 unfolding first_met
-met_next m i h e = rw (add-one, drop-cons m i 0 h, e) (omega arith)
+step x m = go (eqb x 0)
+  where
+    go : (b : Bool) → cond b (suc (first_met m)) 0 ≡ cond (not b) 0 (1 + first_met m)
+    go true = omega arith
+    go false = refl
 
-pub met_here : (m : List ℕ) (i : ℕ) → i < length m → get_or m i 0 ≢ 0 → i + first_met (drop i m) ≡ i
-unfolding first_met
-met_here m i h e = rw (drop-cons m i 0 h, ne_eqb (get_or m i 0) 0 e) (omega arith)
-
-pub met_done : (m : List ℕ) (i : ℕ) → length m ≤ i → i + first_met (drop i m) ≡ i
-unfolding first_met
-met_done m i h = rw (drop_of_length-le m h) (omega arith)
+-- the first flag that is set, in the library's words
+pub met_place : (m : List ℕ) → position_or_len (λ x. not (eqb x 0)) m ≡ first_met m
+met_place m = sym (is_position_or_len first_met (λ x. not (eqb x 0)) (unfold first_met in refl) step m)

@@ -1,6 +1,6 @@
 -- Every turn of the reader is safe. Assumes nothing.
-use Rattle.std.specs.Prelude.{◌≡◌, refl, ℕ, ◌+◌, ◌-◌, ◌*◌, ◌/◌, ◌%◌, ◌≤◌, Bool, true, false, cond, not, ◌&&◌, ◌||◌, List, length, take, drop, eqb, leb, Result, Ok, Err}
-use Rattle.std.proofs.Common.{ap, ◌∙◌, div-add-mod', mul-le-mul_right, mul_comm, arith, true≢false, length-drop, take_all, eqb-true, leb-true, ltb-false}
+use Rattle.std.specs.Prelude.{◌≡◌, refl, ℕ, ◌+◌, ◌-◌, ◌*◌, ◌/◌, ◌%◌, ◌≤◌, Bool, true, false, cond, not, ◌&&◌, ◌||◌, List, length, eqb, leb, Result, Ok, Err}
+use Rattle.std.proofs.Common.{div-add-mod', mul-le-mul_right, mul_comm, arith, true≢false, eqb-true, leb-true, ltb-false}
 use Rattle.std.proofs.Math.Dec.{ltb}
 use Rattle.std.proofs.lemmas.Bool.{not-false}
 use Rattle.rows.specs.ListLaws.{both}
@@ -14,17 +14,15 @@ use Rattle.answer_v.specs.declared.SlotV.{SlotV}
 use Rattle.answer_v.specs.declared.AnswerSays.{AnswerSays}
 use Rattle.answer_v.specs.declared.AnswerSays.TheVariants.{Good, Fails, NotGood}
 use Rattle.refusal.specs.declared.Refusal.{Refusal}
-use Rattle.refusal.specs.Refusal.{declining}
-use Rattle.refusal.specs.declared.Refusal.TheVariants.{Room, NotDue, Length, Silence, Collision, Crc, Forbidden}
+use Rattle.refusal.specs.declared.Refusal.TheVariants.{Length, Silence, Collision, Crc, Forbidden}
 use Rattle.selection_b.specs.declared.Held.{Held}
 use Rattle.reader_v.specs.Met.{flags, first_met}
-use Rattle.reader_v.specs.ReaderV.{turn, awaits, round_of, finished, told, turn_of, met_after, slot_turn, hear_slot, hear_quiet, answer_turn, hear_in, hear}
-use Rattle.reader_v.specs.HearV.{data_room, is_short, sized, hear_call, turn_says, hear_says}
+use Rattle.reader_v.specs.ReaderV.{round_of, finished, told, turn_of, met_after, slot_turn, hear_slot, hear_quiet, answer_turn, hear_in, hear}
+use Rattle.reader_v.specs.HearV.{data_room, is_short}
 use Rattle.reader_v.specs.SafeV.{Safe}
 use Rattle.reader_v.specs.declared.PhaseV.{PhaseV}
 use Rattle.reader_v.specs.declared.PhaseV.TheVariants.{Ready, InRound, InSweep, QuietSent, ReadSent, OtherSent, Stopped}
 use Rattle.reader_v.specs.declared.ReaderV.{ReaderV}
-use Rattle.reader_v.specs.declared.AnswerR.TheVariants.{Declines}
 use Rattle.reader_v.specs.declared.TurnV.{TurnV}
 
 -- ---- a good answer
@@ -136,21 +134,3 @@ not_short r room out e = go (ltb room (data_room r.phase r)) (ltb out 112) refl 
     go true b p q z = absurd (true≢false z)
     go false true p q z = absurd (true≢false z)
     go false false p q z = (ltb-false room (data_room r.phase r) p, ltb-false out 112 q)
-
--- ---- the call, in the table's numbers
-
-hear_says_law : (r : ReaderV) (h : List ℕ) (room out : ℕ) → turn_says (hear_call r h room out) ≡ hear_says r h room out
-unfolding hear_call
-hear_says_law r h room out = go (not (awaits r.phase)) (is_short r room out)
-  where
-    go : (a b : Bool) → turn_says (cond a (turn r (Declines NotDue)) (cond b (turn r (Declines Room)) (sized (hear r h)))) ≡ cond a (declining 11) (cond b (declining 1) (turn_says (hear r h)))
-    go true b = refl
-    go false true = refl
-    go false false = refl
-
-pub hears_too : (r : ReaderV) (h : List ℕ) (room out : ℕ) {q : TurnV} {A B : Type 0} → q ≡ hear_call r h room out → A → B → (q ≡ hear_call r h room out) × (A × (B × (turn_says q ≡ hear_says r h room out)))
-hears_too r h room out e a b = (e, (a, (b, ap turn_says e ∙ hear_says_law r h room out)))
-
--- the rest of a row, lent on
-pub rest_is : (f : List ℕ) (i : ℕ) → take (length f - i) (drop i f) ≡ drop i f
-rest_is f i = take_all (length f - i) (drop i f) (rw length-drop (omega arith))

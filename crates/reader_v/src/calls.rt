@@ -27,8 +27,7 @@ pub fn inventory(
 pub fn sweep(r: ReaderV, asks: bool, afi: u8, out: &mut [u8]) -> TurnV
     ensures { Called r (sweep_call asks afi) out.old result out.new }
 {
-    let mask = [0u8; 8];
-    let k = within::round_for(false, asks, afi, 0, mask);
+    let k = within::round_for(false, asks, afi, 0, [0; 8]);
     let next = within::start(PhaseV::InSweep, k);
     within::send_round(r, true, k, next, out)
 }
@@ -38,17 +37,7 @@ pub fn quiet(r: ReaderV, uid: [u8; 8], out: &mut [u8]) -> TurnV
     ensures { Called r (quiet_call uid) out.old result out.new }
 {
     let k = within::head_for(Mode::Addressed, uid, false, 0x02);
-    let p = [0u8];
-    let none = [0u8];
-    within::send_request(
-        r,
-        true,
-        k,
-        &p[..0],
-        &none[..0],
-        within::blank(PhaseV::QuietSent),
-        out,
-    )
+    within::send_request(r, true, k, &[], &[], within::blank(PhaseV::QuietSent), out)
 }
 
 // Select.
@@ -56,17 +45,7 @@ pub fn select(r: ReaderV, uid: [u8; 8], out: &mut [u8]) -> TurnV
     ensures { Called r (select_call uid) out.old result out.new }
 {
     let k = within::head_for(Mode::Addressed, uid, false, 0x25);
-    let p = [0u8];
-    let none = [0u8];
-    within::send_request(
-        r,
-        true,
-        k,
-        &p[..0],
-        &none[..0],
-        within::blank(PhaseV::OtherSent),
-        out,
-    )
+    within::send_request(r, true, k, &[], &[], within::blank(PhaseV::OtherSent), out)
 }
 
 // Reset to ready.
@@ -74,17 +53,7 @@ pub fn reset(r: ReaderV, m: Mode, uid: [u8; 8], out: &mut [u8]) -> TurnV
     ensures { Called r (reset_call m uid) out.old result out.new }
 {
     let k = within::head_for(m, uid, false, 0x26);
-    let p = [0u8];
-    let none = [0u8];
-    within::send_request(
-        r,
-        true,
-        k,
-        &p[..0],
-        &none[..0],
-        within::blank(PhaseV::OtherSent),
-        out,
-    )
+    within::send_request(r, true, k, &[], &[], within::blank(PhaseV::OtherSent), out)
 }
 
 // Read one block.
@@ -92,9 +61,7 @@ pub fn read(r: ReaderV, m: Mode, uid: [u8; 8], block: u8, status: bool, out: &mu
     ensures { Called r (read_call m uid block status) out.old result out.new }
 {
     let k = within::head_for(m, uid, status, 0x20);
-    let p = [block];
-    let none = [0u8];
-    within::send_request(r, true, k, &p, &none[..0], within::reading(0, status), out)
+    within::send_request(r, true, k, &[block], &[], within::reading(0, status), out)
 }
 
 // Read several blocks. 6: not 1 to 256 of them.
@@ -112,9 +79,15 @@ pub fn reads(
     let good = within::is_count(count);
     let n = within::less_one(count);
     let k = within::head_for(m, uid, status, 0x23);
-    let p = [first, n];
-    let none = [0u8];
-    within::send_request(r, good, k, &p, &none[..0], within::reading(n, status), out)
+    within::send_request(
+        r,
+        good,
+        k,
+        &[first, n],
+        &[],
+        within::reading(n, status),
+        out,
+    )
 }
 
 // Write one block. 6: not 1 to 32 bytes.
@@ -123,8 +96,15 @@ pub fn write(r: ReaderV, m: Mode, uid: [u8; 8], block: u8, bytes: &[u8], out: &m
 {
     let good = within::is_filling(1, bytes.len());
     let k = within::head_for(m, uid, false, 0x21);
-    let p = [block];
-    within::send_request(r, good, k, &p, bytes, within::blank(PhaseV::OtherSent), out)
+    within::send_request(
+        r,
+        good,
+        k,
+        &[block],
+        bytes,
+        within::blank(PhaseV::OtherSent),
+        out,
+    )
 }
 
 // Write several blocks. 6: not 1 to 256 of them, or not as many bytes for each, 1 to 32.
@@ -150,14 +130,12 @@ pub fn lock(r: ReaderV, m: Mode, uid: [u8; 8], block: u8, out: &mut [u8]) -> Tur
     ensures { Called r (lock_call m uid block) out.old result out.new }
 {
     let k = within::head_for(m, uid, false, 0x22);
-    let p = [block];
-    let none = [0u8];
     within::send_request(
         r,
         true,
         k,
-        &p,
-        &none[..0],
+        &[block],
+        &[],
         within::blank(PhaseV::OtherSent),
         out,
     )

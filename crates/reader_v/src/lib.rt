@@ -73,27 +73,19 @@ pub fn new_reader() -> ReaderV
 pub fn is_awaiting(p: PhaseV) -> bool
     ensures { result ≡ awaits p }
 {
-    match p {
-        PhaseV::Ready => false,
-        PhaseV::InRound => true,
-        PhaseV::InSweep => true,
-        PhaseV::QuietSent => true,
-        PhaseV::ReadSent => true,
-        PhaseV::OtherSent => true,
-        PhaseV::Stopped => false,
-    }
+    !matches!(p, PhaseV::Ready | PhaseV::Stopped)
 }
 
 // A row is heard; an empty one is silence. A read's data go to the front of `bytes`, and a sweep's next request to the front of `out`. 11: no row is due;
 // 1: `out` has no room for 112 bits, or, where a read is awaited, `bytes` none for its blocks of 32 bytes each, 33 with status.
+#[tactic(auto, using(std::proofs::lemmas::Bool::Decides::nat_tests), unfolding(crate::specs::HearV::hear_call, crate::specs::HearV::heard_data, crate::specs::HearV::heard_row))]
 pub fn hear(r: ReaderV, row: &[u8], bytes: &mut [u8], out: &mut [u8]) -> TurnV
     ensures value { result ≡ hear_call r row.now (length bytes.old) (length out.old) }
     ensures bytes_after { bytes.new ≡ heard_data r row.now bytes.old out.old }
     ensures out_after { out.new ≡ heard_row r row.now bytes.old out.old }
     ensures result_value { turn_says result ≡ hear_says r row.now (length bytes.old) (length out.old) }
 {
-    let p = r.phase;
-    if !is_awaiting(p) {
+    if !is_awaiting(r.phase) {
         return within::turn(r, AnswerR::Declines(Refusal::NotDue));
     }
     if within::is_short(r, bytes.len(), out.len()) {

@@ -1,18 +1,12 @@
-use mathlib.Core.Path.{◌≡◌, sym, ◌∙◌}
-use lib.ListN.{length}
-use Rattle.reader_v.specs.MetLaws.{met_next, met_here, met_done}
-use borrow.Author.Rules.{rules}
-use native.Mathlib.Omega.{arith}
+-- `reader_v::within::first_met` meets its contract: the place of the first flag that is not 0. Assumes nothing.
+use Rattle.std.proofs.Common.{◌≡◌, length, not, eqb, rules, tests}
+use Rattle.std.proofs.lemmas.Iterator.{YieldsList-from_slice}
+use Rattle.std.proofs.lemmas.Iterator.Search.{position_from_yields_List}
+use Rattle.reader_v.specs.MetLaws.{met_place}
 use Rattle.reader_v.proofs.within.first_met.Goals as goal
 
-pub loop-i-init : goal.loop-i-init
-loop-i-init c = (omega arith, omega arith)
-
-pub returns-then-met-i-ne0 : goal.returns-then-met-i-ne0
-returns-then-met-i-ne0 c = let n : length c.args.met ≡ 240 = search rules in sym (met_here c.args.met c.loop-i.i (omega arith) c.if-met-i-ne0.true) ∙ c.loop-i.invariant.1
-
-pub loop-i-preserved : goal.loop-i-preserved
-loop-i-preserved c = let n : length c.args.met ≡ 240 = search rules in (omega arith, sym (met_next c.args.met c.loop-i.i (omega arith) c.if-met-i-ne0.false) ∙ c.loop-i.invariant.1)
-
 pub returns : goal.returns
-returns c = let n : length c.args.met ≡ 240 = search rules in let e : c.loop-i.i ≡ 240 = omega arith in sym e ∙ sym (met_done c.args.met c.loop-i.i (omega arith)) ∙ c.loop-i.invariant.1
+returns c =
+    let n : length c.args.met ≡ 240 = search rules in
+    let p = position_from_yields_List (λ x. not (eqb x 0)) _ _ _ c.position.ensures.ran (YieldsList-from_slice c.args.met cc) (λ x b q k. search (rules, tests)) in
+    rw (met_place, n) at p
