@@ -1,4 +1,5 @@
 -- Laws of one slot of a request: what is heard stands at the row's front, a slot's entry of the list, and whether it goes on. Assumes nothing.
+use mathlib.Core.Logic.{◌⊎◌, inl, inr}
 use Rattle.std.specs.Prelude.{◌≡◌, ℕ, ◌+◌, ◌*◌, ◌≤◌, Bool, length, take}
 use Rattle.std.proofs.Math.Path.{refl, ap}
 use Rattle.std.proofs.Common.{sym, ◌∙◌, arith, eq-eqb, ne_eqb}
@@ -82,6 +83,11 @@ module _ (t : TurnB) (d : List ℕ) (at : ℕ) where
 
     pub puts_told : (k : Held) (d' : List ℕ) → told_in a t.atqb ≡ (k, t.atqb) ∷ [] → length t.atqb ≡ 12 → d' ≡ overlay d at (entry k t.atqb) → Puts t 1 d d' at
     puts_told k d' h l o = puts_one k d' (told_by_law ∙ h) l o
+
+-- what a slot held is told either way
+pub puts_either : (t : TurnB) (d : List ℕ) (at : ℕ) (k : Held) (d' : List ℕ) → (t.answer ≡ Marks k) ⊎ (t.answer ≡ Ends k) → length t.atqb ≡ 12 → d' ≡ overlay d at (entry k t.atqb) → Puts t 1 d d' at
+puts_either t d at k d' (inl e) l o = puts_told t d at (Marks k) e k d' refl l o
+puts_either t d at k d' (inr e) l o = puts_told t d at (Ends k) e k d' refl l o
 
 -- at most one
 pub told_most : (t : TurnB) → length (told_by t) ≤ 1

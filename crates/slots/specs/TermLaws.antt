@@ -1,14 +1,12 @@
 -- Laws of the loops that test a field. Assumes nothing.
-use Rattle.std.specs.Prelude.{◌≡◌, ℕ, ◌+◌, ◌≤◌, ◌<◌, Bool, true, false, not, List, [], ◌∷◌, length, take, drop, get_or}
-use Rattle.std.proofs.Common.{add-one, arith, length-take, drop_of_length-le, drop-cons, take-suc, get_or-take, length-take-le, Fits}
+use Rattle.std.specs.Prelude.{◌≡◌, refl, ℕ, ◌+◌, ◌-◌, ◌≤◌, ◌<◌, Bool, true, false, not, List, [], ◌∷◌, length, take, drop, get_or}
+use Rattle.std.proofs.Common.{add-one, arith, length-drop, take_all, drop_of_length-le, drop-cons, take-suc, Fits}
+use Rattle.std.specs.List.{list_any}
 use Rattle.std.specs.Int.{w8}
-use borrow.Author.Tests.{le-leb}
 use Rattle.rows.specs.ListLaws.{all_append, bytes_at_law}
 use Rattle.rows.specs.Rows.{All, any, same}
-use Rattle.limits.specs.Limits.{most_cards}
-use Rattle.selection_b.specs.TypeB.{is_slots}
 use Rattle.slots_rules.specs.Claim.{Typed}
-use Rattle.slots_rules.specs.TermsB.{card_fits, all_fit, apart, within}
+use Rattle.slots_rules.specs.TermsB.{card_fits, all_fit, apart}
 use Rattle.field_b.specs.declared.Drawn.{Drawn}
 
 -- what a card's type says of its bytes
@@ -29,64 +27,43 @@ typed_card d a b e f g h =
 pub all_next : (l : List Drawn) (i : ℕ) (d : Drawn) → i < length l → All Typed (take i l) → Typed (get_or l i d) → All Typed (take (i + 1) l)
 all_next l i d h a f = rw (add-one, take-suc l i d h) (all_append Typed (take i l) (get_or l i d ∷ []) a (f, tt))
 
--- ---- the cards from i on, the first k being the field
+-- ---- the cards from i on
 
-module _ (ds : List Drawn) (k : ℕ) (hk : k ≤ length ds) where
-  at_most : (i : ℕ) → k ≤ i → drop i (take k ds) ≡ []
-  at_most i h = drop_of_length-le (take k ds) {i = i} (rw length-take (omega arith))
+-- the test of the definition is the library's
+pub any_is : (f : Drawn → Bool) (l : List Drawn) → any f l ≡ list_any f l
+unfolding any
+any_is f [] = refl
+any_is f (d ∷ l) = rw (any_is f l)
 
-  module _ (i : ℕ) (d : Drawn) (h : i < k) where
-    one_more : drop i (take k ds) ≡ get_or ds i d ∷ drop (i + 1) (take k ds)
-    one_more = rw (drop-cons (take k ds) i d (rw length-take (omega arith)), get_or-take k ds i d h, add-one)
+-- the rest of a row of cards, lent on
+pub rest_is : (l : List Drawn) (i : ℕ) → take (length l - i) (drop i l) ≡ drop i l
+rest_is l i = take_all (length l - i) (drop i l) (rw length-drop (omega arith))
 
-    pub fit_next : (n : ℕ) → card_fits n (get_or ds i d) ≡ true → all_fit n (drop i (take k ds)) ≡ all_fit n (drop (i + 1) (take k ds))
-    unfolding all_fit
-    fit_next n e = rw (one_more, e)
+module _ (l : List Drawn) (i : ℕ) (d : Drawn) (h : i < length l) where
+  one_more : drop i l ≡ get_or l i d ∷ drop (i + 1) l
+  one_more = rw (drop-cons l i d h, add-one)
 
-    pub fit_not : (n : ℕ) → card_fits n (get_or ds i d) ≡ false → all_fit n (drop i (take k ds)) ≡ false
-    unfolding all_fit
-    fit_not n e = rw (one_more, e)
-
-    pub any_next : (t : Drawn → Bool) → t (get_or ds i d) ≡ false → any t (drop i (take k ds)) ≡ any t (drop (i + 1) (take k ds))
-    unfolding any
-    any_next t e = rw (one_more, e)
-
-    pub any_here : (t : Drawn → Bool) → t (get_or ds i d) ≡ true → any t (drop i (take k ds)) ≡ true
-    unfolding any
-    any_here t e = rw (one_more, e)
-
-    pub apart_next : not (any (λ k. same (get_or ds i d).card.pupi k.card.pupi) (drop (i + 1) (take k ds))) ≡ true
-        → apart (drop i (take k ds)) ≡ apart (drop (i + 1) (take k ds))
-    unfolding apart
-    apart_next e = rw (one_more, e)
-
-    pub apart_not : not (any (λ k. same (get_or ds i d).card.pupi k.card.pupi) (drop (i + 1) (take k ds))) ≡ false
-        → apart (drop i (take k ds)) ≡ false
-    unfolding apart
-    apart_not e = rw (one_more, e)
-
-  pub fit_done : (n i : ℕ) → k ≤ i → all_fit n (drop i (take k ds)) ≡ true
+  pub fit_next : (n : ℕ) → card_fits n (get_or l i d) ≡ true → all_fit n (drop i l) ≡ all_fit n (drop (i + 1) l)
   unfolding all_fit
-  fit_done n i h = rw (at_most i h)
+  fit_next n e = rw (one_more, e)
 
-  pub any_done : (t : Drawn → Bool) (i : ℕ) → k ≤ i → any t (drop i (take k ds)) ≡ false
-  unfolding any
-  any_done t i h = rw (at_most i h)
+  pub fit_not : (n : ℕ) → card_fits n (get_or l i d) ≡ false → all_fit n (drop i l) ≡ false
+  unfolding all_fit
+  fit_not n e = rw (one_more, e)
 
-  pub apart_done : (i : ℕ) → k ≤ i → apart (drop i (take k ds)) ≡ true
+  pub apart_next : not (any (λ k. same (get_or l i d).card.pupi k.card.pupi) (drop (i + 1) l)) ≡ true → apart (drop i l) ≡ apart (drop (i + 1) l)
   unfolding apart
-  apart_done i h = rw (at_most i h)
+  apart_next e = rw (one_more, e)
 
-  -- all tests together
-  pub within_slots : (n : ℕ) → is_slots n ≡ false → within n (take k ds) ≡ false
-  unfolding within
-  within_slots n e = rw e
+  pub apart_not : not (any (λ k. same (get_or l i d).card.pupi k.card.pupi) (drop (i + 1) l)) ≡ false → apart (drop i l) ≡ false
+  unfolding apart
+  apart_not e = rw (one_more, e)
 
-  module _ (n : ℕ) (s : is_slots n ≡ true) (few : k ≤ most_cards) where
-    pub within_not : all_fit n (take k ds) ≡ false → within n (take k ds) ≡ false
-    unfolding within
-    within_not e = rw (s, le-leb (length (take k ds)) most_cards (rw (length-take-le k ds hk) few), e)
+module _ (l : List Drawn) (i : ℕ) (h : length l ≤ i) where
+  pub fit_done : (n : ℕ) → all_fit n (drop i l) ≡ true
+  unfolding all_fit
+  fit_done n = rw (drop_of_length-le l {i = i} h)
 
-    pub within_rest : all_fit n (take k ds) ≡ true → within n (take k ds) ≡ apart (take k ds)
-    unfolding within
-    within_rest e = rw (s, le-leb (length (take k ds)) most_cards (rw (length-take-le k ds hk) few), e)
+  pub apart_done : apart (drop i l) ≡ true
+  unfolding apart
+  apart_done = rw (drop_of_length-le l {i = i} h)

@@ -12,6 +12,7 @@ use field_b::Drawn;
 use limits::MOST_CARDS;
 use reader_b::{AnswerB, ReaderB};
 use refusal::Refusal;
+use selection_b::Request;
 
 // After a request: the reader and its last answer, Ends with what the last slot held, or why the request was declined; the cards; and how many
 // slots stand in the list.
@@ -30,7 +31,7 @@ fn refused(r: ReaderB, cards: [Drawn; MOST_CARDS], e: Refusal) -> Inquired
     Inquired {
         reader: r,
         answer: AnswerB::Declines(e),
-        cards: cards,
+        cards,
         slots: 0,
     }
 }
@@ -50,8 +51,7 @@ pub fn inquire(
     ensures list_after { call result list.new ≡ inquiry_of r wake n afi cards count list.old }
     ensures inquires { Inquires r wake n afi cards count list.old result list.new }
 {
-    let phase = r.phase;
-    if !reader_b::within::is_ready(phase) {
+    if !reader_b::within::is_ready(r.phase) {
         return refused(r, cards, Refusal::NotDue);
     }
     if list.len() < frame_b::LIST_ROOM {
@@ -60,18 +60,20 @@ pub fn inquire(
     if count > MOST_CARDS {
         return refused(r, cards, Refusal::Argument);
     }
-    if !terms::is_within(n, cards, count) {
+    if !terms::is_within(n, &cards[..count]) {
         return refused(r, cards, Refusal::Argument);
     }
-    let p = within::run(wake, n, afi, cards, count, list);
-    let turn = p.turn;
-    let last = turn.reader;
-    let answer = turn.answer;
-    let after = p.cards;
+    let q = Request {
+        wake,
+        slots: n,
+        afi,
+    };
+    let p = within::run(q, cards, count, list);
+    let cards = p.cards;
     Inquired {
-        reader: last,
-        answer: answer,
-        cards: after,
+        reader: p.turn.reader,
+        answer: p.turn.answer,
+        cards,
         slots: p.slots,
     }
 }

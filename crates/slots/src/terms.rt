@@ -1,5 +1,5 @@
 // Is a field one that a request takes? `inquire` declines any other with 6.
-ghost use Rattle.std.specs.Prelude.{◌≡◌, true, not, ◌≤◌, take, drop};
+ghost use Rattle.std.specs.Prelude.{◌≡◌, true, not, ◌≤◌, length};
 ghost use Rattle.limits.specs.Limits.{most_cards};
 ghost use Rattle.rows.specs.Rows.{All, any, same};
 ghost use Rattle.selection_b.specs.TypeB.{is_slots};
@@ -8,42 +8,28 @@ ghost use Rattle.slots_rules.specs.TermsB.{idle_or_halted, card_fits, all_fit, a
 
 use card_b::StateB;
 use field_b::Drawn;
-use limits::MOST_CARDS;
 
 fn is_idle_or_halted(s: StateB) -> bool
     ensures { result ≡ idle_or_halted s }
 {
-    match s {
-        StateB::Off => false,
-        StateB::Idle => true,
-        StateB::Requested(_) => false,
-        StateB::Declared => false,
-        StateB::Active => false,
-        StateB::Halt => true,
-    }
+    matches!(s, StateB::Idle | StateB::Halt)
 }
 
 // Idle or halted, and a slot number from 1 to n.
+#[tactic(auto, using(std::proofs::lemmas::Bool::Decides::nat_tests), unfolding(slots_rules::specs::TermsB::card_fits))]
 pub fn card_fits(n: u8, d: Drawn) -> bool
     ensures value { result ≡ card_fits n d }
     ensures typed { Typed d }
 {
-    let c = d.card;
-    let s = c.state;
-    if !is_idle_or_halted(s) {
-        return false;
-    }
-    card_b::within::is_drawn(d.number, n)
+    is_idle_or_halted(d.card.state) && card_b::within::is_drawn(d.number, n)
 }
 
-fn all_fit(n: u8, cards: [Drawn; MOST_CARDS], count: usize) -> bool
-    requires { count ≤ most_cards }
-    ensures value { result ≡ all_fit n (take count cards) }
-    ensures all { result ≡ true → All Typed (take count cards) }
+fn all_fit(n: u8, cards: &[Drawn]) -> bool
+    ensures value { result ≡ all_fit n cards.now }
+    ensures all { result ≡ true → All Typed cards.now }
 {
-    for i in 0..count {
-        let d = cards[i];
-        if !card_fits(n, d) {
+    for d in cards {
+        if !card_fits(n, *d) {
             return false;
         }
     }
@@ -54,52 +40,34 @@ fn all_fit(n: u8, cards: [Drawn; MOST_CARDS], count: usize) -> bool
 pub fn is_pupi(pupi: [u8; 4], d: Drawn) -> bool
     ensures { result ≡ same pupi d.card.pupi }
 {
-    let c = d.card;
-    let own = c.pupi;
-    rows::is_same(&pupi, &own)
+    rows::is_same(&pupi, &d.card.pupi)
 }
 
-// Has none of the cards from one place to another this PUPI?
-fn is_alone(pupi: [u8; 4], cards: [Drawn; MOST_CARDS], start: usize, count: usize) -> bool
-    requires { (start ≤ count) × (count ≤ most_cards) }
-    ensures { result ≡ not (any (λ k. same pupi k.card.pupi) (drop start (take count cards))) }
+// Has none of the cards this PUPI?
+fn is_alone(pupi: [u8; 4], cards: &[Drawn]) -> bool
+    ensures { result ≡ not (any (λ k. same pupi k.card.pupi) cards.now) }
 {
-    for i in start..count {
-        let d = cards[i];
-        if is_pupi(pupi, d) {
-            return false;
-        }
-    }
-    true
+    !cards.iter().any(|d| is_pupi(pupi, *d))
 }
 
 // Is no PUPI there twice?
-fn is_apart(cards: [Drawn; MOST_CARDS], count: usize) -> bool
-    requires { count ≤ most_cards }
-    ensures { result ≡ apart (take count cards) }
+fn is_apart(cards: &[Drawn]) -> bool
+    ensures { result ≡ apart cards.now }
 {
-    for i in 0..count {
-        let d = cards[i];
-        let c = d.card;
-        let pupi = c.pupi;
-        if !is_alone(pupi, cards, i + 1, count) {
+    for (i, d) in cards.iter().enumerate() {
+        if !is_alone(d.card.pupi, &cards[i + 1..]) {
             return false;
         }
     }
     true
 }
 
-// Are the first cards such a field?
-pub fn is_within(n: u8, cards: [Drawn; MOST_CARDS], count: usize) -> bool
-    requires { count ≤ most_cards }
-    ensures value { result ≡ within n (take count cards) }
-    ensures all { result ≡ true → (All Typed (take count cards) × (is_slots n ≡ true)) }
+// Are the cards such a field?
+#[tactic(auto, using(std::proofs::lemmas::Bool::Decides::nat_tests), unfolding(slots_rules::specs::TermsB::within))]
+pub fn is_within(n: u8, cards: &[Drawn]) -> bool
+    requires { length cards.now ≤ most_cards }
+    ensures value { result ≡ within n cards.now }
+    ensures all { result ≡ true → (All Typed cards.now × (is_slots n ≡ true)) }
 {
-    if !selection_b::sent::is_slots(n) {
-        return false;
-    }
-    if !all_fit(n, cards, count) {
-        return false;
-    }
-    is_apart(cards, count)
+    selection_b::sent::is_slots(n) && all_fit(n, cards) && is_apart(cards)
 }

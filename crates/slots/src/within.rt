@@ -10,7 +10,7 @@ ghost use Rattle.slots.specs.Steps.{told_by, exchanged, stepped, goes_on, ends};
 use field_b::Drawn;
 use limits::MOST_CARDS;
 use reader_b::{AnswerB, ReaderB, TurnB};
-use selection_b::Held;
+use selection_b::{Held, Request};
 
 // After a slot: the reader's turn on what it heard, and the cards.
 #[derive(Clone, Copy)]
@@ -35,26 +35,23 @@ fn exchange(r: ReaderB, cards: [Drawn; MOST_CARDS], count: usize, frame: &[u8]) 
 {
     let mut heard = [0u8; frame_b::ANSWER_ROOM];
     let t = field_b::within::take_all(cards, count, frame, &mut heard);
-    let m = t.bits;
-    let next = reader_b::within::hear_rules(r, &heard[..m]);
-    let after = t.cards;
-    ExchangedB {
-        turn: next,
-        cards: after,
-    }
+    let turn = reader_b::within::hear_rules(r, &heard[..t.bits]);
+    let cards = t.cards;
+    ExchangedB { turn, cards }
 }
 
 // The frame of a slot: in slot 1 the request, in each other its marker.
-fn send(r: ReaderB, wake: bool, afi: u8, cards: [Drawn; MOST_CARDS], count: usize) -> ExchangedB
+fn send(r: ReaderB, q: Request, cards: [Drawn; MOST_CARDS], count: usize) -> ExchangedB
     requires { count ≤ most_cards }
-    ensures { result ≡ exchanged r cards count (out_frame wake afi r) }
+    ensures { result ≡ exchanged r cards count (out_frame q.wake q.afi r) }
 {
     if r.slot == 1 {
-        let request = selection_b::sent::request(wake, r.slots, afi);
-        return exchange(r, cards, count, &request);
+        let request = selection_b::sent::request(q.wake, r.slots, q.afi);
+        exchange(r, cards, count, &request)
+    } else {
+        let marker = selection_b::sent::marker(r.slot);
+        exchange(r, cards, count, &marker)
     }
-    let marker = selection_b::sent::marker(r.slot);
-    exchange(r, cards, count, &marker)
 }
 
 // "0, 1 or 2 for none, one, more".
@@ -73,99 +70,75 @@ pub fn put_entry(k: Held, atqb: [u8; 12], list: &mut [u8], at: usize)
     requires { at + 13 ≤ length list.old }
     ensures { list.new ≡ overlay list.old at (entry k atqb) }
 {
-    let first = [held_number(k)];
-    rows::within::put(list, at, &first);
+    rows::within::put(list, at, &[held_number(k)]);
     rows::within::put(list, at + 1, &atqb);
 }
 
 // What a turn tells of its slot goes into the list. The answer is how many slots it tells of, one or none.
+#[tactic(auto, using(rows::proofs::RowLaws::overlay_nil), unfolding(crate::specs::Steps::told_by, slots_rules::specs::RunB::list_bytes))]
 pub fn put_told(t: TurnB, list: &mut [u8], at: usize) -> usize
     requires { at + 13 ≤ length list.old }
     ensures value { result ≡ length (told_by t) }
     ensures list_after { list.new ≡ overlay list.old at (list_bytes (told_by t)) }
     ensures t_len { length (list_bytes (told_by t)) ≡ 13 * length (told_by t) }
 {
-    let a = t.answer;
-    let atqb = t.atqb;
-    match a {
-        AnswerB::Sends(_) => 0,
-        AnswerB::Marks(k) => {
-            put_entry(k, atqb, list, at);
+    match t.answer {
+        AnswerB::Marks(k) | AnswerB::Ends(k) => {
+            put_entry(k, t.atqb, list, at);
             1
         }
-        AnswerB::Ends(k) => {
-            put_entry(k, atqb, list, at);
-            1
-        }
-        AnswerB::Attached(_) => 0,
-        AnswerB::Halted => 0,
-        AnswerB::Declines(_) => 0,
+        _ => 0,
     }
 }
 
 // One slot more.
-fn step(p: ProgressB, wake: bool, afi: u8, count: usize, list: &mut [u8]) -> ProgressB
+fn step(p: ProgressB, q: Request, count: usize, list: &mut [u8]) -> ProgressB
     requires { (count ≤ most_cards) × (p.slots ≤ p.frames) × (p.frames < most_slots) × (list_room_b ≤ length list.old) }
-    ensures value { result ≡ stepped p wake afi count }
+    ensures value { result ≡ stepped p q.wake q.afi count }
     ensures list_after { list.new ≡ overlay list.old (13 * p.slots) (list_bytes (told_by result.turn)) }
     ensures turn_len { length (list_bytes (told_by result.turn)) ≡ 13 * length (told_by result.turn) }
 {
-    let t = p.turn;
-    let r = t.reader;
-    let cards = p.cards;
-    let x = send(r, wake, afi, cards, count);
-    let next = x.turn;
-    let told = put_told(next, list, 13 * p.slots);
-    let after = x.cards;
+    let x = send(p.turn.reader, q, p.cards, count);
+    let told = put_told(x.turn, list, 13 * p.slots);
+    let cards = x.cards;
     ProgressB {
-        turn: next,
-        cards: after,
+        turn: x.turn,
+        cards,
         frames: p.frames + 1,
         slots: p.slots + told,
     }
 }
 
 // Is a frame out, and has the request a slot left?
+#[tactic(auto, using(std::proofs::lemmas::Bool::Decides::nat_tests), unfolding(crate::specs::Steps::goes_on))]
 fn goes_on(p: ProgressB, n: u8) -> bool
     ensures { result ≡ goes_on p n }
 {
-    if p.frames < n as usize {
-        let t = p.turn;
-        let a = t.answer;
-        return reader_b::within::goes(a);
-    }
-    false
+    p.frames < n as usize && reader_b::within::goes(p.turn.answer)
 }
 
-// A whole request with n slots over the first cards.
-pub fn run(
-    wake: bool,
-    n: u8,
-    afi: u8,
-    cards: [Drawn; MOST_CARDS],
-    count: usize,
-    list: &mut [u8],
-) -> ProgressB
-    requires { (count ≤ most_cards) × (n ≤ most_slots) × (list_room_b ≤ length list.old) }
-    ensures turn_value { result.turn ≡ (inquiry wake n afi (take count cards)).last }
-    ensures cards_value { result.cards ≡ ends cards count (inquiry wake n afi (take count cards)) }
-    ensures slots_value { result.slots ≡ length (inquiry wake n afi (take count cards)).slots }
-    ensures list_after { list.new ≡ overlay list.old 0 (list_bytes (inquiry wake n afi (take count cards)).slots) }
+// A whole request over the first cards.
+pub fn run(q: Request, cards: [Drawn; MOST_CARDS], count: usize, list: &mut [u8]) -> ProgressB
+    requires { (count ≤ most_cards) × (q.slots ≤ most_slots) × (list_room_b ≤ length list.old) }
+    ensures turn_value { result.turn ≡ (inquiry q.wake q.slots q.afi (take count cards)).last }
+    ensures cards_value { result.cards ≡ ends cards count (inquiry q.wake q.slots q.afi (take count cards)) }
+    ensures slots_value { result.slots ≡ length (inquiry q.wake q.slots q.afi (take count cards)).slots }
+    ensures list_after { list.new ≡ overlay list.old 0 (list_bytes (inquiry q.wake q.slots q.afi (take count cards)).slots) }
 {
     let opening = ReaderB {
         phase: reader_b::PhaseB::Slot,
-        slots: n,
+        slots: q.slots,
         slot: 1,
     };
     let t = reader_b::within::turn(opening, AnswerB::Sends(40));
     let mut p = ProgressB {
         turn: t,
-        cards: cards,
+        cards,
         frames: 0,
         slots: 0,
     };
-    while goes_on(p, n) {
-        p = step(p, wake, afi, count, list);
+    while goes_on(p, q.slots) {
+        p = step(p, q, count, list);
     }
     p
 }

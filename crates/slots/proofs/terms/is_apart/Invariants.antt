@@ -1,13 +1,7 @@
 -- `slots::terms::is_apart` meets its contract. The loop's invariant: the test of what is left is the test of all. Assumes nothing.
-use Prim.Native.Nat.{◌≤◌, ◌-◌}
-use mathlib.Core.Path.{◌≡◌}
-use lib.ListN.{length, take, drop}
-use Rattle.limits.specs.Limits.{most_cards}
+use Rattle.std.proofs.Common.{◌≡◌, drop}
 use Rattle.slots_rules.specs.TermsB.{apart}
 use Rattle.slots.proofs.terms.is_apart.Given as goal
 
 abbrev pub invariant-loop-i : goal.invariant-loop-i
-invariant-loop-i l = (l.i ≤ l.count) × (length l.cards ≡ most_cards) × (apart (drop l.i (take l.count l.cards)) ≡ apart (take l.count l.cards))
-
-abbrev pub decreases-loop-i : goal.decreases-loop-i
-decreases-loop-i l = l.count - l.i
+invariant-loop-i l = apart (drop l.i l.cards) ≡ apart l.cards

@@ -25,4 +25,4 @@ unfolding exchanged
 returns c = let a = c.args in
     let t = c.take_all-t in
     let v : Front (heard_from a.frame.now (take a.count a.cards)) t.result.bits t.new.heard = front_of_law _ _ t.result.bits t.new.heard (ap (λ y. y.bits) t.ensures.value) t.ensures.heard_after in
-    ap₂ (λ x y. record { turn = x; cards = y }) (c.hear_rules-next.ensures ∙ ap (hear a.r) v.bits) (ap (λ y. y.cards) t.ensures.value)
+    ap₂ (λ x y. record { turn = x; cards = y }) (c.hear_rules-turn.ensures ∙ ap (hear a.r) v.bits) (ap (λ y. y.cards) t.ensures.value)

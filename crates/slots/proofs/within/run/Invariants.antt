@@ -5,8 +5,8 @@ use Rattle.slots_rules.specs.RunB.{inquiry}
 use Rattle.slots.specs.RunLaws.{Under}
 use Rattle.slots.proofs.within.run.Given as goal
 
-abbrev pub invariant-loop-list : goal.invariant-loop-list
-invariant-loop-list l = Under l.wake l.n l.afi l.count (inquiry l.wake l.n l.afi (take l.count l.initial.p.cards)) l.initial.p.cards l.initial.list l.p l.list
+abbrev pub invariant-loop-q : goal.invariant-loop-q
+invariant-loop-q l = Under l.q.wake l.q.slots l.q.afi l.count (inquiry l.q.wake l.q.slots l.q.afi (take l.count l.initial.p.cards)) l.initial.p.cards l.initial.list l.p l.list
 
-abbrev pub decreases-loop-list : goal.decreases-loop-list
-decreases-loop-list l = l.n - l.p.frames
+abbrev pub decreases-loop-q : goal.decreases-loop-q
+decreases-loop-q l = l.q.slots - l.p.frames

@@ -7,9 +7,9 @@ use Rattle.slots.proofs.within.send.Goals as goal
 
 pub returns-then-r-eq1 : goal.returns-then-r-eq1
 returns-then-r-eq1 c = let a = c.args in
-    c.exchange.ensures ∙ ap (exchanged a.r a.cards a.count) (c.request-request.ensures ∙ out_request a.wake a.afi a.r c.if-r-eq1.true)
+    c.exchange.ensures ∙ ap (exchanged a.r a.cards a.count) (c.request-request.ensures ∙ out_request a.q.wake a.q.afi a.r c.if-r-eq1.true)
 
-pub returns : goal.returns
+pub returns-else-r-eq1 : goal.returns-else-r-eq1
 unfolding next
-returns c = let a = c.args in
-    c.exchange-2.ensures ∙ ap (exchanged a.r a.cards a.count) (c.marker-marker.ensures ∙ out_marker a.wake a.afi a.r c.if-r-eq1.false)
+returns-else-r-eq1 c = let a = c.args in
+    c.exchange-else-r-eq1.ensures ∙ ap (exchanged a.r a.cards a.count) (c.marker-marker.ensures ∙ out_marker a.q.wake a.q.afi a.r c.if-r-eq1.false)
