@@ -1,4 +1,5 @@
 // Document 02, T-05: one request with all its markers over a lent row of Type B cards; the row's cards are changed in place.
+// They are copied into an array, the request is made over it, and they are copied back.
 #![tactic(auto)]
 
 ghost use Rattle.std.specs.Prelude.{◌≡◌, length};
@@ -7,9 +8,10 @@ ghost use Rattle.slots.specs.Promise.{Inquires};
 ghost use Rattle.slots_row.specs.Row.{inquired_row};
 
 use field_b::Drawn;
+use limits::MOST_CARDS;
 use reader_b::{AnswerB, ReaderB};
+use request::Request;
 
-mod pass;
 mod request;
 pub mod within;
 
@@ -35,11 +37,19 @@ pub fn inquire_row(
 ) -> RowInquired
     ensures { (call (inquired_row result cards.new) list.new ≡ inquiry_of r wake n afi cards.old (length cards.old) list.old) × Inquires r wake n afi cards.old (length cards.old) list.old (inquired_row result cards.new) list.new }
 {
-    let mut p = pass::opening(r, wake, n, afi, cards.len(), list);
-    while p.going {
-        let t = pass::turn(p, cards[p.at], list);
-        cards[p.at] = t.card;
-        p = t.next;
+    let k = Request {
+        reader: r,
+        wake,
+        slots: n,
+        afi,
+    };
+    let count = cards.len();
+    let mut held = request::no_cards();
+    if count > MOST_CARDS {
+        return request::row_of(request::make(k, held, count, list));
     }
-    p.inquired
+    held[..count].copy_from_slice(cards);
+    let s = request::make(k, held, count, list);
+    cards.copy_from_slice(&s.cards[..count]);
+    request::row_of(s)
 }

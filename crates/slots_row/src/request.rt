@@ -19,20 +19,19 @@ pub struct Request {
     pub afi: u8,
 }
 
-// Cards that stand where none was fetched yet.
+// Cards that stand where the row has none.
 pub fn no_cards() -> [Drawn; MOST_CARDS]
     ensures { result ≡ no_cards }
 {
     let c = CardB {
-        pupi: [0u8; 4],
+        pupi: [0; 4],
         afi: 0,
         markers: false,
-        application: [0u8; 4],
-        protocol: [0u8; 3],
+        application: [0; 4],
+        protocol: [0; 3],
         state: StateB::Off,
     };
-    let d = Drawn { card: c, number: 0 };
-    [d; MOST_CARDS]
+    [Drawn { card: c, number: 0 }; MOST_CARDS]
 }
 
 // The request over the first cards of an array.
@@ -40,19 +39,16 @@ pub fn make(k: Request, cards: [Drawn; MOST_CARDS], count: usize, list: &mut [u8
     ensures promises { Promises k cards count list.old result list.new }
     ensures cards_len { length result.cards ≡ most_cards }
 {
-    let r = k.reader;
-    slots::inquire(r, k.wake, k.slots, k.afi, cards, count, list)
+    slots::inquire(k.reader, k.wake, k.slots, k.afi, cards, count, list)
 }
 
 // What the call over a row gives besides the row.
 pub fn row_of(s: Inquired) -> RowInquired
     ensures { result ≡ row_of s }
 {
-    let r = s.reader;
-    let a = s.answer;
     RowInquired {
-        reader: r,
-        answer: a,
+        reader: s.reader,
+        answer: s.answer,
         slots: s.slots,
     }
 }

@@ -31,11 +31,8 @@ pub fn inquire_array(
     requires { count ≤ most_cards }
     ensures { Promises (request_of r wake n afi) cards count list.old (inquired_row result.inquired result.cards) list.new }
 {
-    let s = crate::inquire_row(r, wake, n, afi, &mut cards[..count], list);
-    ArrayInquired {
-        cards: cards,
-        inquired: s,
-    }
+    let inquired = crate::inquire_row(r, wake, n, afi, &mut cards[..count], list);
+    ArrayInquired { cards, inquired }
 }
 
 // The plain request's answer, by the lent row. An array holds no row of more cards than the limit, which the plain request declines.
@@ -55,14 +52,11 @@ pub fn inquire_by_row(
         return slots::inquire(r, wake, n, afi, cards, count, list);
     }
     let a = inquire_array(r, wake, n, afi, cards, count, list);
-    let s = a.inquired;
-    let last = s.reader;
-    let answer = s.answer;
-    let after = a.cards;
+    let cards = a.cards;
     Inquired {
-        reader: last,
-        answer: answer,
-        cards: after,
-        slots: s.slots,
+        reader: a.inquired.reader,
+        answer: a.inquired.answer,
+        cards,
+        slots: a.inquired.slots,
     }
 }

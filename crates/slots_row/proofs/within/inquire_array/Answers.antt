@@ -8,6 +8,6 @@ use Rattle.slots_row.proofs.within.inquire_array.Goals as goal
 pub returns : goal.returns
 returns c =
     let a = c.args in
-    let s = c.inquire_row-s in
+    let s = c.inquire_row-inquired in
     let l : length a.cards ≡ most_cards = search rules in
     array_promised (request_of a.r a.wake a.n a.afi) a.cards a.count a.list.now (length-take-le a.count a.cards (omega arith)) s.result s.new.cards s.new.list s.ensures

@@ -1,4 +1,0 @@
-use Rattle.slots_row.proofs.pass.stopped.Goals as goal
-
-pub returns : goal.returns
-returns c = rw c.no_cards-held.ensures
