@@ -40,19 +40,17 @@ pub fn take_one(d: Drawn, frame: &[u8], heard: &mut [u8], bits: usize) -> OneB
     }
 }
 
-// Each of the first n cards takes the frame. The row in which all answers are heard grows from the last card to the first.
+// Each of the first n cards takes the frame, and the row in which all answers are heard grows from card to card.
 pub fn take_all(start: [Drawn; MOST_CARDS], n: usize, frame: &[u8], heard: &mut [u8]) -> TogetherB
     requires { (n ≤ most_cards) × (answer_room_b ≤ length heard.old) }
     ensures value { result ≡ together start n frame.now }
     ensures heard_after { heard.new ≡ overlay heard.old 0 (heard_from frame.now (take n start)) }
 {
     let mut cards = start;
-    let mut bits: usize = 0;
-    let mut i = n;
-    while 0 < i {
-        i -= 1;
-        let o = take_one(cards[i], frame, heard, bits);
-        cards[i] = o.drawn;
+    let mut bits = 0;
+    for d in cards[..n].iter_mut() {
+        let o = take_one(*d, frame, heard, bits);
+        *d = o.drawn;
         bits = o.bits;
     }
     TogetherB { cards, bits }

@@ -1,45 +1,32 @@
-use mathlib.Core.Path.{◌≡◌, refl, sym, ap, ap₂, ◌∙◌}
-use native.Mathlib.Omega.{arith}
-use borrow.Author.Rules.{rules}
-use lib.ListN.{length, length-set}
-use Rattle.field_b.specs.TakeBLaws.{under_turn, from_done, heard_none}
-use Rattle.field.specs.TakeLaws.{from_none, front_fits}
-use Rattle.rows.proofs.RowLaws.{overlay_nil}
+use Rattle.std.proofs.Common.{length, take, drop, refl, sym, ap, ap₂, ◌++◌, ◌∙◌, arith}
+use Rattle.field.specs.TakeLaws.{front_fits}
+use Rattle.field_b.specs.CallsB.{cards_after}
+use Rattle.field_b.specs.TakeBLaws.{under_none, under_turn, under_done}
 use Rattle.field_b.proofs.within.take_all.Goals as goal
 
-pub loop-i-init : goal.loop-i-init
-loop-i-init c = let a = c.args in (
-  omega arith,
-  search rules,
-  search rules,
-  refl,
-  record {
-    count = rw (heard_none a.frame.now a.n a.start) refl;
-    row = rw (heard_none a.frame.now a.n a.start) (sym (overlay_nil _ 0));
-    cards = from_none _ a.n a.start;
-  },
-)
+pub loop-d-init : goal.loop-d-init
+loop-d-init c = record { size = refl; under = under_none _ _ _ }
 
 pub take_one-o-requires : goal.take_one-o-requires
-take_one-o-requires c = let l = c.loop-i in
-    let a = c.args in
-    let u = l.invariant.4 in
-    (omega (arith, l.invariant.3, u.count, front_fits a.heard.now _ _ (sym (ap length u.row) ∙ l.invariant.3)), omega (arith, l.invariant.3))
+take_one-o-requires c =
+    let l = c.loop-d in
+    let u = l.invariant.under in
+    (omega (arith, l.invariant.size, u.count, front_fits c.args.heard.now _ _ (sym (ap length u.row) ∙ l.invariant.size)), omega (arith, l.invariant.size))
 
-pub loop-i-preserved : goal.loop-i-preserved
-loop-i-preserved c = let l = c.loop-i in
+pub loop-d-preserved : goal.loop-d-preserved
+loop-d-preserved c =
+    let l = c.loop-d in
     let a = c.args in
-    let t = c.take_one-o in (
-      omega arith,
-      simp length-set (omega arith),
-      omega arith,
-      t.auto.heard ∙ l.invariant.3,
-      under_turn a.heard.now a.start a.n a.frame.now l.heard l.cards l.bits l.i l.invariant.4 (omega arith) (omega arith) (omega arith)
-          _ t.result t.ensures.value t.new.heard t.ensures.heard_after,
-    )
+    let t = c.take_one-o in
+    record {
+      size = t.auto.heard ∙ l.invariant.size;
+      under = under_turn a.frame.now (take a.n a.start) l.d-index _ c.loop-d-test.true a.heard.now l.heard l.d-items l.bits l.invariant.under t.result t.ensures.value t.new.heard t.ensures.heard_after;
+    }
 
 pub returns : goal.returns
-returns c = let l = c.loop-i in
+unfolding cards_after
+returns c =
+    let l = c.loop-d in
     let a = c.args in
-    let u = l.invariant.4 in
-    let e : l.i ≡ 0 = omega arith in record { value = ap₂ (λ x m. record { cards = x; bits = m }) (rw e at u.cards ∙ from_done a.frame.now a.n a.start) (rw e at u.count); heard_after = rw e at u.row }
+    let d = under_done a.heard.now (take a.n a.start) a.frame.now l.heard l.d-items l.bits l.d-index l.invariant.under c.loop-d-test.false in
+    record { value = ap₂ (λ x m. record { cards = x ++ drop a.n a.start; bits = m }) d.0 d.1; heard_after = d.2 }
