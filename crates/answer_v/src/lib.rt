@@ -11,6 +11,7 @@ use refusal::Refusal;
 use selection_b::Held;
 
 // What was heard in a slot of a round: of one tag its DSFID and its UID, else zeros.
+// Kept: a slot is told with zeros where no one tag stands (`held_says`, `telling`), so they stand beside what was held.
 #[derive(Clone, Copy)]
 pub struct SlotV {
     pub says: Result<Held, Refusal>,

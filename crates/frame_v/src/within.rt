@@ -30,6 +30,7 @@ fn row_crc(row: &[u8], n: usize) -> u16
     ensures { result ≡ crc_b (bytes_of n row.now) }
 {
     let mut c: u16 = 0xFFFF;
+    // Kept: chunks of eight bits would be counted off from the first n bytes and read by `byte_at` at 0, which is no plainer.
     for i in 0..n {
         c = shift_byte(c, parity::within::byte_at(row, 8 * i));
     }

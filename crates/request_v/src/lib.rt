@@ -69,6 +69,7 @@ pub enum Deed {
     Resets,
 }
 
+// Kept: docs/PROMISES.md promises `request_v::flags_of` by this name.
 pub fn flags_of(x: u8) -> Flags
     ensures { result ≡ flags_of x }
 {

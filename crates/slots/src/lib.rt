@@ -39,6 +39,7 @@ fn refused(r: ReaderB, cards: [Drawn; MOST_CARDS], e: Refusal) -> Inquired
 // REQB, or WUPB where wake, with n slots and then the marker of each other slot, over a field, the first cards of the array. What each slot held goes
 // into the lent list from its front on, 13 bytes a slot. Declined, with all unchanged: 11, the reader is not ready; 1, the list has less than 208
 // bytes; 6, N, a slot number or the field is not one that a request takes.
+// Kept: docs/PROMISES.md promises `slots::inquire` with these parameters, and cards by value hold to fixed memory.
 pub fn inquire(
     r: ReaderB,
     wake: bool,

@@ -103,6 +103,7 @@ fn put_shown(
     ensures out_after { out.new ≡ overlay out.old 8 (air_bits (shown_from status size memory.now locks.now first count)) }
 {
     let mut at: usize = 1;
+    // Kept: the loop counts blocks; a chain would cut them from the memory, zip them with the locks, skip and take, which is no plainer.
     for i in 0..count {
         at += put_block(memory, locks, size, first + i, status, out, at);
     }
