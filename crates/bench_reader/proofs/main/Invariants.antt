@@ -1,5 +1,0 @@
--- `bench_reader::main` meets its contract. The measure is the number of turns that are left. Assumes nothing.
-use Rattle.bench_reader.proofs.main.Given as goal
-
-abbrev pub decreases-loop-turns : goal.decreases-loop-turns
-decreases-loop-turns l = l.turns
