@@ -1,10 +1,10 @@
 -- Document 01, "RATS, ATS and blocks": its values as one table of theorems, so that a definition cannot change together with its code.
-use Rattle.std.specs.Prelude.{◌≡◌, refl, ℕ, Bool, true, false, List, [], ◌∷◌, map}
+use Rattle.std.specs.Prelude.{◌≡◌, refl, ℕ, true, false, List, [], ◌∷◌, map}
 use Rattle.refusal.specs.declared.Refusal.TheVariants.{Silence, Length}
 use Rattle.frame.specs.Frame.{Good, Fault}
 use Rattle.selection.specs.Selection.{size}
 use Rattle.block.specs.declared.Block.{Block}
-use Rattle.block.specs.declared.Block.TheVariants.{I, Ack, Nak, Deselect, Wtx, Unknown, Nothing}
+use Rattle.block.specs.declared.Block.TheVariants.{I, Ack, Nak, Deselect, Wtx, Unknown}
 use Rattle.block.specs.Block.{first_byte, block_bytes, kind, block_of, verdict, wtx_ok}
 use Rattle.block.specs.Cut.{payload_max, follows, part, fewest, fits, cut_from, cut}
 

@@ -1,7 +1,7 @@
 -- The I blocks in which a message goes out, in plain words: as few as can be, each but the last full and chained, the payloads joined are the
 -- message, the numbers alternate. Assumes nothing.
-use Rattle.std.specs.Prelude.{◌≡◌, refl, Bool, true, false, not, List, [], ◌∷◌, ◌++◌, map, ℕ, zero, suc, ◌+◌, ◌-◌, ◌≤◌, ◌<◌, length, drop, ltb}
-use Rattle.std.proofs.Common.{sym, ap, ap₂, ◌∙◌, append-nil, arith, length-drop, take-append-drop, take_all, drop-drop, lt-ltb, le-ltb, ltb-true, ltb-false}
+use Rattle.std.specs.Prelude.{◌≡◌, refl, Bool, true, false, not, List, [], ◌∷◌, map, ℕ, zero, suc, ◌+◌, ◌-◌, ◌≤◌, ◌<◌, length, drop, ltb}
+use Rattle.std.proofs.Common.{ap, ap₂, ◌∙◌, append-nil, arith, length-drop, take-append-drop, take_all, drop-drop, lt-ltb, le-ltb, ltb-true, ltb-false}
 use Rattle.std.proofs.Math.Nat.{sub-zero}
 use Rattle.block.specs.declared.Block.{Block}
 use Rattle.block.specs.declared.Block.TheVariants.{I}

@@ -1,5 +1,6 @@
 -- A row that is read to lent bytes, and a block's row that is written. Assumes nothing.
 use Rattle.std.specs.Prelude.{◌≡◌, refl, ℕ, ◌+◌, ◌*◌, ◌≤◌, ◌<◌, List, [], ◌∷◌, ◌++◌, length, take, drop, replicate, Result, Ok, Err}
+use Rattle.std.specs.Result.{result_unwrap_or}
 use Rattle.std.proofs.Common.{sym, ap, ◌∙◌, arith, length-append, length-take, length-take-le}
 use Rattle.limits.specs.Limits.{row_room}
 use Rattle.rows.specs.Rows.{overlay}
@@ -40,6 +41,13 @@ module _ (own most room : ℕ) (row out out' : List ℕ) (r : Result ℕ Refusal
       let v = read_verdict room (read_crc 3 most row) r n out out' a k m in
       let g : good_bytes (heard_row own row) ≡ take n out' = good ∙ ap good_bytes v.0 in
       (sym (rw g v.1), m ∙ rw (k, good))
+
+  pub row_read : (result_unwrap_or r 0 ≡ length (good_bytes (heard_row own row))) × (out' ≡ overlay out 0 (good_bytes (heard_row own row)))
+  row_read = go r refl
+    where
+      go : (x : Result ℕ Refusal) → r ≡ x → (result_unwrap_or r 0 ≡ length (good_bytes (heard_row own row))) × (out' ≡ overlay out 0 (good_bytes (heard_row own row)))
+      go (Err e) k = rw k (row_none e k)
+      go (Ok n) k = rw k (row_some n k)
 
 -- bytes read to the front of a row are no more than it holds, and are its first ones
 pub read_fits : (n : ℕ) (out out' l : List ℕ) → n ≡ length l → out' ≡ overlay out 0 l → n ≤ length out'

@@ -1,9 +1,9 @@
 -- What a block's row is where it is heard. Assumes nothing.
 use Rattle.std.specs.Prelude.{◌≡◌, refl, ℕ, ◌+◌, ◌*◌, ◌/◌, ◌%◌, ◌≤◌, ◌<◌, Bool, true, false, cond, List, [], ◌∷◌, length, leb}
-use Rattle.std.proofs.Common.{◌∙◌, arith, length-append, eq-eqb, le-leb, leb-true, leb-false}
+use Rattle.std.proofs.Common.{◌∙◌, arith, eq-eqb, le-leb, leb-true, leb-false}
 use Rattle.std.proofs.lemmas.Bool.{lt-leb}
 use Rattle.rows.specs.Rows.{is_nil, Bytes}
-use Rattle.crc.specs.Crc.{with_crc, crc_bytes}
+use Rattle.crc.specs.Crc.{with_crc}
 use Rattle.crc.specs.CrcLaws.{length_with}
 use Rattle.parity.specs.Bits.{bits_of}
 use Rattle.frame.specs.Frame.{air_byte, standard, whole_bytes, read_frame, read_crc, Good, Fault}

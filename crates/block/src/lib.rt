@@ -4,10 +4,10 @@
 // A block on the air. Only the crates of this repository call these functions.
 pub mod within;
 
-ghost use Rattle.std.specs.Prelude.{◌≡◌, cond, [], ◌∷◌, ◌+◌, ◌≤◌, length};
+ghost use Rattle.std.specs.Prelude.{◌≡◌, cond, ◌∷◌, ◌+◌, ◌≤◌, length, get_or, eqb};
 ghost use Rattle.rows.specs.Rows.{overlay};
-ghost use Rattle.block.specs.Cut.{payload_max, follows, part, part_bytes, fits};
-ghost use Rattle.block.specs.Block.{first_byte, kind, whole, block_of, is_i, block_bytes, bytes_in, wtx_ok};
+ghost use Rattle.block.specs.Cut.{payload_max, follows, part, fits};
+ghost use Rattle.block.specs.Block.{behind, first_byte, kind, whole, block_of, is_i, block_bytes, bytes_in, wtx_ok};
 
 use refusal::Refusal;
 
@@ -25,6 +25,7 @@ pub enum Block {
 }
 
 // A frame's bytes without CRC_A: so many at the front, zeros behind.
+// Kept: no heap, so the bytes stand in a fixed row with their count beside it.
 #[derive(Clone, Copy)]
 pub struct BlockBytes {
     pub bytes: [u8; 256],
@@ -45,15 +46,7 @@ pub enum Told {
 pub fn is_i(b: Block) -> bool
     ensures { result ≡ is_i b }
 {
-    match b {
-        Block::I(_, _) => true,
-        Block::Ack(_) => false,
-        Block::Nak(_) => false,
-        Block::Deselect => false,
-        Block::Wtx(_) => false,
-        Block::Unknown => false,
-        Block::Nothing => false,
-    }
+    matches!(b, Block::I(_, _))
 }
 
 // The longest payload that goes to a receiver of a size index.
@@ -67,58 +60,30 @@ pub fn payload_max(index: u8) -> usize
 pub fn has_more(index: u8, at: usize, len: usize) -> bool
     ensures { result ≡ follows index at len }
 {
-    let most = payload_max(index);
-    if len < most {
-        return false;
-    }
-    at < len - most
+    at < len.saturating_sub(payload_max(index))
 }
 
-// How many bytes that I has as its payload.
-fn part_bytes(index: u8, at: usize, len: usize) -> usize
-    ensures { result ≡ part_bytes index at len }
+// The payload of that I.
+fn part<'a>(index: u8, at: usize, message: &'a [u8]) -> &'a [u8]
+    ensures { result.now ≡ part index at message.now }
 {
-    let most = payload_max(index);
-    if len <= at {
-        return 0;
-    }
-    if len - at < most {
-        return len - at;
-    }
-    most
+    let rest = &message[at.min(message.len())..];
+    &rest[..rest.len().min(payload_max(index))]
 }
 
 // Whether more bytes behind those that are joined fit a buffer of room bytes, and a message.
 pub fn joins_in(joined: usize, bytes: usize, room: usize) -> bool
     ensures { result ≡ fits (joined + bytes) room }
 {
-    if limits::MESSAGE_MAX < joined {
-        return false;
-    }
-    if limits::MESSAGE_MAX - joined < bytes {
-        return false;
-    }
-    joined + bytes <= room
+    joined.saturating_add(bytes) <= room.min(limits::MESSAGE_MAX)
 }
 
 // A value that WTX may have.
+#[tactic(auto, unfolding(crate::specs::Block::wtx_ok))]
 pub fn wtx_ok(v: u8) -> bool
     ensures { result ≡ wtx_ok v }
 {
-    if v < 1 {
-        return false;
-    }
-    v <= 59
-}
-
-// The first byte of an I.
-fn first_of_i(n: bool, chained: bool) -> u8
-    ensures { result ≡ first_byte (Block.I n chained) }
-{
-    if chained {
-        return if n { 0x13 } else { 0x12 };
-    }
-    if n { 0x03 } else { 0x02 }
+    matches!(v, 1..=59)
 }
 
 // A block's first byte; 0 for what is no block.
@@ -126,17 +91,17 @@ fn first_byte(b: Block) -> u8
     ensures { result ≡ first_byte b }
 {
     match b {
-        Block::I(n, chained) => first_of_i(n, chained),
-        Block::Ack(n) => if n { 0xA3 } else { 0xA2 },
-        Block::Nak(n) => if n { 0xB3 } else { 0xB2 },
+        Block::I(n, chained) => 0x02 + u8::from(n) + 0x10 * u8::from(chained),
+        Block::Ack(n) => 0xA2 + u8::from(n),
+        Block::Nak(n) => 0xB2 + u8::from(n),
         Block::Deselect => 0xC2,
         Block::Wtx(_) => 0xF2,
-        Block::Unknown => 0,
-        Block::Nothing => 0,
+        Block::Unknown | Block::Nothing => 0,
     }
 }
 
 // The kind of block that a first byte begins.
+// Kept: no From, since a first byte alone is no block: what follows it decides (`whole_block`).
 fn kind_of(first: u8) -> Block
     ensures { result ≡ kind first }
 {
@@ -155,22 +120,21 @@ fn kind_of(first: u8) -> Block
     }
 }
 
-// That block with what follows its first byte: none, or one byte v, or more.
-fn whole_block(b: Block, none: bool, one: bool, v: u8) -> Block
-    ensures { result ≡ whole b none one v }
+// That block with what follows its first byte: after an I any payload, after a WTX's one byte, after the others none.
+fn whole_block(b: Block, rest: &[u8]) -> Block
+    ensures { result ≡ whole b (eqb (length rest.now) 0) (eqb (length rest.now) 1) (get_or rest.now 0 0) }
 {
     match b {
-        Block::I(n, chained) => Block::I(n, chained),
-        Block::Ack(n) => if none { Block::Ack(n) } else { Block::Unknown },
-        Block::Nak(n) => if none { Block::Nak(n) } else { Block::Unknown },
-        Block::Deselect => if none {
-            Block::Deselect
+        Block::Ack(_) | Block::Nak(_) | Block::Deselect => if rest.is_empty() {
+            b
         } else {
             Block::Unknown
         },
-        Block::Wtx(_) => if one { Block::Wtx(v) } else { Block::Unknown },
-        Block::Unknown => Block::Unknown,
-        Block::Nothing => Block::Nothing,
+        Block::Wtx(_) => match rest {
+            [v] => Block::Wtx(*v),
+            _ => Block::Unknown,
+        },
+        Block::I(_, _) | Block::Unknown | Block::Nothing => b,
     }
 }
 
@@ -178,14 +142,20 @@ fn whole_block(b: Block, none: bool, one: bool, v: u8) -> Block
 pub fn read_block(bytes: &[u8]) -> Block
     ensures { result ≡ block_of bytes.now }
 {
-    if bytes.len() == 0 {
-        return Block::Nothing;
+    match bytes {
+        [] => Block::Nothing,
+        [first, rest @ ..] => whole_block(kind_of(*first), rest),
     }
-    let b = kind_of(bytes[0]);
-    if bytes.len() == 1 {
-        return whole_block(b, true, false, 0);
+}
+
+// The bytes behind a frame's first.
+pub fn behind<'a>(bytes: &'a [u8]) -> &'a [u8]
+    ensures { result.now ≡ behind bytes.now }
+{
+    match bytes {
+        [] => bytes,
+        [_, rest @ ..] => rest,
     }
-    whole_block(b, false, bytes.len() == 2, bytes[1])
 }
 
 // Writes an accepted payload straight behind the bytes that are joined, where it fits; else nothing changes.
@@ -193,70 +163,37 @@ pub fn join(buffer: &mut [u8], joined: usize, payload: &[u8]) -> bool
     ensures value { result ≡ fits (joined + length payload.now) (length buffer.old) }
     ensures buffer_after { buffer.new ≡ cond result (overlay buffer.old joined payload.now) buffer.old }
 {
-    if joins_in(joined, payload.len(), buffer.len()) {
+    let joins = joins_in(joined, payload.len(), buffer.len());
+    if joins {
         rows::within::put(&mut buffer[joined..], 0, payload);
-        return true;
     }
-    false
+    joins
 }
 
-fn no_bytes() -> BlockBytes
-    ensures { result ≡ bytes_in [] }
+// A few bytes as a block's.
+fn bytes_in(few: &[u8]) -> BlockBytes
+    requires { length few.now ≤ 256 }
+    ensures { result ≡ bytes_in few.now }
 {
-    let bytes = [0u8; 256];
+    let mut bytes = [0u8; 256];
+    rows::within::put(&mut bytes, 0, few);
     BlockBytes {
-        bytes: bytes,
-        count: 0,
+        bytes,
+        count: few.len(),
     }
 }
 
-fn one_byte(first: u8) -> BlockBytes
-    ensures { result ≡ bytes_in (first ∷ []) }
+// The bytes of an I.
+fn i_bytes(first: u8, payload: &[u8]) -> BlockBytes
+    requires { length payload.now ≤ 253 }
+    ensures { result ≡ bytes_in (first ∷ payload.now) }
 {
     let mut bytes = [0u8; 256];
     bytes[0] = first;
+    rows::within::put(&mut bytes[1..], 0, payload);
     BlockBytes {
-        bytes: bytes,
-        count: 1,
-    }
-}
-
-fn two_bytes(first: u8, second: u8) -> BlockBytes
-    ensures { result ≡ bytes_in (first ∷ second ∷ []) }
-{
-    let mut bytes = [0u8; 256];
-    bytes[0] = first;
-    bytes[1] = second;
-    BlockBytes {
-        bytes: bytes,
-        count: 2,
-    }
-}
-
-// Writes the payload of the I of a message that begins at place at to the front of a row that has room for it.
-fn payload_in(out: &mut [u8], index: u8, at: usize, message: &[u8]) -> usize
-    requires { payload_max index ≤ length out.old }
-    ensures value { result ≡ part_bytes index at (length message.now) }
-    ensures out_after { out.new ≡ overlay out.old 0 (part index at message.now) }
-{
-    let n = part_bytes(index, at, message.len());
-    if n == 0 {
-        return 0;
-    }
-    rows::within::put(out, 0, &message[at..at + n]);
-    n
-}
-
-// The bytes of that I.
-fn i_bytes(first: u8, index: u8, at: usize, message: &[u8]) -> BlockBytes
-    ensures { result ≡ bytes_in (first ∷ part index at message.now) }
-{
-    let mut bytes = [0u8; 256];
-    bytes[0] = first;
-    let n = payload_in(&mut bytes[1..], index, at, message);
-    BlockBytes {
-        bytes: bytes,
-        count: n + 1,
+        bytes,
+        count: payload.len() + 1,
     }
 }
 
@@ -266,12 +203,9 @@ pub fn block_bytes(b: Block, index: u8, at: usize, message: &[u8]) -> BlockBytes
 {
     let first = first_byte(b);
     match b {
-        Block::I(_, _) => i_bytes(first, index, at, message),
-        Block::Ack(_) => one_byte(first),
-        Block::Nak(_) => one_byte(first),
-        Block::Deselect => one_byte(first),
-        Block::Wtx(v) => two_bytes(first, v),
-        Block::Unknown => no_bytes(),
-        Block::Nothing => no_bytes(),
+        Block::I(_, _) => i_bytes(first, part(index, at, message)),
+        Block::Ack(_) | Block::Nak(_) | Block::Deselect => bytes_in(&[first]),
+        Block::Wtx(v) => bytes_in(&[first, v]),
+        Block::Unknown | Block::Nothing => bytes_in(&[]),
     }
 }

@@ -14,11 +14,7 @@ pub fn read_row(own: u8, row: &[u8], out: &mut [u8]) -> usize
     ensures out_after { out.new ≡ overlay out.old 0 (good_bytes (heard_row own row.now)) }
 {
     let most = selection::numbers::size_of(own);
-    let got = frame::within::read_crc_within(row, most, out);
-    match got {
-        Err(_) => 0,
-        Ok(n) => n,
-    }
+    frame::within::read_crc_within(row, most, out).unwrap_or(0)
 }
 
 // Writes the row of a block's bytes to the front of a lent row that has room for the longest frame.
@@ -31,9 +27,8 @@ pub fn put_block(b: BlockBytes, out: &mut [u8]) -> usize
     if n == 0 {
         return 0;
     }
-    let bytes = b.bytes;
-    let crc = crc::crc_bytes(&bytes[..n]);
-    frame::within::put_bytes(out, 0, &bytes[..n]);
-    frame::within::put_bytes(out, 9 * n, &crc);
+    let bytes = &b.bytes[..n];
+    frame::within::put_bytes(out, 0, bytes);
+    frame::within::put_bytes(out, 9 * n, &crc::crc_bytes(bytes));
     9 * n + 18
 }

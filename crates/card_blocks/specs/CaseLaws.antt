@@ -4,7 +4,7 @@ use Rattle.std.proofs.Common.{sym}
 use Rattle.std.proofs.lemmas.Bool.{false≢true}
 use Rattle.std.specs.Bool.{beq as same}
 use Rattle.limits.specs.Limits.{message_max}
-use Rattle.refusal.specs.declared.Refusal.TheVariants.{Room, TooLong, NotDue}
+use Rattle.refusal.specs.declared.Refusal.TheVariants.{TooLong}
 use Rattle.block.specs.declared.Block.{Block}
 use Rattle.block.specs.declared.Block.TheVariants.{I, Ack, Nak, Deselect, Wtx, Unknown, Nothing}
 use Rattle.block.specs.declared.Told.{Told}

@@ -1,6 +1,6 @@
 // Document 01, "RATS, ATS and blocks": the card's end of the block protocol. No type holds bytes: payloads stay in the lent frame and in
 // the lent messages, and a link holds places and counts. Crate card_link puts it on the air.
-#![tactic(auto)]
+#![tactic(auto, unfolding(crate::specs::CardRules::card_i, crate::specs::CardRules::card_takes_i, crate::specs::CardRules::card_takes_ack, crate::specs::CardRules::card_takes_nak, crate::specs::CardRules::lent_for, crate::specs::CardRules::card_takes, crate::specs::CardRules::card_replies, crate::specs::CardRules::card_asks))]
 
 ghost use Rattle.std.specs.Prelude.{◌≡◌, cond, length, ◌<◌, ◌^◌};
 ghost use Rattle.rows.specs.Rows.{overlay};
@@ -57,28 +57,6 @@ pub fn open(own: u8, reader: u8) -> CardLink
     }
 }
 
-// The same card further on.
-fn card_at(
-    c: CardLink,
-    n: bool,
-    phase: CardPhase,
-    last: Block,
-    joined: usize,
-    at: usize,
-) -> CardLink
-    ensures { result ≡ card_at c n phase last joined at }
-{
-    CardLink {
-        own: c.own,
-        reader: c.reader,
-        number: n,
-        phase,
-        last,
-        joined,
-        at,
-    }
-}
-
 fn silent(c: CardLink, told: Told) -> CardStep
     ensures { result ≡ card_silent c told }
 {
@@ -94,12 +72,9 @@ fn silent(c: CardLink, told: Told) -> CardStep
 fn sends(c: CardLink) -> CardStep
     ensures { result ≡ card_sends c }
 {
-    let last = c.last;
     CardStep {
-        link: c,
-        send: last,
-        told: Told::Quiet,
-        joins: false,
+        send: c.last,
+        ..silent(c, Told::Quiet)
     }
 }
 
@@ -107,10 +82,34 @@ fn sends(c: CardLink) -> CardStep
 fn sends_i(c: CardLink, n: bool, at: usize, len: usize) -> CardStep
     ensures { result ≡ card_i c n at len }
 {
-    if block::has_more(c.reader, at, len) {
-        return sends(card_at(c, n, CardPhase::Answering, Block::I(n, true), 0, at));
+    let chained = block::has_more(c.reader, at, len);
+    let phase = if chained {
+        CardPhase::Answering
+    } else {
+        CardPhase::Receiving
+    };
+    sends(CardLink {
+        number: n,
+        phase,
+        last: Block::I(n, chained),
+        joined: 0,
+        at,
+        ..c
+    })
+}
+
+// A card of this number that owes its host's answer.
+fn owing(c: CardLink, n: bool) -> CardLink
+    ensures { result ≡ card_at c n CardPhase.Owing Block.Nothing 0 0 }
+{
+    CardLink {
+        number: n,
+        phase: CardPhase::Owing,
+        last: Block::Nothing,
+        joined: 0,
+        at: 0,
+        ..c
     }
-    sends(card_at(c, n, CardPhase::Receiving, Block::I(n, false), 0, at))
 }
 
 // An I that is joined: n is the number then, end how many bytes are joined.
@@ -118,20 +117,22 @@ fn joins(c: CardLink, n: bool, chained: bool, end: usize) -> CardStep
     ensures { result ≡ card_joins c n chained end }
 {
     if chained {
-        let link = card_at(c, n, CardPhase::Receiving, Block::Ack(n), end, 0);
+        let link = CardLink {
+            number: n,
+            phase: CardPhase::Receiving,
+            last: Block::Ack(n),
+            joined: end,
+            at: 0,
+            ..c
+        };
         return CardStep {
-            link,
-            send: Block::Ack(n),
-            told: Told::Quiet,
             joins: true,
+            ..sends(link)
         };
     }
-    let link = card_at(c, n, CardPhase::Owing, Block::Nothing, 0, 0);
     CardStep {
-        link,
-        send: Block::Nothing,
-        told: Told::Message(end),
         joins: true,
+        ..silent(owing(c, n), Told::Message(end))
     }
 }
 
@@ -155,19 +156,7 @@ fn next_i(c: CardLink, len: usize) -> CardStep
     sends_i(c, !c.number, c.at + block::payload_max(c.reader), len)
 }
 
-// R(ACK) of the other number. This and what calls it give the step of the rules as far as it goes with the answer that is lent.
-fn next(c: CardLink, phase: CardPhase, len: usize) -> CardStep
-    requires { len < 2 ^ 63 }
-    ensures { lent_for c len result ≡ lent_for c len (card_next c phase len) }
-{
-    match phase {
-        CardPhase::Answering => next_i(c, len),
-        CardPhase::Receiving => silent(c, Told::Quiet),
-        CardPhase::Owing => silent(c, Told::Quiet),
-        CardPhase::Waiting(_) => silent(c, Told::Quiet),
-    }
-}
-
+// This and what calls it give the step of the rules as far as it goes with the answer that is lent.
 fn takes_ack(c: CardLink, n: bool, len: usize) -> CardStep
     requires { len < 2 ^ 63 }
     ensures { lent_for c len result ≡ lent_for c len (card_takes_ack c n len) }
@@ -175,8 +164,10 @@ fn takes_ack(c: CardLink, n: bool, len: usize) -> CardStep
     if n == c.number {
         return sends(c);
     }
-    let phase = c.phase;
-    next(c, phase, len)
+    match c.phase {
+        CardPhase::Answering => next_i(c, len),
+        _ => silent(c, Told::Quiet),
+    }
 }
 
 fn takes_nak(c: CardLink, n: bool) -> CardStep
@@ -185,27 +176,19 @@ fn takes_nak(c: CardLink, n: bool) -> CardStep
     if n == c.number {
         return sends(c);
     }
-    let phase = c.phase;
-    sends(card_at(c, c.number, phase, Block::Ack(c.number), c.joined, c.at))
+    sends(CardLink {
+        last: Block::Ack(c.number),
+        ..c
+    })
 }
 
 // A WTX answer.
-fn granted(c: CardLink, phase: CardPhase, w: u8) -> CardStep
-    ensures { result ≡ card_granted c phase w }
+fn granted(c: CardLink, w: u8) -> CardStep
+    ensures { result ≡ card_granted c c.phase w }
 {
-    match phase {
-        CardPhase::Waiting(v) => {
-            if w == v {
-                return silent(
-                    card_at(c, c.number, CardPhase::Owing, Block::Nothing, 0, 0),
-                    Told::Granted,
-                );
-            }
-            silent(c, Told::Quiet)
-        }
-        CardPhase::Receiving => silent(c, Told::Quiet),
-        CardPhase::Owing => silent(c, Told::Quiet),
-        CardPhase::Answering => silent(c, Told::Quiet),
+    match c.phase {
+        CardPhase::Waiting(v) if w == v => silent(owing(c, c.number), Told::Granted),
+        _ => silent(c, Told::Quiet),
     }
 }
 
@@ -213,10 +196,8 @@ fn deselected(c: CardLink) -> CardStep
     ensures { result ≡ card_rules c Block.Deselect 0 0 0 }
 {
     CardStep {
-        link: open(c.own, c.reader),
         send: Block::Deselect,
-        told: Told::Deselected,
-        joins: false,
+        ..silent(open(c.own, c.reader), Told::Deselected)
     }
 }
 
@@ -225,37 +206,28 @@ fn rules(c: CardLink, b: Block, bytes: usize, room: usize, len: usize) -> CardSt
     requires { len < 2 ^ 63 }
     ensures { lent_for c len result ≡ lent_for c len (card_rules c b bytes room len) }
 {
-    let phase = c.phase;
     match b {
         Block::I(_, chained) => takes_i(c, chained, bytes, room),
         Block::Ack(n) => takes_ack(c, n, len),
         Block::Nak(n) => takes_nak(c, n),
         Block::Deselect => deselected(c),
-        Block::Wtx(w) => granted(c, phase, w),
-        Block::Unknown => silent(c, Told::Quiet),
-        Block::Nothing => silent(c, Told::Quiet),
+        Block::Wtx(w) => granted(c, w),
+        Block::Unknown | Block::Nothing => silent(c, Told::Quiet),
     }
 }
 
 pub fn owes_answer(phase: CardPhase) -> bool
     ensures { result ≡ owes phase }
 {
-    match phase {
-        CardPhase::Owing => true,
-        CardPhase::Receiving => false,
-        CardPhase::Waiting(_) => false,
-        CardPhase::Answering => false,
-    }
+    matches!(phase, CardPhase::Owing)
 }
 
 // A step as far as it goes with an answer of len bytes lent, from which an I is cut.
 fn lent_for(c: CardLink, len: usize, step: CardStep) -> CardStep
     ensures { result ≡ lent_for c len step }
 {
-    let send = step.send;
-    if block::is_i(send) {
-        let link = step.link;
-        if len < link.at {
+    if block::is_i(step.send) {
+        if len < step.link.at {
             return silent(c, Told::Refused(Refusal::Room));
         }
         if limits::MESSAGE_MAX < len {
@@ -270,8 +242,7 @@ fn takes(c: CardLink, b: Block, bytes: usize, room: usize, len: usize) -> CardSt
     requires { len < 2 ^ 63 }
     ensures { result ≡ card_takes c b bytes room len }
 {
-    let phase = c.phase;
-    if owes_answer(phase) {
+    if owes_answer(c.phase) {
         return silent(c, Told::Refused(Refusal::NotDue));
     }
     lent_for(c, len, rules(c, b, bytes, room, len))
@@ -281,28 +252,32 @@ fn takes(c: CardLink, b: Block, bytes: usize, room: usize, len: usize) -> CardSt
 pub fn replies(c: CardLink, len: usize) -> CardStep
     ensures { result ≡ card_replies c len }
 {
-    let phase = c.phase;
-    if owes_answer(phase) {
-        if len <= limits::MESSAGE_MAX {
-            return sends_i(c, c.number, 0, len);
-        }
-        return silent(c, Told::Refused(Refusal::TooLong));
+    if !owes_answer(c.phase) {
+        silent(c, Told::Refused(Refusal::NotDue))
+    } else if len > limits::MESSAGE_MAX {
+        silent(c, Told::Refused(Refusal::TooLong))
+    } else {
+        sends_i(c, c.number, 0, len)
     }
-    silent(c, Told::Refused(Refusal::NotDue))
 }
 
 // The host asks for WTX.
 pub fn asks(c: CardLink, v: u8) -> CardStep
     ensures { result ≡ card_asks c v }
 {
-    let phase = c.phase;
-    if owes_answer(phase) {
-        if block::wtx_ok(v) {
-            return sends(card_at(c, c.number, CardPhase::Waiting(v), Block::Wtx(v), 0, 0));
-        }
-        return silent(c, Told::Refused(Refusal::Argument));
+    if !owes_answer(c.phase) {
+        silent(c, Told::Refused(Refusal::NotDue))
+    } else if !block::wtx_ok(v) {
+        silent(c, Told::Refused(Refusal::Argument))
+    } else {
+        sends(CardLink {
+            phase: CardPhase::Waiting(v),
+            last: Block::Wtx(v),
+            joined: 0,
+            at: 0,
+            ..c
+        })
     }
-    silent(c, Told::Refused(Refusal::NotDue))
 }
 
 // What a card does with a frame's bytes, none where it is silence or damaged. An accepted payload goes straight behind those joined.
@@ -310,14 +285,16 @@ pub fn hears(c: CardLink, bytes: &[u8], answer: &[u8], buffer: &mut [u8]) -> Car
     ensures value { result ≡ card_hears c bytes.now (length buffer.old) (length answer.now) }
     ensures buffer_after { buffer.new ≡ cond result.joins (overlay buffer.old c.joined (behind bytes.now)) buffer.old }
 {
-    let b = block::read_block(bytes);
-    if bytes.len() == 0 {
-        return takes(c, Block::Nothing, 0, buffer.len(), answer.len());
-    }
-    let step = takes(c, b, bytes.len() - 1, buffer.len(), answer.len());
+    let payload = block::behind(bytes);
+    let step = takes(
+        c,
+        block::read_block(bytes),
+        payload.len(),
+        buffer.len(),
+        answer.len(),
+    );
     if step.joins {
-        block::join(buffer, c.joined, &bytes[1..]);
-        return step;
+        block::join(buffer, c.joined, payload);
     }
     step
 }
@@ -326,7 +303,5 @@ pub fn hears(c: CardLink, bytes: &[u8], answer: &[u8], buffer: &mut [u8]) -> Car
 pub fn sent(step: CardStep, answer: &[u8]) -> BlockBytes
     ensures { result ≡ bytes_in (block_bytes step.send (part step.link.reader step.link.at answer.now)) }
 {
-    let send = step.send;
-    let link = step.link;
-    block::block_bytes(send, link.reader, link.at, answer)
+    block::block_bytes(step.send, step.link.reader, step.link.at, answer)
 }

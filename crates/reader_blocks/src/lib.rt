@@ -1,6 +1,6 @@
 // Document 01, "RATS, ATS and blocks": the reader's end of the block protocol. No type holds bytes: payloads stay in the lent frame and in
 // the lent messages, and a link holds places and counts. Crate reader_link puts it on the air.
-#![tactic(auto)]
+#![tactic(auto, unfolding(crate::specs::ReaderRules::reader_i, crate::specs::ReaderRules::reader_again, crate::specs::ReaderRules::reader_repeats, crate::specs::ReaderRules::reader_echoes, crate::specs::ReaderRules::reader_takes_i, crate::specs::ReaderRules::reader_takes_ack, crate::specs::ReaderRules::lent_for, crate::specs::ReaderRules::reader_starts, crate::specs::ReaderRules::reader_parts))]
 
 ghost use Rattle.std.specs.Prelude.{◌≡◌, cond, length, ◌<◌, ◌^◌};
 ghost use Rattle.rows.specs.Rows.{overlay};
@@ -74,38 +74,8 @@ fn done(phase: ReaderPhase) -> ReaderLink
     ensures { result ≡ reader_done phase }
 {
     ReaderLink {
-        own: 0,
-        card: 0,
-        number: false,
         phase,
-        at: 0,
-        joined: 0,
-        again: 0,
-        repeats: 0,
-    }
-}
-
-// The same reader further on.
-fn reader_at(
-    l: ReaderLink,
-    n: bool,
-    phase: ReaderPhase,
-    at: usize,
-    joined: usize,
-    again: u8,
-    repeats: u8,
-) -> ReaderLink
-    ensures { result ≡ reader_at l n phase at joined again repeats }
-{
-    ReaderLink {
-        own: l.own,
-        card: l.card,
-        number: n,
-        phase,
-        at,
-        joined,
-        again,
-        repeats,
+        ..open(0, 0, false)
     }
 }
 
@@ -125,12 +95,7 @@ fn keeps(l: ReaderLink, e: Refusal) -> ReaderStep
 fn stop(e: Refusal) -> ReaderStep
     ensures { result ≡ stops e }
 {
-    ReaderStep {
-        link: done(ReaderPhase::Stopped),
-        send: Block::Nothing,
-        told: Told::Refused(e),
-        joins: false,
-    }
+    keeps(done(ReaderPhase::Stopped), e)
 }
 
 fn sends(l: ReaderLink, b: Block) -> ReaderStep
@@ -148,16 +113,18 @@ fn sends(l: ReaderLink, b: Block) -> ReaderStep
 fn sends_i(l: ReaderLink, n: bool, at: usize, len: usize) -> ReaderStep
     ensures { result ≡ reader_i l n at len }
 {
-    if block::has_more(l.card, at, len) {
-        return sends(
-            reader_at(l, n, ReaderPhase::Talking(Turn::Sending), at, 0, 0, 0),
-            Block::I(n, true),
-        );
-    }
-    sends(
-        reader_at(l, n, ReaderPhase::Talking(Turn::Awaiting), at, 0, 0, 0),
-        Block::I(n, false),
-    )
+    let chained = block::has_more(l.card, at, len);
+    let turn = if chained {
+        Turn::Sending
+    } else {
+        Turn::Awaiting
+    };
+    let link = ReaderLink {
+        phase: ReaderPhase::Talking(turn),
+        at,
+        ..open(l.own, l.card, n)
+    };
+    sends(link, Block::I(n, chained))
 }
 
 // The last I again.
@@ -165,16 +132,13 @@ fn sends_again(l: ReaderLink, t: Turn, chained: bool) -> ReaderStep
     ensures { result ≡ reader_again l t chained }
 {
     if l.again < 2 {
-        let next = reader_at(
-            l,
-            l.number,
-            ReaderPhase::Talking(t),
-            l.at,
-            l.joined,
-            l.again + 1,
-            0,
-        );
-        return sends(next, Block::I(l.number, chained));
+        let link = ReaderLink {
+            phase: ReaderPhase::Talking(t),
+            again: l.again + 1,
+            repeats: 0,
+            ..l
+        };
+        return sends(link, Block::I(l.number, chained));
     }
     stop(Refusal::Forbidden)
 }
@@ -197,8 +161,7 @@ fn ack_own(l: ReaderLink, t: Turn, len: usize) -> ReaderStep
 {
     match t {
         Turn::Sending => next_i(l, len),
-        Turn::Awaiting => stop(Refusal::Forbidden),
-        Turn::Joining => stop(Refusal::Forbidden),
+        Turn::Awaiting | Turn::Joining => stop(Refusal::Forbidden),
     }
 }
 
@@ -218,9 +181,10 @@ fn takes_ack(l: ReaderLink, t: Turn, n: bool, len: usize) -> ReaderStep
     ensures { lent_for l len result ≡ lent_for l len (reader_takes_ack l t n len) }
 {
     if n == l.number {
-        return ack_own(l, t, len);
+        ack_own(l, t, len)
+    } else {
+        ack_other(l, t)
     }
-    ack_other(l, t)
 }
 
 // An I that is joined: n is the number then, end how many bytes are joined.
@@ -228,51 +192,45 @@ fn joins(l: ReaderLink, n: bool, chained: bool, end: usize) -> ReaderStep
     ensures { result ≡ reader_joins l n chained end }
 {
     if chained {
-        let link = reader_at(l, n, ReaderPhase::Talking(Turn::Joining), 0, end, 0, 0);
+        let link = ReaderLink {
+            phase: ReaderPhase::Talking(Turn::Joining),
+            joined: end,
+            ..open(l.own, l.card, n)
+        };
         return ReaderStep {
-            link,
-            send: Block::Ack(n),
-            told: Told::Quiet,
             joins: true,
+            ..sends(link, Block::Ack(n))
         };
     }
     ReaderStep {
-        link: open(l.own, l.card, n),
-        send: Block::Nothing,
         told: Told::Message(end),
         joins: true,
+        ..sends(open(l.own, l.card, n), Block::Nothing)
     }
 }
 
 fn last_is_out(t: Turn) -> bool
     ensures { result ≡ last_is_out t }
 {
-    match t {
-        Turn::Sending => false,
-        Turn::Awaiting => true,
-        Turn::Joining => true,
-    }
+    matches!(t, Turn::Awaiting | Turn::Joining)
 }
 
 fn awaits_i(l: ReaderLink, t: Turn, n: bool) -> bool
     ensures { result ≡ awaits_i l t n }
 {
-    if n == l.number {
-        return last_is_out(t);
-    }
-    false
+    n == l.number && last_is_out(t)
 }
 
 fn takes_i(l: ReaderLink, t: Turn, n: bool, chained: bool, bytes: usize, room: usize) -> ReaderStep
     ensures { result ≡ reader_takes_i l t n chained bytes room }
 {
-    if awaits_i(l, t, n) {
-        if block::joins_in(l.joined, bytes, room) {
-            return joins(l, !l.number, chained, l.joined + bytes);
-        }
-        return stop(Refusal::TooLong);
+    if !awaits_i(l, t, n) {
+        stop(Refusal::Forbidden)
+    } else if !block::joins_in(l.joined, bytes, room) {
+        stop(Refusal::TooLong)
+    } else {
+        joins(l, !l.number, chained, l.joined + bytes)
     }
-    stop(Refusal::Forbidden)
 }
 
 // What it sends after silence or a damaged frame.
@@ -280,8 +238,7 @@ fn asks_again(t: Turn, n: bool) -> Block
     ensures { result ≡ asks_again t n }
 {
     match t {
-        Turn::Sending => Block::Nak(n),
-        Turn::Awaiting => Block::Nak(n),
+        Turn::Sending | Turn::Awaiting => Block::Nak(n),
         Turn::Joining => Block::Ack(n),
     }
 }
@@ -290,10 +247,12 @@ fn repeats(l: ReaderLink, phase: ReaderPhase, b: Block) -> ReaderStep
     ensures { result ≡ reader_repeats l phase b }
 {
     if l.repeats < 2 {
-        return sends(
-            reader_at(l, l.number, phase, l.at, l.joined, l.again, l.repeats + 1),
-            b,
-        );
+        let link = ReaderLink {
+            phase,
+            repeats: l.repeats + 1,
+            ..l
+        };
+        return sends(link, b);
     }
     stop(Refusal::Repeats)
 }
@@ -303,18 +262,12 @@ fn echoes(l: ReaderLink, t: Turn, v: u8) -> ReaderStep
 {
     let w = v % 64;
     if block::wtx_ok(w) {
-        return sends(
-            reader_at(
-                l,
-                l.number,
-                ReaderPhase::Talking(t),
-                l.at,
-                l.joined,
-                l.again,
-                0,
-            ),
-            Block::Wtx(w),
-        );
+        let link = ReaderLink {
+            phase: ReaderPhase::Talking(t),
+            repeats: 0,
+            ..l
+        };
+        return sends(link, Block::Wtx(w));
     }
     stop(Refusal::Forbidden)
 }
@@ -327,10 +280,8 @@ fn rules(l: ReaderLink, t: Turn, b: Block, bytes: usize, room: usize, len: usize
     match b {
         Block::I(n, chained) => takes_i(l, t, n, chained, bytes, room),
         Block::Ack(n) => takes_ack(l, t, n, len),
-        Block::Nak(_) => stop(Refusal::Forbidden),
-        Block::Deselect => stop(Refusal::Forbidden),
+        Block::Nak(_) | Block::Deselect | Block::Unknown => stop(Refusal::Forbidden),
         Block::Wtx(v) => echoes(l, t, v),
-        Block::Unknown => stop(Refusal::Forbidden),
         Block::Nothing => repeats(l, ReaderPhase::Talking(t), asks_again(t, l.number)),
     }
 }
@@ -340,21 +291,12 @@ fn leaves(l: ReaderLink, b: Block) -> ReaderStep
     ensures { result ≡ reader_leaves l b }
 {
     match b {
-        Block::Deselect => {
-            let link = done(ReaderPhase::Finished);
-            ReaderStep {
-                link,
-                send: Block::Nothing,
-                told: Told::Deselected,
-                joins: false,
-            }
-        }
+        Block::Deselect => ReaderStep {
+            told: Told::Deselected,
+            ..sends(done(ReaderPhase::Finished), Block::Nothing)
+        },
         Block::Nothing => repeats(l, ReaderPhase::Leaving, Block::Deselect),
-        Block::I(_, _) => stop(Refusal::Forbidden),
-        Block::Ack(_) => stop(Refusal::Forbidden),
-        Block::Nak(_) => stop(Refusal::Forbidden),
-        Block::Wtx(_) => stop(Refusal::Forbidden),
-        Block::Unknown => stop(Refusal::Forbidden),
+        _ => stop(Refusal::Forbidden),
     }
 }
 
@@ -362,10 +304,8 @@ fn leaves(l: ReaderLink, b: Block) -> ReaderStep
 fn lent_for(l: ReaderLink, len: usize, step: ReaderStep) -> ReaderStep
     ensures { result ≡ lent_for l len step }
 {
-    let send = step.send;
-    if block::is_i(send) {
-        let link = step.link;
-        if len < link.at {
+    if block::is_i(step.send) {
+        if len < step.link.at {
             return keeps(l, Refusal::Room);
         }
         if limits::MESSAGE_MAX < len {
@@ -376,64 +316,48 @@ fn lent_for(l: ReaderLink, len: usize, step: ReaderStep) -> ReaderStep
 }
 
 // What a reader does with a block whose payload has so many bytes, with a buffer of room bytes and a message of len bytes lent.
-fn takes(
-    l: ReaderLink,
-    phase: ReaderPhase,
-    b: Block,
-    bytes: usize,
-    room: usize,
-    len: usize,
-) -> ReaderStep
+fn takes(l: ReaderLink, b: Block, bytes: usize, room: usize, len: usize) -> ReaderStep
     requires { len < 2 ^ 63 }
-    ensures { result ≡ reader_takes l phase b bytes room len }
+    ensures { result ≡ reader_takes l l.phase b bytes room len }
 {
-    match phase {
+    match l.phase {
         ReaderPhase::Talking(t) => lent_for(l, len, rules(l, t, b, bytes, room, len)),
         ReaderPhase::Leaving => leaves(l, b),
-        ReaderPhase::Open => keeps(l, Refusal::NotDue),
-        ReaderPhase::Finished => keeps(l, Refusal::NotDue),
-        ReaderPhase::Stopped => keeps(l, Refusal::NotDue),
+        _ => keeps(l, Refusal::NotDue),
     }
 }
 
 pub fn is_open(phase: ReaderPhase) -> bool
     ensures { result ≡ is_open phase }
 {
-    match phase {
-        ReaderPhase::Open => true,
-        ReaderPhase::Talking(_) => false,
-        ReaderPhase::Leaving => false,
-        ReaderPhase::Finished => false,
-        ReaderPhase::Stopped => false,
-    }
+    matches!(phase, ReaderPhase::Open)
 }
 
 // The host's message, of len bytes.
 pub fn starts(l: ReaderLink, len: usize) -> ReaderStep
     ensures { result ≡ reader_starts l len }
 {
-    let phase = l.phase;
-    if is_open(phase) {
-        if len <= limits::MESSAGE_MAX {
-            return sends_i(l, l.number, 0, len);
-        }
-        return keeps(l, Refusal::TooLong);
+    if !is_open(l.phase) {
+        keeps(l, Refusal::NotDue)
+    } else if len > limits::MESSAGE_MAX {
+        keeps(l, Refusal::TooLong)
+    } else {
+        sends_i(l, l.number, 0, len)
     }
-    keeps(l, Refusal::NotDue)
 }
 
 // The host's DESELECT.
 pub fn parts(l: ReaderLink) -> ReaderStep
     ensures { result ≡ reader_parts l }
 {
-    let phase = l.phase;
-    if is_open(phase) {
-        return sends(
-            reader_at(l, l.number, ReaderPhase::Leaving, 0, 0, 0, 0),
-            Block::Deselect,
-        );
+    if !is_open(l.phase) {
+        return keeps(l, Refusal::NotDue);
     }
-    keeps(l, Refusal::NotDue)
+    let link = ReaderLink {
+        phase: ReaderPhase::Leaving,
+        ..open(l.own, l.card, l.number)
+    };
+    sends(link, Block::Deselect)
 }
 
 // What a reader does with a frame's bytes, none where it is silence or damaged. An accepted payload goes straight behind those joined.
@@ -441,15 +365,16 @@ pub fn hears(l: ReaderLink, bytes: &[u8], message: &[u8], buffer: &mut [u8]) -> 
     ensures value { result ≡ reader_hears l bytes.now (length buffer.old) (length message.now) }
     ensures buffer_after { buffer.new ≡ cond result.joins (overlay buffer.old l.joined (behind bytes.now)) buffer.old }
 {
-    let phase = l.phase;
-    let b = block::read_block(bytes);
-    if bytes.len() == 0 {
-        return takes(l, phase, Block::Nothing, 0, buffer.len(), message.len());
-    }
-    let step = takes(l, phase, b, bytes.len() - 1, buffer.len(), message.len());
+    let payload = block::behind(bytes);
+    let step = takes(
+        l,
+        block::read_block(bytes),
+        payload.len(),
+        buffer.len(),
+        message.len(),
+    );
     if step.joins {
-        block::join(buffer, l.joined, &bytes[1..]);
-        return step;
+        block::join(buffer, l.joined, payload);
     }
     step
 }
@@ -458,7 +383,5 @@ pub fn hears(l: ReaderLink, bytes: &[u8], message: &[u8], buffer: &mut [u8]) -> 
 pub fn sent(step: ReaderStep, message: &[u8]) -> BlockBytes
     ensures { result ≡ bytes_in (block_bytes step.send (part step.link.card step.link.at message.now)) }
 {
-    let send = step.send;
-    let link = step.link;
-    block::block_bytes(send, link.card, link.at, message)
+    block::block_bytes(step.send, step.link.card, step.link.at, message)
 }

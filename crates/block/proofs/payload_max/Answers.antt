@@ -1,5 +1,4 @@
 use native.Mathlib.Omega.{arith}
-use borrow.Author.Rules.{rules}
 use Rattle.block.specs.Cut.{payload_max}
 use Rattle.block.specs.CutLaws.{size_least}
 use Rattle.block.proofs.payload_max.Goals as goal

@@ -1,19 +1,18 @@
 use lib.ListN.{length}
-use native.Mathlib.Omega.{arith}
-use borrow.Author.Rules.{rules}
-use Rattle.card_blocks.specs.CardLaws.{nothing_joins, hears_none, hears_some, hears_joined}
+use mathlib.Core.Path.{sym, ap, ◌∙◌}
+use Rattle.card_blocks.specs.CardFrames.{card_hears}
+use Rattle.card_blocks.specs.CardLaws.{takes_join}
 use Rattle.card_blocks.proofs.hears.Goals as goal
 
-pub returns-then-bytes-eq0 : goal.returns-then-bytes-eq0
-returns-then-bytes-eq0 c = let a = c.args in record { value = rw c.takes.ensures (hears_none a.c a.bytes.now (length a.buffer.now) (length a.answer.now) (omega arith)); buffer_after = rw (c.takes.ensures, nothing_joins a.c 0 (length a.buffer.now) (length a.answer.now)) }
+pub returns-then-step-clause-value : goal.returns-then-step-clause-value
+unfolding card_hears
+returns-then-step-clause-value c = rw (c.takes-step.ensures, c.read_block.ensures, c.behind-payload.ensures)
 
-pub returns-then-step : goal.returns-then-step
-returns-then-step c = let a = c.args in
-    let t = c.takes-step in record {
-      value = rw (t.ensures, c.read_block-b.ensures) (hears_some a.c a.bytes.now (length a.buffer.now) (length a.answer.now) (omega arith));
-      buffer_after = rw c.if-step.true
-          (hears_joined a.c c.read_block-b.result a.bytes.now a.buffer.now _ c.join.result (length a.answer.now) (omega arith) (rw (← t.ensures) c.if-step.true) c.join.ensures.value c.join.ensures.buffer_after);
-    }
+pub returns-then-step-clause-buffer_after : goal.returns-then-step-clause-buffer_after
+returns-then-step-clause-buffer_after c = let a = c.args in
+    let k = takes_join a.c c.read_block.result (length c.behind-payload.result.now) (length a.buffer.now) (length a.answer.now) (ap (λ s. s.joins) (sym c.takes-step.ensures) ∙ c.if-step.true) in
+    rw (c.if-step.true, c.join.ensures.buffer_after, c.join.ensures.value, k, c.behind-payload.ensures)
 
-pub returns : goal.returns
-returns c = let a = c.args in record { value = rw (c.takes-step.ensures, c.read_block-b.ensures) (hears_some a.c a.bytes.now (length a.buffer.now) (length a.answer.now) (omega arith)); buffer_after = rw c.if-step.false }
+pub returns-else-step-clause-value : goal.returns-else-step-clause-value
+unfolding card_hears
+returns-else-step-clause-value c = rw (c.takes-step.ensures, c.read_block.ensures, c.behind-payload.ensures)
