@@ -3,9 +3,10 @@ ghost use Rattle.std.specs.Prelude.{◌≡◌, ◌≤◌, length, take};
 ghost use Rattle.limits.specs.Limits.{row_room};
 ghost use Rattle.rows.specs.Rows.{overlay};
 ghost use Rattle.frame.specs.Calls.{good_bytes};
-ghost use Rattle.block.specs.Row.{block_row, heard_row};
+ghost use Rattle.block.specs.Row.{block_row, heard_row, tested};
 
 use crate::BlockBytes;
+use refusal::Refusal;
 
 // Reads a row to the front of lent bytes as an end of this size index takes it; silence and a damaged frame have no bytes.
 pub fn read_row(own: u8, row: &[u8], out: &mut [u8]) -> usize
@@ -31,4 +32,18 @@ pub fn put_block(b: BlockBytes, out: &mut [u8]) -> usize
     frame::within::put_bytes(out, 0, bytes);
     frame::within::put_bytes(out, 9 * n, &crc::crc_bytes(bytes));
     9 * n + 18
+}
+
+// What each call of a whole end says ahead of its rules: 11 where it is not due, then 1 where the lent row, which has so much room, could not take the
+// longest frame.
+pub fn tested(due: bool, room: usize) -> Result<(), Refusal>
+    ensures { result ≡ tested due room }
+{
+    if !due {
+        Err(Refusal::NotDue)
+    } else if room < limits::ROW_ROOM {
+        Err(Refusal::Room)
+    } else {
+        Ok(())
+    }
 }

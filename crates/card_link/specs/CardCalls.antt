@@ -8,7 +8,7 @@
 -- the answer is `turn_of o`, buffer at exit `o.buffer` and out at exit `overlay out 0 o.sent`. `power_on` and `power_off` have no more
 -- than `poweredOn x` and `poweredOff x`. A call tests 11, 1, 6, 10; a refused call sends nothing and changes nothing. CardSays.antt says the
 -- answers in the table's numbers.
-use Rattle.std.specs.Prelude.{ℕ, Bool, true, false, cond, not, List, [], length, ltb, Result, Ok, Err}
+use Rattle.std.specs.Prelude.{ℕ, Bool, false, cond, not, List, [], length, ltb, Result, Ok, Err}
 use Rattle.limits.specs.Limits.{row_room}
 use Rattle.refusal.specs.declared.Refusal.{Refusal}
 use Rattle.refusal.specs.declared.Refusal.TheVariants.{Room, NotDue}

@@ -1,5 +1,5 @@
 -- The whole card in Protocol, on rows: it does what the block rules say of the bytes that were sent. Assumes nothing.
-use Rattle.std.specs.Prelude.{◌≡◌, ℕ, ◌≤◌, Bool, cond, not, List, []}
+use Rattle.std.specs.Prelude.{◌≡◌, ℕ, ◌≤◌, Bool, List, []}
 use Rattle.std.proofs.Math.Path.{refl}
 use Rattle.std.proofs.Math.Bool.{true, false}
 use borrow.Author.Tests.{le-ltb}
@@ -8,16 +8,15 @@ use Rattle.frame.specs.Frame.{Verdict}
 use Rattle.refusal.specs.declared.Refusal.TheVariants.{NotDue}
 use Rattle.block.specs.declared.Told.TheVariants.{Refused}
 use Rattle.card.specs.declared.CardState.TheVariants.{Protocol}
-use Rattle.block.specs.Out.{Out}
 use Rattle.block.specs.Block.{verdict}
-use Rattle.block.specs.Row.{block_row, heard_row}
+use Rattle.block.specs.Row.{block_row}
 use Rattle.block.specs.HeardLaws.{heard_row_law}
 use Rattle.card_blocks.specs.declared.CardLink.{CardLink}
 use Rattle.card_link.specs.declared.LinkCard.{LinkCard}
 use Rattle.card_blocks.specs.CardRules.{owes, card_takes}
 use Rattle.card_blocks.specs.CardFrames.{card_out, card_block, card_reply}
 use Rattle.limits.specs.Limits.{row_room}
-use Rattle.card_link.specs.CardCalls.{with_row, called, takes_inside, takes_in, owes_in, take_call, reply_call}
+use Rattle.card_link.specs.CardCalls.{with_row, called, takes_inside, take_call, reply_call}
 
 -- a card that owes its host's answer takes no frame
 pub owing_block : (c : CardLink) (v : Verdict) (m buffer : List ℕ) → owes c.phase ≡ true

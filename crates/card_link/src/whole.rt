@@ -8,7 +8,7 @@ ghost use Rattle.block.specs.Row.{heard_row};
 ghost use Rattle.block.specs.Says.{told_says};
 ghost use Rattle.card.specs.Calls.{new_card, new_card_says};
 ghost use Rattle.card_blocks.specs.CardFrames.{card_hears, card_out};
-ghost use Rattle.card_link.specs.CardCalls.{without_link, link_in, left_by, with_row, takes_outside, takes_inside, takes_in, owing, declined, take_call, reply_call, ask_call, powered_on, powered_off, turn_of};
+ghost use Rattle.card_link.specs.CardCalls.{no_link, without_link, link_in, left_by, with_row, takes_outside, takes_inside, takes_in, owing, declined, take_call, reply_call, ask_call, powered_on, powered_off, turn_of};
 ghost use Rattle.card_link.specs.CardSays.{take_says, reply_says, ask_says};
 ghost use Rattle.refusal.specs.Refusal.{made_says};
 
@@ -18,54 +18,50 @@ use card::{Card, CardState};
 use card_blocks::{CardLink, CardStep};
 use refusal::Refusal;
 
+// The link of a card outside Protocol.
+fn no_link() -> CardLink
+    ensures { result ≡ no_link }
+{
+    card_blocks::open(0, 0)
+}
+
 // A card without power. 6: the UID is not valid, or the size index is over 8.
 pub fn new_card(bytes: &[u8], blocks: bool, index: u8) -> Result<LinkCard, Refusal>
     ensures value { result ≡ without_link (new_card bytes.now blocks index) }
     ensures made_value { made_says result ≡ new_card_says bytes.now index }
 {
     let card = card::new_card(bytes, blocks, index)?;
-    let link = card_blocks::open(0, 0);
-    Ok(LinkCard { card, link })
+    Ok(LinkCard {
+        card,
+        link: no_link(),
+    })
 }
 
 // Power comes: a card that was Off is Idle.
 pub fn power_on(x: LinkCard) -> LinkCard
     ensures { result ≡ powered_on x }
 {
-    let card = x.card;
-    let link = x.link;
-    let on = card::power_on(card);
-    LinkCard { card: on, link }
+    LinkCard {
+        card: card::power_on(x.card),
+        ..x
+    }
 }
 
 // Power is lost: Off from anywhere, and no link.
 pub fn power_off(x: LinkCard) -> LinkCard
     ensures { result ≡ powered_off x }
 {
-    let card = x.card;
-    let off = card::power_off(card);
-    let link = card_blocks::open(0, 0);
-    LinkCard { card: off, link }
+    LinkCard {
+        card: card::power_off(x.card),
+        link: no_link(),
+    }
 }
 
 // Does the card owe its host's answer?
 pub fn is_owing(x: LinkCard) -> bool
     ensures { result ≡ owing x }
 {
-    let card = x.card;
-    let link = x.link;
-    let s = card.state;
-    let phase = link.phase;
-    match s {
-        CardState::Off => false,
-        CardState::Idle => false,
-        CardState::Ready(_) => false,
-        CardState::Active => false,
-        CardState::Halt => false,
-        CardState::ReadyStar(_) => false,
-        CardState::ActiveStar => false,
-        CardState::Protocol(_) => card_blocks::owes_answer(phase),
-    }
+    matches!(x.card.state, CardState::Protocol(_)) && card_blocks::owes_answer(x.link.phase)
 }
 
 // Declined: nothing is sent and nothing changes.
@@ -84,29 +80,21 @@ fn link_in(c: Card, s: CardState) -> CardLink
     ensures { result ≡ link_in c s }
 {
     match s {
-        CardState::Off => card_blocks::open(0, 0),
-        CardState::Idle => card_blocks::open(0, 0),
-        CardState::Ready(_) => card_blocks::open(0, 0),
-        CardState::Active => card_blocks::open(0, 0),
-        CardState::Halt => card_blocks::open(0, 0),
-        CardState::ReadyStar(_) => card_blocks::open(0, 0),
-        CardState::ActiveStar => card_blocks::open(0, 0),
         CardState::Protocol(i) => card_blocks::open(c.index, i),
+        _ => no_link(),
     }
 }
 
 fn halted(c: Card) -> LinkCard
     ensures { result ≡ left_by Told.Deselected c no_link }
 {
-    let u = c.uid;
-    let card = Card {
-        uid: u,
-        blocks: c.blocks,
-        index: c.index,
-        state: CardState::Halt,
-    };
-    let link = card_blocks::open(0, 0);
-    LinkCard { card, link }
+    LinkCard {
+        card: Card {
+            state: CardState::Halt,
+            ..c
+        },
+        link: no_link(),
+    }
 }
 
 // The card by the link's news: DESELECT leads to Halt.
@@ -115,10 +103,7 @@ fn left_by(told: Told, card: Card, link: CardLink) -> LinkCard
 {
     match told {
         Told::Deselected => halted(card),
-        Told::Quiet => LinkCard { card, link },
-        Told::Message(_) => LinkCard { card, link },
-        Told::Granted => LinkCard { card, link },
-        Told::Refused(_) => LinkCard { card, link },
+        _ => LinkCard { card, link },
     }
 }
 
@@ -138,15 +123,10 @@ fn finish(card: Card, step: CardStep, answer: &[u8], out: &mut [u8]) -> CardTurn
     ensures value { result ≡ turn_of (with_row card (card_out step answer.now [] 0 [])) }
     ensures out_after { out.new ≡ overlay out.old 0 (with_row card (card_out step answer.now [] 0 [])).sent }
 {
-    let told = step.told;
-    let link = step.link;
-    let b = card_blocks::sent(step, answer);
-    let bits = block::within::put_block(b, out);
-    let left = left_by(told, card, link);
     CardTurn {
-        card: left,
-        bits,
-        told,
+        card: left_by(step.told, card, step.link),
+        bits: block::within::put_block(card_blocks::sent(step, answer), out),
+        told: step.told,
     }
 }
 
@@ -156,15 +136,13 @@ fn take_outside(x: LinkCard, row: &[u8], out: &mut [u8]) -> CardTurn
     ensures value { result ≡ turn_of (takes_outside x row.now []) }
     ensures out_after { out.new ≡ overlay out.old 0 (takes_outside x row.now []).sent }
 {
-    let old = x.card;
-    let t = card::within::take_rules(old, row, out);
-    let card = t.card;
-    let answer = t.answer;
-    let s = card.state;
-    let link = link_in(old, s);
+    let t = card::within::take_rules(x.card, row, out);
     CardTurn {
-        card: LinkCard { card, link },
-        bits: card::within::bits_in(answer),
+        card: LinkCard {
+            card: t.card,
+            link: link_in(x.card, t.card.state),
+        },
+        bits: card::within::bits_in(t.answer),
         told: Told::Quiet,
     }
 }
@@ -182,10 +160,8 @@ fn take_inside(
     ensures buffer_after { buffer.new ≡ (takes_inside x row.now answer.now buffer.old).buffer }
     ensures out_after { out.new ≡ overlay out.old 0 (takes_inside x row.now answer.now buffer.old).sent }
 {
-    let card = x.card;
-    let link = x.link;
-    let step = hear_row(link, row, answer, buffer);
-    finish(card, step, answer, out)
+    let step = hear_row(x.link, row, answer, buffer);
+    finish(x.card, step, answer, out)
 }
 
 // A frame that a card takes, by its state.
@@ -195,33 +171,23 @@ fn take_due(x: LinkCard, row: &[u8], answer: &[u8], buffer: &mut [u8], out: &mut
     ensures buffer_after { buffer.new ≡ (takes_in x.card.state x row.now answer.now buffer.old).buffer }
     ensures out_after { out.new ≡ overlay out.old 0 (takes_in x.card.state x row.now answer.now buffer.old).sent }
 {
-    let card = x.card;
-    let s = card.state;
-    match s {
-        CardState::Off => take_outside(x, row, out),
-        CardState::Idle => take_outside(x, row, out),
-        CardState::Ready(_) => take_outside(x, row, out),
-        CardState::Active => take_outside(x, row, out),
-        CardState::Halt => take_outside(x, row, out),
-        CardState::ReadyStar(_) => take_outside(x, row, out),
-        CardState::ActiveStar => take_outside(x, row, out),
+    match x.card.state {
         CardState::Protocol(_) => take_inside(x, row, answer, buffer, out),
+        _ => take_outside(x, row, out),
     }
 }
 
 // The card takes a frame, any row of any length, with its host's answer and a message buffer lent. What it sends stands at the front of the
 // lent row, which has room for the longest frame. 11: the card owes its host's answer.
+// Kept: three rows are lent beside the frame, as C lends them (`lac_card_take`), and each clause speaks of one of them by its name.
 pub fn take(x: LinkCard, row: &[u8], answer: &[u8], buffer: &mut [u8], out: &mut [u8]) -> CardTurn
     ensures value { result ≡ turn_of (take_call x row.now answer.now buffer.old (length out.old)) }
     ensures buffer_after { buffer.new ≡ (take_call x row.now answer.now buffer.old (length out.old)).buffer }
     ensures out_after { out.new ≡ overlay out.old 0 (take_call x row.now answer.now buffer.old (length out.old)).sent }
     ensures told_value { told_says result.told ≡ take_says x row.now answer.now buffer.old (length out.old) }
 {
-    if is_owing(x) {
-        return declines(x, Refusal::NotDue);
-    }
-    if out.len() < limits::ROW_ROOM {
-        return declines(x, Refusal::Room);
+    if let Err(e) = block::within::tested(!is_owing(x), out.len()) {
+        return declines(x, e);
     }
     take_due(x, row, answer, buffer, out)
 }
@@ -232,16 +198,15 @@ pub fn reply(x: LinkCard, answer: &[u8], out: &mut [u8]) -> CardTurn
     ensures out_after { out.new ≡ overlay out.old 0 (reply_call x answer.now (length out.old)).sent }
     ensures told_value { told_says result.told ≡ reply_says x answer.now (length out.old) }
 {
-    if !is_owing(x) {
-        return declines(x, Refusal::NotDue);
+    if let Err(e) = block::within::tested(is_owing(x), out.len()) {
+        return declines(x, e);
     }
-    if out.len() < limits::ROW_ROOM {
-        return declines(x, Refusal::Room);
-    }
-    let card = x.card;
-    let link = x.link;
-    let step = card_blocks::replies(link, answer.len());
-    finish(card, step, answer, out)
+    finish(
+        x.card,
+        card_blocks::replies(x.link, answer.len()),
+        answer,
+        out,
+    )
 }
 
 // The host asks for WTX before its answer. 6: the value is not 1 to 59.
@@ -250,15 +215,8 @@ pub fn ask(x: LinkCard, wtx: u8, out: &mut [u8]) -> CardTurn
     ensures out_after { out.new ≡ overlay out.old 0 (ask_call x wtx (length out.old)).sent }
     ensures told_value { told_says result.told ≡ ask_says x wtx (length out.old) }
 {
-    if !is_owing(x) {
-        return declines(x, Refusal::NotDue);
+    if let Err(e) = block::within::tested(is_owing(x), out.len()) {
+        return declines(x, e);
     }
-    if out.len() < limits::ROW_ROOM {
-        return declines(x, Refusal::Room);
-    }
-    let card = x.card;
-    let link = x.link;
-    let step = card_blocks::asks(link, wtx);
-    let none = [0u8; 0];
-    finish(card, step, &none, out)
+    finish(x.card, card_blocks::asks(x.link, wtx), &[], out)
 }

@@ -42,11 +42,8 @@ fn selection_bits(a: Answer) -> usize
     ensures { result ≡ bits_of a }
 {
     match a {
-        Answer::Sends(n) => n,
-        Answer::Finds(n) => n,
-        Answer::Selects => 0,
-        Answer::Finishes => 0,
-        Answer::Declines(_) => 0,
+        Answer::Sends(n) | Answer::Finds(n) => n,
+        _ => 0,
     }
 }
 
@@ -56,8 +53,7 @@ fn declined_by(link: Link, e: Refusal) -> LinkAnswer
 {
     match link {
         Link::NoLink => LinkAnswer::Selection(Answer::Declines(e)),
-        Link::RatsSent(_) => LinkAnswer::Blocks(0, Told::Refused(e)),
-        Link::Linked(_) => LinkAnswer::Blocks(0, Told::Refused(e)),
+        Link::RatsSent(_) | Link::Linked(_) => LinkAnswer::Blocks(0, Told::Refused(e)),
     }
 }
 
@@ -65,9 +61,10 @@ fn declined_by(link: Link, e: Refusal) -> LinkAnswer
 fn declines(x: LinkReader, e: Refusal) -> LinkTurn
     ensures { result ≡ (called x (declined_by x.link e) [] []).turn }
 {
-    let link = x.link;
-    let answer = declined_by(link, e);
-    LinkTurn { reader: x, answer }
+    LinkTurn {
+        reader: x,
+        answer: declined_by(x.link, e),
+    }
 }
 
 // A turn of a selection handed back, and its frame at the front of the lent row.
@@ -77,14 +74,12 @@ fn select_turn(t: Turn, out: &mut [u8]) -> LinkTurn
     ensures out_after { out.new ≡ overlay out.old 0 (selecting t []).sent }
 {
     reader::within::put_sent(t, out);
-    let reader = t.reader;
-    let answer = t.answer;
     LinkTurn {
         reader: LinkReader {
-            reader,
+            reader: t.reader,
             link: Link::NoLink,
         },
-        answer: LinkAnswer::Selection(answer),
+        answer: LinkAnswer::Selection(t.answer),
     }
 }
 
@@ -99,24 +94,16 @@ fn over(p: Phase) -> LinkReader
 }
 
 // The reader by its link's phase.
-fn linked(r: Reader, phase: ReaderPhase, l: ReaderLink) -> LinkReader
-    ensures { result ≡ linked r phase l }
+fn linked(r: Reader, l: ReaderLink) -> LinkReader
+    ensures { result ≡ linked r l.phase l }
 {
-    match phase {
-        ReaderPhase::Open => LinkReader {
-            reader: r,
-            link: Link::Linked(l),
-        },
-        ReaderPhase::Talking(_) => LinkReader {
-            reader: r,
-            link: Link::Linked(l),
-        },
-        ReaderPhase::Leaving => LinkReader {
-            reader: r,
-            link: Link::Linked(l),
-        },
+    match l.phase {
         ReaderPhase::Finished => over(Phase::Finished),
         ReaderPhase::Stopped => over(Phase::Stopped),
+        _ => LinkReader {
+            reader: r,
+            link: Link::Linked(l),
+        },
     }
 }
 
@@ -126,15 +113,10 @@ fn finish(r: Reader, step: ReaderStep, message: &[u8], out: &mut [u8]) -> LinkTu
     ensures value { result ≡ (linking r (reader_out step message.now [] 0 [])).turn }
     ensures out_after { out.new ≡ overlay out.old 0 (linking r (reader_out step message.now [] 0 [])).sent }
 {
-    let told = step.told;
-    let link = step.link;
-    let phase = link.phase;
-    let b = reader_blocks::sent(step, message);
-    let bits = block::within::put_block(b, out);
-    let left = linked(r, phase, link);
+    let bits = block::within::put_block(reader_blocks::sent(step, message), out);
     LinkTurn {
-        reader: left,
-        answer: LinkAnswer::Blocks(bits, told),
+        reader: linked(r, step.link),
+        answer: LinkAnswer::Blocks(bits, step.told),
     }
 }
 
@@ -170,25 +152,18 @@ fn hear_block(
 fn hear_ats(r: Reader, own: u8, row: &[u8]) -> LinkTurn
     ensures { result ≡ (after_ats r own (read_ats own row.now) []).turn }
 {
-    let a = selection::ats::read_ats(own, row);
-    match a {
-        Ok(i) => {
-            let l = reader_blocks::open(own, i, false);
-            LinkTurn {
-                reader: LinkReader {
-                    reader: r,
-                    link: Link::Linked(l),
-                },
-                answer: LinkAnswer::Opens(i),
-            }
-        }
-        Err(e) => {
-            let stopped = over(Phase::Stopped);
-            LinkTurn {
-                reader: stopped,
-                answer: LinkAnswer::Blocks(0, Told::Refused(e)),
-            }
-        }
+    match selection::ats::read_ats(own, row) {
+        Ok(i) => LinkTurn {
+            reader: LinkReader {
+                reader: r,
+                link: Link::Linked(reader_blocks::open(own, i, false)),
+            },
+            answer: LinkAnswer::Opens(i),
+        },
+        Err(e) => LinkTurn {
+            reader: over(Phase::Stopped),
+            answer: LinkAnswer::Blocks(0, Told::Refused(e)),
+        },
     }
 }
 
@@ -198,8 +173,7 @@ fn hear_selecting(r: Reader, row: &[u8], out: &mut [u8]) -> LinkTurn
     ensures value { result ≡ (selecting (hear r row.now) []).turn }
     ensures out_after { out.new ≡ overlay out.old 0 (selecting (hear r row.now) []).sent }
 {
-    let t = reader::within::hear_rules(r, row);
-    select_turn(t, out)
+    select_turn(reader::within::hear_rules(r, row), out)
 }
 
 // A row that is due, by how far the reader is.
@@ -215,44 +189,33 @@ fn hear_due(
     ensures buffer_after { buffer.new ≡ (hears_in x.link x.reader row.now message.now buffer.old).buffer }
     ensures out_after { out.new ≡ overlay out.old 0 (hears_in x.link x.reader row.now message.now buffer.old).sent }
 {
-    let r = x.reader;
-    let link = x.link;
-    match link {
-        Link::NoLink => hear_selecting(r, row, out),
-        Link::RatsSent(own) => hear_ats(r, own, row),
-        Link::Linked(l) => hear_block(r, l, row, message, buffer, out),
+    match x.link {
+        Link::NoLink => hear_selecting(x.reader, row, out),
+        Link::RatsSent(own) => hear_ats(x.reader, own, row),
+        Link::Linked(l) => hear_block(x.reader, l, row, message, buffer, out),
     }
 }
 
 fn awaits_block(phase: ReaderPhase) -> bool
     ensures { result ≡ awaits_block phase }
 {
-    match phase {
-        ReaderPhase::Open => false,
-        ReaderPhase::Talking(_) => true,
-        ReaderPhase::Leaving => true,
-        ReaderPhase::Finished => false,
-        ReaderPhase::Stopped => false,
-    }
+    matches!(phase, ReaderPhase::Talking(_) | ReaderPhase::Leaving)
 }
 
 // Is a row due?
-fn frame_due(link: Link, r: Reader) -> bool
-    ensures { result ≡ frame_due link r }
+fn frame_due(x: LinkReader) -> bool
+    ensures { result ≡ frame_due x.link x.reader }
 {
-    let p = r.phase;
-    match link {
-        Link::NoLink => reader::is_awaiting(p),
+    match x.link {
+        Link::NoLink => reader::is_awaiting(x.reader.phase),
         Link::RatsSent(_) => true,
-        Link::Linked(l) => {
-            let phase = l.phase;
-            awaits_block(phase)
-        }
+        Link::Linked(l) => awaits_block(l.phase),
     }
 }
 
 // The reader hears a row, any row of any length, with its host's message and an answer buffer lent. Its next frame stands at the front of the
 // lent row, which has room for the longest frame. 11: no frame is due.
+// Kept: three rows are lent beside the heard one, as C lends them (`lac_reader_hear`), and each clause speaks of one of them by its name.
 pub fn hear(
     x: LinkReader,
     row: &[u8],
@@ -265,26 +228,16 @@ pub fn hear(
     ensures out_after { out.new ≡ overlay out.old 0 (hear_call x row.now message.now buffer.old (length out.old)).sent }
     ensures result_value { link_turn_says result ≡ hear_says x row.now message.now buffer.old (length out.old) }
 {
-    let r = x.reader;
-    let link = x.link;
-    if !frame_due(link, r) {
-        return declines(x, Refusal::NotDue);
-    }
-    if out.len() < limits::ROW_ROOM {
-        return declines(x, Refusal::Room);
+    if let Err(e) = block::within::tested(frame_due(x), out.len()) {
+        return declines(x, e);
     }
     hear_due(x, row, message, buffer, out)
 }
 
-fn is_new(link: Link, r: Reader) -> bool
-    ensures { result ≡ is_new_in link r }
+fn is_new(x: LinkReader) -> bool
+    ensures { result ≡ is_new_in x.link x.reader }
 {
-    let p = r.phase;
-    match link {
-        Link::NoLink => reader::within::is_new(p),
-        Link::RatsSent(_) => false,
-        Link::Linked(_) => false,
-    }
+    matches!(x.link, Link::NoLink) && reader::within::is_new(x.reader.phase)
 }
 
 fn start(sweeps: bool, x: LinkReader, out: &mut [u8]) -> LinkTurn
@@ -292,13 +245,8 @@ fn start(sweeps: bool, x: LinkReader, out: &mut [u8]) -> LinkTurn
     ensures out_after { out.new ≡ overlay out.old 0 (start_call sweeps x (length out.old)).sent }
     ensures result_value { link_turn_says result ≡ start_says x (length out.old) }
 {
-    let r = x.reader;
-    let link = x.link;
-    if !is_new(link, r) {
-        return declines(x, Refusal::NotDue);
-    }
-    if out.len() < limits::ROW_ROOM {
-        return declines(x, Refusal::Room);
+    if let Err(e) = block::within::tested(is_new(x), out.len()) {
+        return declines(x, e);
     }
     let t = reader::within::sends(reader::within::blank(Phase::ReqaSent, sweeps));
     select_turn(t, out)
@@ -328,54 +276,29 @@ pub fn wake(x: LinkReader, bytes: &[u8], out: &mut [u8]) -> LinkTurn
     ensures out_after { out.new ≡ overlay out.old 0 (wake_call x bytes.now (length out.old)).sent }
     ensures result_value { link_turn_says result ≡ wake_says x bytes.now (length out.old) }
 {
-    let r = x.reader;
-    let link = x.link;
-    if !is_new(link, r) {
-        return declines(x, Refusal::NotDue);
+    if let Err(e) = block::within::tested(is_new(x), out.len()) {
+        return declines(x, e);
     }
-    if out.len() < limits::ROW_ROOM {
-        return declines(x, Refusal::Room);
-    }
-    let t = reader::known::wake_turn(r, bytes);
-    select_turn(t, out)
+    select_turn(reader::known::wake_turn(x.reader, bytes), out)
 }
 
 fn is_selected(p: Phase) -> bool
     ensures { result ≡ is_selected p }
 {
-    match p {
-        Phase::New => false,
-        Phase::ReqaSent => false,
-        Phase::AnticollisionSent(_) => false,
-        Phase::SelectSent(_) => false,
-        Phase::HltaSent => false,
-        Phase::Selected => true,
-        Phase::Finished => false,
-        Phase::Stopped => false,
-        Phase::WupaSent => false,
-        Phase::UidSelectSent(_) => false,
-    }
+    matches!(p, Phase::Selected)
 }
 
 // Is the reader selected, and does the card speak blocks?
 fn selects_blocks(r: Reader) -> bool
     ensures { result ≡ rats_due Link.NoLink r }
 {
-    let p = r.phase;
-    if is_selected(p) {
-        return r.sak / 32 % 2 == 1;
-    }
-    false
+    is_selected(r.phase) && r.sak / 32 % 2 == 1
 }
 
-fn rats_due(link: Link, r: Reader) -> bool
-    ensures { result ≡ rats_due link r }
+fn rats_due(x: LinkReader) -> bool
+    ensures { result ≡ rats_due x.link x.reader }
 {
-    match link {
-        Link::NoLink => selects_blocks(r),
-        Link::RatsSent(_) => false,
-        Link::Linked(_) => false,
-    }
+    matches!(x.link, Link::NoLink) && selects_blocks(x.reader)
 }
 
 // Sends RATS with the reader's own size index. 11: no card is selected, or it speaks no blocks; 6: the index is over 8.
@@ -384,23 +307,17 @@ pub fn rats(x: LinkReader, index: u8, out: &mut [u8]) -> LinkTurn
     ensures out_after { out.new ≡ overlay out.old 0 (rats_call x index (length out.old)).sent }
     ensures result_value { link_turn_says result ≡ rats_says x index (length out.old) }
 {
-    let r = x.reader;
-    let link = x.link;
-    if !rats_due(link, r) {
-        return declines(x, Refusal::NotDue);
-    }
-    if out.len() < limits::ROW_ROOM {
-        return declines(x, Refusal::Room);
+    if let Err(e) = block::within::tested(rats_due(x), out.len()) {
+        return declines(x, e);
     }
     if index > 8 {
         return declines(x, Refusal::Argument);
     }
-    let row = selection::within::rats(index);
-    rows::within::put(out, 0, &row);
+    rows::within::put(out, 0, &selection::within::rats(index));
     LinkTurn {
         reader: LinkReader {
-            reader: r,
             link: Link::RatsSent(index),
+            ..x
         },
         answer: LinkAnswer::Blocks(36, Told::Quiet),
     }
@@ -411,12 +328,8 @@ fn is_between(link: Link) -> bool
     ensures { result ≡ between link }
 {
     match link {
-        Link::NoLink => false,
-        Link::RatsSent(_) => false,
-        Link::Linked(l) => {
-            let phase = l.phase;
-            reader_blocks::is_open(phase)
-        }
+        Link::Linked(l) => reader_blocks::is_open(l.phase),
+        _ => false,
     }
 }
 
@@ -425,15 +338,9 @@ fn send_due(x: LinkReader, message: &[u8], out: &mut [u8]) -> LinkTurn
     ensures value { result ≡ (send_in x.link x message.now).turn }
     ensures out_after { out.new ≡ overlay out.old 0 (send_in x.link x message.now).sent }
 {
-    let r = x.reader;
-    let link = x.link;
-    match link {
-        Link::NoLink => declines(x, Refusal::NotDue),
-        Link::RatsSent(_) => declines(x, Refusal::NotDue),
-        Link::Linked(l) => {
-            let step = reader_blocks::starts(l, message.len());
-            finish(r, step, message, out)
-        }
+    match x.link {
+        Link::Linked(l) => finish(x.reader, reader_blocks::starts(l, message.len()), message, out),
+        _ => declines(x, Refusal::NotDue),
     }
 }
 
@@ -443,12 +350,8 @@ pub fn send(x: LinkReader, message: &[u8], out: &mut [u8]) -> LinkTurn
     ensures out_after { out.new ≡ overlay out.old 0 (send_call x message.now (length out.old)).sent }
     ensures result_value { link_turn_says result ≡ send_says x message.now (length out.old) }
 {
-    let link = x.link;
-    if !is_between(link) {
-        return declines(x, Refusal::NotDue);
-    }
-    if out.len() < limits::ROW_ROOM {
-        return declines(x, Refusal::Room);
+    if let Err(e) = block::within::tested(is_between(x.link), out.len()) {
+        return declines(x, e);
     }
     send_due(x, message, out)
 }
@@ -458,16 +361,9 @@ fn deselect_due(x: LinkReader, out: &mut [u8]) -> LinkTurn
     ensures value { result ≡ (deselect_in x.link x).turn }
     ensures out_after { out.new ≡ overlay out.old 0 (deselect_in x.link x).sent }
 {
-    let r = x.reader;
-    let link = x.link;
-    match link {
-        Link::NoLink => declines(x, Refusal::NotDue),
-        Link::RatsSent(_) => declines(x, Refusal::NotDue),
-        Link::Linked(l) => {
-            let step = reader_blocks::parts(l);
-            let none = [0u8; 0];
-            finish(r, step, &none, out)
-        }
+    match x.link {
+        Link::Linked(l) => finish(x.reader, reader_blocks::parts(l), &[], out),
+        _ => declines(x, Refusal::NotDue),
     }
 }
 
@@ -477,12 +373,8 @@ pub fn deselect(x: LinkReader, out: &mut [u8]) -> LinkTurn
     ensures out_after { out.new ≡ overlay out.old 0 (deselect_call x (length out.old)).sent }
     ensures result_value { link_turn_says result ≡ deselect_says x (length out.old) }
 {
-    let link = x.link;
-    if !is_between(link) {
-        return declines(x, Refusal::NotDue);
-    }
-    if out.len() < limits::ROW_ROOM {
-        return declines(x, Refusal::Room);
+    if let Err(e) = block::within::tested(is_between(x.link), out.len()) {
+        return declines(x, e);
     }
     deselect_due(x, out)
 }

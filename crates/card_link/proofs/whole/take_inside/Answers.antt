@@ -1,6 +1,5 @@
 -- `card_link::whole::take_inside` meets its contract, by those of `hear_row` and `finish`. Assumes nothing.
 use Rattle.card_link.specs.WholeLaws.{inside_made}
-use borrow.Author.Rules.{rules}
 use Rattle.card_link.proofs.whole.take_inside.Goals as goal
 
 pub returns : goal.returns
