@@ -11,7 +11,7 @@ use Rattle.parity.specs.Bits.{bits_of}
 use Rattle.crc.specs.Crc.{with_crc, crc_bytes}
 use Rattle.frame.specs.Frame.{air_byte, standard, short}
 use Rattle.selection.specs.Selection.{reqa, rats}
-use Rattle.uid.specs.Calls.{new_uid, valid_bytes, uid_of}
+use Rattle.uid.specs.Calls.{valid_bytes, uid_of}
 use Rattle.reader.specs.Calls.{wake_turn}
 use Rattle.reader.specs.KnownLaws.{wake_turn_says, wakes_seven}
 use Rattle.reader.specs.Reader.{blank, frame, sends, begin}

@@ -24,7 +24,6 @@ use Rattle.reader.specs.declared.Reader.{Reader}
 use Rattle.reader.specs.declared.Answer.{Answer}
 use Rattle.reader.specs.declared.Answer.TheVariants.{Sends, Finds, Selects, Finishes, Declines}
 use Rattle.reader.specs.declared.Turn.{Turn}
-use Rattle.block.specs.declared.Told.{Told}
 use Rattle.block.specs.declared.Told.TheVariants.{Quiet, Refused}
 use Rattle.block.specs.Out.{Out}
 use Rattle.block.specs.Row.{block_row, heard_row}

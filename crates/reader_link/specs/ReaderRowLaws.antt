@@ -1,9 +1,9 @@
 -- The whole reader once it is linked, on rows: it does what the block rules say of the bytes that were sent. Assumes nothing.
-use Rattle.std.specs.Prelude.{◌≡◌, refl, ℕ, ◌≤◌, true, List, []}
+use Rattle.std.specs.Prelude.{◌≡◌, ℕ, ◌≤◌, true, List, []}
 use borrow.Author.Tests.{le-ltb}
 use Rattle.rows.specs.Rows.{Bytes}
 use Rattle.block.specs.Block.{verdict}
-use Rattle.block.specs.Row.{block_row, heard_row}
+use Rattle.block.specs.Row.{block_row}
 use Rattle.block.specs.HeardLaws.{heard_row_law}
 use Rattle.reader_blocks.specs.declared.ReaderLink.{ReaderLink}
 use Rattle.reader_link.specs.declared.Link.TheVariants.{Linked}

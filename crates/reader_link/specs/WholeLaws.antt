@@ -1,8 +1,7 @@
 -- The whole reader's calls, step by step. Assumes nothing.
-use Rattle.std.specs.Prelude.{◌≡◌, refl, ℕ, ◌%◌, ◌≤◌, ◌<◌, Bool, true, false, cond, List, [], length, take, ltb, Result, Ok, Err}
+use Rattle.std.specs.Prelude.{◌≡◌, refl, ℕ, ◌≤◌, ◌<◌, Bool, true, false, cond, List, [], length, take, ltb, Result, Ok, Err}
 use Rattle.std.proofs.Math.Path.{sym}
-use Rattle.std.proofs.Common.{ap, ap₂, ◌∙◌, arith}
-use Rattle.std.proofs.lemmas.Bool.{false≢true}
+use Rattle.std.proofs.Common.{ap, ap₂, ◌∙◌}
 use borrow.Author.Tests.{lt-ltb, le-ltb}
 use Rattle.limits.specs.Limits.{row_room}
 use Rattle.rows.specs.Rows.{overlay}
@@ -11,7 +10,7 @@ use Rattle.frame.specs.Calls.{good_bytes}
 use Rattle.refusal.specs.declared.Refusal.TheVariants.{Room, Argument, NotDue}
 use Rattle.selection.specs.Selection.{rats}
 use Rattle.selection.specs.Heard.{read_ats}
-use Rattle.reader.specs.Reader.{hear, is_new}
+use Rattle.reader.specs.Reader.{hear}
 use Rattle.reader.specs.declared.Reader.{Reader}
 use Rattle.block.specs.declared.BlockBytes.{BlockBytes}
 use Rattle.block.specs.declared.Told.TheVariants.{Quiet}
@@ -28,7 +27,7 @@ use Rattle.reader_link.specs.declared.LinkAnswer.TheVariants.{Blocks}
 use Rattle.reader_link.specs.declared.LinkTurn.{LinkTurn}
 use Rattle.reader_blocks.specs.ReaderFrames.{reader_hears, reader_out, reader_block}
 use Rattle.reader_blocks.specs.ReaderLaws.{block_bytes_law}
-use Rattle.reader_link.specs.ReaderCalls.{Called, called, declined_by, tested, selecting, linked, linking, after_ats, hears_in, is_new_in}
+use Rattle.reader_link.specs.ReaderCalls.{Called, called, declined_by, tested, selecting, linked, linking, after_ats, hears_in}
 use Rattle.refusal.specs.declared.Refusal.{Refusal}
 
 -- ---- what is handed back

@@ -339,7 +339,12 @@ fn send_due(x: LinkReader, message: &[u8], out: &mut [u8]) -> LinkTurn
     ensures out_after { out.new ≡ overlay out.old 0 (send_in x.link x message.now).sent }
 {
     match x.link {
-        Link::Linked(l) => finish(x.reader, reader_blocks::starts(l, message.len()), message, out),
+        Link::Linked(l) => finish(
+            x.reader,
+            reader_blocks::starts(l, message.len()),
+            message,
+            out,
+        ),
         _ => declines(x, Refusal::NotDue),
     }
 }

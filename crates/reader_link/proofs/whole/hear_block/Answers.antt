@@ -1,6 +1,5 @@
 -- `reader_link::whole::hear_block` meets its contract, by those of `hear_row` and `finish`. Assumes nothing.
 use Rattle.reader_link.specs.WholeLaws.{block_made}
-use borrow.Author.Rules.{rules}
 use Rattle.reader_link.proofs.whole.hear_block.Goals as goal
 
 pub returns : goal.returns

@@ -1,6 +1,5 @@
 -- `reader_link::whole::hear_due` meets its contract, by how far the reader is. Assumes nothing.
-use Rattle.reader_link.specs.WholeLaws.{hears_selecting, hears_ats, hears_block}
-use borrow.Author.Rules.{rules}
+use Rattle.reader_link.specs.WholeLaws.{hears_selecting, hears_ats}
 use Rattle.reader_link.proofs.whole.hear_due.Goals as goal
 
 pub returns-in-NoLink : goal.returns-in-NoLink

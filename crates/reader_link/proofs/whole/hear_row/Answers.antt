@@ -3,7 +3,6 @@ use native.Mathlib.Omega.{arith}
 use lib.ListN.{length, length-take}
 use Rattle.block.specs.AirLaws.{read_fits, read_front}
 use Rattle.reader_link.specs.WholeLaws.{heard_as_law}
-use borrow.Author.Rules.{rules}
 use Rattle.reader_link.proofs.whole.hear_row.Goals as goal
 
 pub slice_bounds-bytes-end : goal.slice_bounds-bytes-end

@@ -3,8 +3,7 @@ use mathlib.Core.Path.{ap}
 use mathlib.Core.List.{[]}
 use Rattle.reader_link.specs.ReaderCalls.{selecting}
 use Rattle.reader_link.specs.WholeLaws.{two}
-use borrow.Author.Rules.{rules}
 use Rattle.reader_link.proofs.whole.hear_selecting.Goals as goal
 
 pub returns : goal.returns
-returns c = let both = two c.args.out.now (ap (λ t. selecting t []) c.hear_rules-t.ensures) (c.select_turn.ensures.value, c.select_turn.ensures.out_after) in record { value = both.0; out_after = both.1 }
+returns c = let both = two c.args.out.now (ap (λ t. selecting t []) c.hear_rules.ensures) (c.select_turn.ensures.value, c.select_turn.ensures.out_after) in record { value = both.0; out_after = both.1 }

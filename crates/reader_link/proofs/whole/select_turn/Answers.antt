@@ -1,6 +1,5 @@
 use mathlib.Core.Path.{refl}
 use Rattle.reader_link.specs.ReaderCalls.{selecting}
-use borrow.Author.Rules.{rules}
 use Rattle.reader_link.proofs.whole.select_turn.Goals as goal
 
 pub returns : goal.returns

@@ -1,23 +1,18 @@
 -- `reader_link::whole::send` meets its contract, by that of `send_due`. Assumes nothing.
 use mathlib.Core.Path.{sym, ◌∙◌}
-use borrow.Author.Tests.{not-true, not-false}
 use Rattle.reader_link.specs.ReaderCalls.{between, send_call}
-use Rattle.reader_link.specs.WholeLaws.{two_not_due, two_no_room, two_is_due}
+use Rattle.reader_link.proofs.CallLaws.{err_two, ok_two}
 use Rattle.reader_link.proofs.SaysLaws.{send_said}
-use borrow.Author.Rules.{rules}
 use Rattle.reader_link.proofs.whole.send.Goals as goal
 
-pub returns-then-not-is_between : goal.returns-then-not-is_between
+pub returns-in-Err : goal.returns-in-Err
 unfolding send_call
-returns-then-not-is_between c = let a = c.args in let both = send_said a.x a.out.now a.message.now
-    (two_not_due (between a.x.link) a.x _ a.out.now (sym c.is_between.ensures ∙ c.if-not-is_between.true) c.declines.ensures) in record { value = both.0; out_after = both.1.0; result_value = both.1.1 }
-
-pub returns-then-out-lt-ROW_ROOM : goal.returns-then-out-lt-ROW_ROOM
-unfolding send_call
-returns-then-out-lt-ROW_ROOM c = let a = c.args in let both = send_said a.x a.out.now a.message.now
-    (two_no_room (between a.x.link) a.x _ a.out.now (sym c.is_between.ensures ∙ c.if-not-is_between.false) c.if-out-lt-ROW_ROOM.true c.declines-then-out-lt-ROW_ROOM.ensures) in record { value = both.0; out_after = both.1.0; result_value = both.1.1 }
+returns-in-Err c = let a = c.args in
+    let both = send_said a.x a.out.now a.message.now (err_two (between a.x.link) a.x _ a.out.now c.in-Err.e (rw (← c.is_between.ensures) (sym c.tested.ensures ∙ c.in-Err.is)) c.declines.ensures) in
+    record { value = both.0; out_after = both.1.0; result_value = both.1.1 }
 
 pub returns : goal.returns
 unfolding send_call
-returns c = let a = c.args in let both = send_said a.x a.out.now a.message.now
-    (two_is_due (between a.x.link) a.x _ a.out.now (sym c.is_between.ensures ∙ c.if-not-is_between.false) c.if-out-lt-ROW_ROOM.false (c.send_due.ensures.value, c.send_due.ensures.out_after)) in record { value = both.0; out_after = both.1.0; result_value = both.1.1 }
+returns c = let a = c.args in
+    let both = send_said a.x a.out.now a.message.now (ok_two (between a.x.link) a.x _ a.out.now _ (rw (← c.is_between.ensures) (sym c.tested.ensures ∙ c.in_default.is)) (c.send_due.ensures.value, c.send_due.ensures.out_after)) in
+    record { value = both.0; out_after = both.1.0; result_value = both.1.1 }

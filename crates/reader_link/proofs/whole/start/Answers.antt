@@ -1,27 +1,21 @@
 -- `reader_link::whole::start` meets its contract, by those of `sends` and `select_turn`. Assumes nothing.
 use mathlib.Core.Path.{sym, ap, ◌∙◌}
 use mathlib.Core.List.{[]}
-use borrow.Author.Tests.{not-true, not-false}
 use Rattle.reader.specs.Reader.{sends}
-use Rattle.reader_link.specs.ReaderCalls.{is_new_in, selecting, start_call}
-use Rattle.reader_link.specs.WholeLaws.{two, two_not_due, two_no_room, two_is_due}
+use Rattle.reader_link.specs.ReaderCalls.{is_new_in, start_call, selecting}
+use Rattle.reader_link.specs.WholeLaws.{two}
+use Rattle.reader_link.proofs.CallLaws.{err_two, ok_two}
 use Rattle.reader_link.proofs.SaysLaws.{start_said}
-use borrow.Author.Rules.{rules}
 use Rattle.reader_link.proofs.whole.start.Goals as goal
 
-pub returns-then-not-is_new : goal.returns-then-not-is_new
+pub returns-in-Err : goal.returns-in-Err
 unfolding start_call
-returns-then-not-is_new c = let a = c.args in let both = start_said a.x a.out.now a.sweeps
-    (two_not_due (is_new_in a.x.link a.x.reader) a.x _ a.out.now (sym c.is_new.ensures ∙ c.if-not-is_new.true) c.declines.ensures) in record { value = both.0; out_after = both.1.0; result_value = both.1.1 }
-
-pub returns-then-out-lt-ROW_ROOM : goal.returns-then-out-lt-ROW_ROOM
-unfolding start_call
-returns-then-out-lt-ROW_ROOM c = let a = c.args in let both = start_said a.x a.out.now a.sweeps
-    (two_no_room (is_new_in a.x.link a.x.reader) a.x _ a.out.now (sym c.is_new.ensures ∙ c.if-not-is_new.false) c.if-out-lt-ROW_ROOM.true c.declines-then-out-lt-ROW_ROOM.ensures) in record { value = both.0; out_after = both.1.0; result_value = both.1.1 }
+returns-in-Err c = let a = c.args in
+    let both = start_said a.x a.out.now a.sweeps (err_two (is_new_in a.x.link a.x.reader) a.x _ a.out.now c.in-Err.e (rw (← c.is_new.ensures) (sym c.tested.ensures ∙ c.in-Err.is)) c.declines.ensures) in
+    record { value = both.0; out_after = both.1.0; result_value = both.1.1 }
 
 pub returns : goal.returns
 unfolding start_call
 returns c = let a = c.args in
-    let n = sym c.is_new.ensures ∙ c.if-not-is_new.false in let both = start_said a.x a.out.now a.sweeps
-    (two_is_due (is_new_in a.x.link a.x.reader) a.x _ a.out.now n c.if-out-lt-ROW_ROOM.false
-    (two a.out.now (ap (λ t. selecting t []) (c.sends-t.ensures ∙ ap sends c.blank.ensures)) (c.select_turn.ensures.value, c.select_turn.ensures.out_after))) in record { value = both.0; out_after = both.1.0; result_value = both.1.1 }
+    let both = start_said a.x a.out.now a.sweeps (ok_two (is_new_in a.x.link a.x.reader) a.x _ a.out.now _ (rw (← c.is_new.ensures) (sym c.tested.ensures ∙ c.in_default.is)) (two a.out.now (ap (λ t. selecting t []) (c.sends-t.ensures ∙ ap sends c.blank.ensures)) (c.select_turn.ensures.value, c.select_turn.ensures.out_after))) in
+    record { value = both.0; out_after = both.1.0; result_value = both.1.1 }
