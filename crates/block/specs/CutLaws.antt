@@ -1,7 +1,7 @@
 -- Laws of sizes and of cutting a message. Assumes nothing.
 use Rattle.std.specs.Prelude.{◌≡◌, refl, Bool, true, false, List, [], ◌∷◌, ◌++◌, ℕ, zero, suc, ◌+◌, ◌-◌, ◌*◌, ◌/◌, ◌≤◌, ◌<◌, max, min, leb, ltb, length, take, drop}
 use Rattle.std.proofs.Common.{sym, ap, ◌∙◌, mul-suc, lt_of_not-le, arith, length-append, length-take, length-drop, take-add, take_all, le-ltb, le-leb, leb-true, leb-false}
-use Rattle.std.proofs.Math.ListN.{drop_of_length-le}
+use Rattle.std.proofs.lemmas.List.{take_min, drop_min}
 use Rattle.std.proofs.lemmas.Bool.{lt-leb}
 use Rattle.rows.specs.ListLaws.{is_nil_law}
 use Rattle.selection.specs.Selection.{size}
@@ -135,27 +135,12 @@ part_cut i at n m e = go (leb (payload_max i) (length m - at)) refl
         let g : length m - at < payload_max i = leb-false (payload_max i) (length m - at) h in
         rw (take_all (at + n - at) (drop at m) (simp length-drop (omega arith)), take_all (payload_max i) (drop at m) (simp length-drop (omega arith)))
 
--- as many bytes as there are, of those asked for
-take_least : (n k : ℕ) (l : List ℕ) → length l ≤ k → take (min k n) l ≡ take n l
-take_least n k l h = go (leb n k) refl
-  where
-    go : (t : Bool) → leb n k ≡ t → take (min k n) l ≡ take n l
-    go true e = let g : n ≤ k = leb-true n k e in let f : min k n ≡ n = omega arith in rw f
-    go false e = let g : k < n = leb-false n k e in rw (take_all (min k n) l (omega arith), take_all n l (omega arith))
-
-drop_least : (n : ℕ) (l : List ℕ) → drop (min n (length l)) l ≡ drop n l
-drop_least n l = go (leb n (length l)) refl
-  where
-    go : (t : Bool) → leb n (length l) ≡ t → drop (min n (length l)) l ≡ drop n l
-    go true e = let g : n ≤ length l = leb-true n (length l) e in let f : min n (length l) ≡ n = omega arith in rw f
-    go false e = let g : length l < n = leb-false n (length l) e in rw (drop_of_length-le l {i = min n (length l)} (omega arith), drop_of_length-le l {i = n} (omega arith))
-
 -- .. as it is cut from a message: of what is left of it, no more than the receiver takes
-pub part_slice : (i at a : ℕ) (l m : List ℕ) → a ≡ min at (length m) → l ≡ take (length m - a) (drop a m) → take (min (length l) (payload_max i)) l ≡ part i at m
+pub part_slice : (i at a : ℕ) (l m : List ℕ) → a ≡ min at (length m) → l ≡ take (length m - a) (drop a m) → take (min (payload_max i) (length l)) l ≡ part i at m
 unfolding part
 part_slice i at a l m e f =
-    let g : l ≡ drop at m = f ∙ take_all (length m - a) (drop a m) (simp length-drop (omega arith)) ∙ rw e (drop_least at m) in
-    take_least (payload_max i) (length l) l (omega arith) ∙ ap (take (payload_max i)) g
+    let g : l ≡ drop at m = f ∙ take_all (length m - a) (drop a m) (simp length-drop (omega arith)) ∙ rw e (drop_min at m) in
+    take_min (payload_max i) l ∙ ap (take (payload_max i)) g
 
 -- the bytes before a place and the payload from there on
 pub take_part : (i at : ℕ) (m : List ℕ) → take at m ++ part i at m ≡ take (at + payload_max i) m

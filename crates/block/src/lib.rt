@@ -68,7 +68,7 @@ fn part<'a>(index: u8, at: usize, message: &'a [u8]) -> &'a [u8]
     ensures { result.now ≡ part index at message.now }
 {
     let rest = &message[at.min(message.len())..];
-    &rest[..rest.len().min(payload_max(index))]
+    &rest[..payload_max(index).min(rest.len())]
 }
 
 // Whether more bytes behind those that are joined fit a buffer of room bytes, and a message.

@@ -1,6 +1,6 @@
 -- RATS and ATS over the air: a selected reader and an active card that speaks blocks are between messages then, and the terms of demand 2
 -- are met for every message and answer. Assumes nothing.
-use Rattle.std.specs.Prelude.{◌≡◌, refl, true, false, List, [], ℕ, ◌+◌, ◌≤◌, length, replicate}
+use Rattle.std.specs.Prelude.{◌≡◌, refl, true, false, List, [], ℕ, ◌+◌, ◌≤◌, length}
 use Rattle.std.proofs.Common.{ap, arith}
 use borrow.Author.Tests.{le-ltb}
 use Rattle.limits.specs.Limits.{message_max, row_room}

@@ -14,7 +14,7 @@ use Rattle.reader.specs.declared.Reader.{Reader}
 use Rattle.refusal.specs.declared.Refusal.TheVariants.{TooLong, NotDue}
 use Rattle.block.specs.declared.Block.{Block}
 use Rattle.block.specs.declared.Told.{Told}
-use Rattle.block.specs.declared.Told.TheVariants.{Quiet, Message, Granted, Deselected, Refused}
+use Rattle.block.specs.declared.Told.TheVariants.{Refused}
 use Rattle.limits.specs.Limits.{message_max, row_room}
 use Rattle.block.specs.Cut.{fewest, part, cut, last_number}
 use Rattle.block.proofs.CutBlockLaws.{cut_count}

@@ -109,26 +109,26 @@ host_made x c a before reply row row' answered t h et el er eh eo = rw (eo, eh, 
 -- what the card and the reader do in a round, by their rules
 module _ (x : RowRound) (p : Progress) (m before a down up row : List ℕ) where
   abbrev taken_in : ℕ → Out LinkCard
-  taken_in room = take_call p.card (heard_as x.down (take p.bits row)) (cond p.answered a before) down room
+  taken_in room = take_call p.so_far.card (heard_as x.down (take p.bits row)) (cond p.so_far.answered a before) down room
 
   abbrev acted_on : Out LinkCard × List ℕ
-  acted_on = acted x.host (taken_in row_room) a (cond p.answered a before)
+  acted_on = acted x.host (taken_in row_room) a (cond p.so_far.answered a before)
 
   abbrev heard : Called
-  heard = hear_call p.reader (heard_as x.up acted_on.0.sent) m up row_room
+  heard = hear_call p.so_far.reader (heard_as x.up acted_on.0.sent) m up row_room
 
   -- .. as the calls hand it back: hd is what the card hears, its frame is in a row of 2,304 zeros
   module _ (hd zeros down' reply reply' : List ℕ) (t : CardTurn) (h : Hosted) (ed : hd ≡ heard_as x.down (take p.bits row)) (nz : length zeros ≡ row_room) (nr : length reply ≡ length zeros)
-      (et : (t ≡ turn_of (take_call p.card hd (cond p.answered a before) down (length zeros))) × ((down' ≡ (take_call p.card hd (cond p.answered a before) down (length zeros)).buffer)
-      × (reply ≡ overlay zeros 0 (take_call p.card hd (cond p.answered a before) down (length zeros)).sent)))
-      (eh : (h ≡ hosted x.host t.card t.bits p.answered a (length reply)) × (reply' ≡ hosted_row x.host t.card a reply)) where
-    pub host_of : HostMade x.host (taken_in row_room) a before p.answered h reply'
-    host_of = let e = rw (nz, ed) at et in host_made x.host (taken_in row_room) a before zeros reply reply' p.answered t h e.0 (nr ∙ nz) e.1.1 eh.0 eh.1
+      (et : (t ≡ turn_of (take_call p.so_far.card hd (cond p.so_far.answered a before) down (length zeros))) × ((down' ≡ (take_call p.so_far.card hd (cond p.so_far.answered a before) down (length zeros)).buffer)
+      × (reply ≡ overlay zeros 0 (take_call p.so_far.card hd (cond p.so_far.answered a before) down (length zeros)).sent)))
+      (eh : (h ≡ hosted x.host t.card t.bits p.so_far.answered a (length reply)) × (reply' ≡ hosted_row x.host t.card a reply)) where
+    pub host_of : HostMade x.host (taken_in row_room) a before p.so_far.answered h reply'
+    host_of = let e = rw (nz, ed) at et in host_made x.host (taken_in row_room) a before zeros reply reply' p.so_far.answered t h e.0 (nr ∙ nz) e.1.1 eh.0 eh.1
 
     -- .. and hu is what the reader hears
     module _ (hu up' row' : List ℕ) (turn : LinkTurn) (eu : hu ≡ heard_as x.up (take h.bits reply')) (nd : length down' ≡ length down) (nw : length row ≡ row_room) (nw' : length row' ≡ length row)
-        (en : (turn ≡ (hear_call p.reader hu m up (length row)).turn) × ((up' ≡ (hear_call p.reader hu m up (length row)).buffer)
-        × (row' ≡ overlay row 0 (hear_call p.reader hu m up (length row)).sent))) where
+        (en : (turn ≡ (hear_call p.so_far.reader hu m up (length row)).turn) × ((up' ≡ (hear_call p.so_far.reader hu m up (length row)).buffer)
+        × (row' ≡ overlay row 0 (hear_call p.so_far.reader hu m up (length row)).sent))) where
       pub round_made : (r : Progress) → r ≡ advanced p t.told h turn → Fit p
           → (state_of r before a down' up' row' ≡ round_of m a x (state_of p before a down up row)) × Fit r
       unfolding state_of round_of lossy_passes advanced
@@ -136,24 +136,24 @@ module _ (x : RowRound) (p : Progress) (m before a down up row : List ℕ) where
           let k = host_of in
           let c : Out LinkCard = taken_in row_room in
           let e = rw (nz, ed) at et in
-          let q : hear_call p.reader hu m up (length row) ≡ heard =
-          ap (λ z. hear_call p.reader z m up (length row)) (eu ∙ ap (heard_as x.up) k.frame) ∙ ap (λ n. hear_call p.reader (heard_as x.up acted_on.0.sent) m up n) nw in
+          let q : hear_call p.so_far.reader hu m up (length row) ≡ heard =
+          ap (λ z. hear_call p.so_far.reader z m up (length row)) (eu ∙ ap (heard_as x.up) k.frame) ∙ ap (λ n. hear_call p.so_far.reader (heard_as x.up acted_on.0.sent) m up n) nw in
           let et' : turn ≡ heard.turn = en.0 ∙ ap (λ z. z.turn) q in
           let eb' : up' ≡ heard.buffer = en.1.0 ∙ ap (λ z. z.buffer) q in
           let ew : row' ≡ overlay row 0 heard.sent = en.1.1 ∙ ap (λ z. overlay row 0 z.sent) q in
-          let eb : bits_by turn.answer ≡ length heard.sent = ap (λ z. bits_by z.answer) et' ∙ hear_counted p.reader (heard_as x.up acted_on.0.sent) m up row_room in
+          let eb : bits_by turn.answer ≡ length heard.sent = ap (λ z. bits_by z.answer) et' ∙ hear_counted p.so_far.reader (heard_as x.up acted_on.0.sent) m up row_room in
           let ef : take (bits_by turn.answer) row' ≡ heard.sent = rw (eb, ew) (overlay_front row heard.sent) in
           let fits : bits_by turn.answer ≤ row_room = rw (nw', nw) at (read_fits (bits_by turn.answer) row row' heard.sent eb ew) in
           let ec : count_in t.told ≡ length (delivered c.told c.buffer) = ap (λ z. count_in z.told) e.0 ∙ count_delivered c.told c.buffer in
-          let hl : message_in c.told ≤ length c.buffer = rw (← e.1.0, nd) (message_fits p.card (heard_as x.down (take p.bits row)) (cond p.answered a before) down row_room) in
-          let el : last_in t.told p.last ≡ last_of p.last (delivered c.told c.buffer) = ap (λ z. last_in z.told p.last) e.0 ∙ last_delivered c.told c.buffer p.last hl in (
+          let hl : message_in c.told ≤ length c.buffer = rw (← e.1.0, nd) (message_fits p.so_far.card (heard_as x.down (take p.bits row)) (cond p.so_far.answered a before) down row_room) in
+          let el : last_in t.told p.so_far.last ≡ last_of p.so_far.last (delivered c.told c.buffer) = ap (λ z. last_in z.told p.so_far.last) e.0 ∙ last_delivered c.told c.buffer p.so_far.last hl in (
             rw er (λ i. record {
               ends = record { reader = (et' i).reader; card = k.card i; down = e.1.0 i; up = eb' i; lent = k.lent i };
               told = told_by (et' i).answer;
               frame = ef i;
               answered = k.answers i;
-              rounds = p.rounds + 1;
-              messages = p.messages + ec i;
+              rounds = p.so_far.rounds + 1;
+              messages = p.so_far.messages + ec i;
               last = el i;
             }),
             rw er (record { bits = fits; messages = omega (arith, f.messages, count_most t.told) }),
@@ -220,34 +220,34 @@ round_at c k = round_by c.noise (fates_at c.downs c.hosts c.ups k)
 -- under way: what is left comes to what the whole comes to
 pub record Under (c : Script) (m before a : List ℕ) (rounds : ℕ) (down₀ up₀ : List ℕ) (all : Sum) (p : Progress) (down up row : List ℕ) : Type 0 where
   pub fit : Fit p
-  pub within : p.rounds ≤ rounds
-  pub rest : rest_of m a (scripted c p.rounds (rounds - p.rounds)) (state_of p before a down up row) ≡ all
+  pub within : p.so_far.rounds ≤ rounds
+  pub rest : rest_of m a (scripted c p.so_far.rounds (rounds - p.so_far.rounds)) (state_of p before a down up row) ≡ all
   pub down_size : length down ≡ length down₀
   pub up_size : length up ≡ length up₀
   pub row_size : length row ≡ row_room
 
 -- a round is left and the reader's host has been told nothing, or not
-pub goes_left : (p : Progress) (rounds : ℕ) → goes_on p rounds ≡ true → (p.rounds < rounds) × (is_quiet p.told ≡ true)
-goes_left p rounds g = go (ltb p.rounds rounds) refl g
+pub goes_left : (p : Progress) (rounds : ℕ) → goes_on p rounds ≡ true → (p.so_far.rounds < rounds) × (is_quiet p.so_far.told ≡ true)
+goes_left p rounds g = go (ltb p.so_far.rounds rounds) refl g
   where
-    go : (b : Bool) → ltb p.rounds rounds ≡ b → cond b (is_quiet p.told) false ≡ true → (p.rounds < rounds) × (is_quiet p.told ≡ true)
-    go true e g = (ltb-true p.rounds rounds e, g)
+    go : (b : Bool) → ltb p.so_far.rounds rounds ≡ b → cond b (is_quiet p.so_far.told) false ≡ true → (p.so_far.rounds < rounds) × (is_quiet p.so_far.told ≡ true)
+    go true e g = (ltb-true p.so_far.rounds rounds e, g)
     go false e g = absurd (false≢true g)
 
 module _ (c : Script) (m before a : List ℕ) (rounds : ℕ) (down₀ up₀ : List ℕ) (all : Sum) (p : Progress) (down up row : List ℕ) (u : Under c m before a rounds down₀ up₀ all p down up row) where
-  pub under_turn : (x : Fates) (r : Progress) (down' up' row' : List ℕ) → goes_on p rounds ≡ true → x ≡ fates_at c.downs c.hosts c.ups p.rounds
+  pub under_turn : (x : Fates) (r : Progress) (down' up' row' : List ℕ) → goes_on p rounds ≡ true → x ≡ fates_at c.downs c.hosts c.ups p.so_far.rounds
       → state_of r before a down' up' row' ≡ round_of m a (round_by c.noise x) (state_of p before a down up row) → Fit r
       → length down' ≡ length down → length up' ≡ length up → length row' ≡ length row → Under c m before a rounds down₀ up₀ all r down' up' row'
   unfolding state_of round_of rounds_from
   under_turn x r down' up' row' g ex e f nd nu nr =
       let w = goes_left p rounds g in
-      let n : r.rounds ≡ p.rounds + 1 = ap (λ s. s.rounds) e in
-      let k : rounds - p.rounds ≡ suc (rounds - (p.rounds + 1)) = omega (arith, w.0) in
-      let xs : List RowRound = scripted c (p.rounds + 1) (rounds - (p.rounds + 1)) in
+      let n : r.so_far.rounds ≡ p.so_far.rounds + 1 = ap (λ s. s.rounds) e in
+      let k : rounds - p.so_far.rounds ≡ suc (rounds - (p.so_far.rounds + 1)) = omega (arith, w.0) in
+      let xs : List RowRound = scripted c (p.so_far.rounds + 1) (rounds - (p.so_far.rounds + 1)) in
       record {
         fit = f;
         within = omega (arith, w.0);
-        rest = ap (λ n. rest_of m a (scripted c n (rounds - n)) (state_of r before a down' up' row')) n ∙ ap (rest_of m a xs) (e ∙ ap (λ x. round_of m a (round_by c.noise x) (state_of p before a down up row)) ex) ∙ sym (rest_turn m a (round_at c p.rounds) xs (state_of p before a down up row) w.1) ∙ ap (λ g. rest_of m a (scripted c p.rounds g) (state_of p before a down up row)) (sym k) ∙ u.rest;
+        rest = ap (λ n. rest_of m a (scripted c n (rounds - n)) (state_of r before a down' up' row')) n ∙ ap (rest_of m a xs) (e ∙ ap (λ x. round_of m a (round_by c.noise x) (state_of p before a down up row)) ex) ∙ sym (rest_turn m a (round_at c p.so_far.rounds) xs (state_of p before a down up row) w.1) ∙ ap (λ g. rest_of m a (scripted c p.so_far.rounds g) (state_of p before a down up row)) (sym k) ∙ u.rest;
         down_size = nd ∙ u.down_size;
         up_size = nu ∙ u.up_size;
         row_size = nr ∙ u.row_size;
@@ -255,20 +255,20 @@ module _ (c : Script) (m before a : List ℕ) (rounds : ℕ) (down₀ up₀ : Li
 
   pub under_done : goes_on p rounds ≡ false → outcome_of (done_by p) before a down up ≡ all
   unfolding outcome_of done_by state_of rounds_from
-  under_done g = sym (go (ltb p.rounds rounds) refl g) ∙ u.rest
+  under_done g = sym (go (ltb p.so_far.rounds rounds) refl g) ∙ u.rest
     where
-      go : (b : Bool) → ltb p.rounds rounds ≡ b → cond b (is_quiet p.told) false ≡ false
-          → rest_of m a (scripted c p.rounds (rounds - p.rounds)) (state_of p before a down up row) ≡ ended (state_of p before a down up row)
-      go true e g = rest_told m a (scripted c p.rounds (rounds - p.rounds)) (state_of p before a down up row) g
+      go : (b : Bool) → ltb p.so_far.rounds rounds ≡ b → cond b (is_quiet p.so_far.told) false ≡ false
+          → rest_of m a (scripted c p.so_far.rounds (rounds - p.so_far.rounds)) (state_of p before a down up row) ≡ ended (state_of p before a down up row)
+      go true e g = rest_told m a (scripted c p.so_far.rounds (rounds - p.so_far.rounds)) (state_of p before a down up row) g
       go false e g =
-          let z : rounds - p.rounds ≡ 0 = omega (arith, ltb-false p.rounds rounds e) in
+          let z : rounds - p.so_far.rounds ≡ 0 = omega (arith, ltb-false p.so_far.rounds rounds e) in
           rw z (rest_none m a (state_of p before a down up row))
 
 pub fewer : (x : RowRound) (p r : Progress) (m before a down up row down' up' row' : List ℕ) (rounds : ℕ) → goes_on p rounds ≡ true
-    → state_of r before a down' up' row' ≡ round_of m a x (state_of p before a down up row) → rounds - r.rounds < rounds - p.rounds
+    → state_of r before a down' up' row' ≡ round_of m a x (state_of p before a down up row) → rounds - r.so_far.rounds < rounds - p.so_far.rounds
 unfolding state_of round_of
 fewer x p r m before a down up row down' up' row' rounds g e =
-    let n : r.rounds ≡ p.rounds + 1 = ap (λ s. s.rounds) e in
+    let n : r.so_far.rounds ≡ p.so_far.rounds + 1 = ap (λ s. s.rounds) e in
     omega (arith, (goes_left p rounds g).0)
 
 -- the first frame is out

@@ -58,30 +58,35 @@ last_in (Refused e) last = last
 unfoldable pub advanced : Progress → Told → Hosted → LinkTurn → Progress
 advanced p told h turn =
     record {
-      reader = turn.reader;
-      card = h.card;
-      told = told_by turn.answer;
+      so_far = record {
+        reader = turn.reader;
+        card = h.card;
+        told = told_by turn.answer;
+        answered = h.answered;
+        rounds = p.so_far.rounds + 1;
+        messages = p.so_far.messages + count_in told;
+        last = last_in told p.so_far.last;
+      };
       bits = bits_by turn.answer;
-      answered = h.answered;
-      rounds = p.rounds + 1;
-      messages = p.messages + count_in told;
-      last = last_in told p.last;
     }
 
 -- the reader's frame fits its row, and each round brings at most one message
 pub record Fit (p : Progress) : Type 0 where
   pub bits : p.bits ≤ row_room
-  pub messages : p.messages ≤ p.rounds
+  pub messages : p.so_far.messages ≤ p.so_far.rounds
 
 unfoldable pub begun : LinkTurn → LinkCard → Progress
 begun turn card =
-    record { reader = turn.reader; card = card; told = told_by turn.answer; bits = bits_by turn.answer; answered = false; rounds = 0; messages = 0; last = 0 }
+    record {
+      so_far = record { reader = turn.reader; card = card; told = told_by turn.answer; answered = false; rounds = 0; messages = 0; last = 0 };
+      bits = bits_by turn.answer;
+    }
 
 abbrev pub goes_on : Progress → ℕ → Bool
-goes_on p rounds = cond (ltb p.rounds rounds) (is_quiet p.told) false
+goes_on p rounds = cond (ltb p.so_far.rounds rounds) (is_quiet p.so_far.told) false
 
 unfoldable pub done_by : Progress → Outcome
-done_by p = record { reader = p.reader; card = p.card; told = p.told; answered = p.answered; rounds = p.rounds; messages = p.messages; last = p.last }
+done_by p = p.so_far
 
 -- ---- the run
 
@@ -114,13 +119,13 @@ pub record State : Type 0 where
 unfoldable pub state_of : Progress → List ℕ → List ℕ → List ℕ → List ℕ → List ℕ → State
 state_of p before a down up row =
     record {
-      ends = ends_of p.reader p.card down up p.answered before a;
-      told = p.told;
+      ends = ends_of p.so_far.reader p.so_far.card down up p.so_far.answered before a;
+      told = p.so_far.told;
       frame = take p.bits row;
-      answered = p.answered;
-      rounds = p.rounds;
-      messages = p.messages;
-      last = p.last;
+      answered = p.so_far.answered;
+      rounds = p.so_far.rounds;
+      messages = p.so_far.messages;
+      last = p.so_far.last;
     }
 
 -- the card's host answers in a round over x where it is owed once the card has taken what it hears of the row f, and it does not ask or wait

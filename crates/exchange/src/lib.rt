@@ -5,7 +5,7 @@
 // run on bytes, and so the same holds of it (`row_exchanged`). `exchange` is this run.
 // specs/Lossy.antt: the run on rows where frames may be lost or damaged, of which `row_talk` is the case without errors; `lossy` is that run.
 // What holds of it is in crate lost_blocks.
-#![tactic(auto)]
+#![tactic(auto, unfolding(crate::specs::Steps::hosted, crate::specs::Steps::hosted_row, crate::specs::Steps::advanced, crate::specs::Steps::begun))]
 
 ghost use Rattle.std.specs.Prelude.{◌≡◌, true, false, cond, ℕ, ◌-◌, ◌^◌, ◌≤◌, ◌<◌, length, take, get_or};
 ghost use Rattle.limits.specs.Limits.{row_room};
@@ -14,7 +14,7 @@ ghost use Rattle.card_link.specs.CardCalls.{take_call, turn_of};
 ghost use Rattle.exchange.specs.Exchange.{is_quiet};
 ghost use Rattle.exchange.specs.RowExchange.{told_of, told_by, Terms};
 ghost use Rattle.exchange.specs.Lossy.{heard_as, passage_of, act_of, round_by, fates_at, rounds_from};
-ghost use Rattle.exchange.specs.Steps.{ends_of, acts_on, acts_row, hosted, hosted_row, count_in, last_in, advanced, begun, goes_on, done_by, Fit, state_of, round_of, outcome_of, exchange_of, lossy_of};
+ghost use Rattle.exchange.specs.Steps.{ends_of, acts_on, acts_row, hosted, hosted_row, count_in, last_in, advanced, begun, goes_on, Fit, state_of, round_of, outcome_of, exchange_of, lossy_of};
 ghost use Rattle.exchange.specs.Promise.{Exchanges};
 
 use block::Told;
@@ -35,17 +35,11 @@ pub struct Outcome {
     pub last: usize,
 }
 
-// Between two rounds: bits is how many air bits the reader's frame has that is out.
+// Between two rounds: what the exchange would come to if it ended here; bits is how many air bits the reader's frame has that is out.
 #[derive(Clone, Copy)]
 pub struct Progress {
-    pub reader: LinkReader,
-    pub card: LinkCard,
-    pub told: Told,
+    pub so_far: Outcome,
     pub bits: usize,
-    pub answered: bool,
-    pub rounds: usize,
-    pub messages: usize,
-    pub last: usize,
 }
 
 // What becomes of the frames of a round, and what the card's host does if it owes an answer. A frame arrives with 0 and is lost with 1; with any
@@ -69,11 +63,8 @@ fn told_of(a: Answer) -> Told
     ensures { result ≡ told_of a }
 {
     match a {
-        Answer::Sends(_) => Told::Quiet,
-        Answer::Finds(_) => Told::Quiet,
-        Answer::Selects => Told::Quiet,
-        Answer::Finishes => Told::Quiet,
         Answer::Declines(e) => Told::Refused(e),
+        _ => Told::Quiet,
     }
 }
 
@@ -91,13 +82,7 @@ fn told_by(a: LinkAnswer) -> Told
 fn is_quiet(t: Told) -> bool
     ensures { result ≡ is_quiet t }
 {
-    match t {
-        Told::Quiet => true,
-        Told::Message(_) => false,
-        Told::Granted => false,
-        Told::Deselected => false,
-        Told::Refused(_) => false,
-    }
+    matches!(t, Told::Quiet)
 }
 
 // The card takes the reader's frame, with the answer lent that its host gave last.
@@ -114,23 +99,19 @@ fn card_turn(
     ensures down_after { down.new ≡ (take_call y row.now (cond answered answer.now before.now) down.old (length out.old)).buffer }
     ensures out_after { out.new ≡ overlay out.old 0 (take_call y row.now (cond answered answer.now before.now) down.old (length out.old)).sent }
 {
-    if answered {
-        return card_link::whole::take(y, row, answer, down, out);
-    }
-    card_link::whole::take(y, row, before, down, out)
+    let lent = if answered { answer } else { before };
+    card_link::whole::take(y, row, lent, down, out)
 }
 
 // What an end hears of a frame.
 fn heard_as<'a>(fate: u8, frame: &'a [u8], noise: &'a [u8]) -> &'a [u8]
     ensures { result.now ≡ heard_as (passage_of noise.now fate) frame.now }
 {
-    if fate == 0 {
-        return frame;
+    match fate {
+        0 => frame,
+        1 => &[],
+        _ => noise,
     }
-    if fate == 1 {
-        return &frame[..0];
-    }
-    noise
 }
 
 // The card's host, who owes an answer, acts. out has the card's frame at its front, if it sent one.
@@ -145,28 +126,28 @@ fn host_acts(
     ensures value { result ≡ acts_on (act_of act) y bits answered answer.now (length out.old) }
     ensures out_after { out.new ≡ acts_row (act_of act) y answer.now out.old }
 {
-    if act == 0 {
-        let t = card_link::whole::reply(y, answer, out);
-        let card = t.card;
-        return Hosted {
-            card,
-            bits: t.bits,
-            answered: true,
-        };
-    }
-    if act == 255 {
-        return Hosted {
+    match act {
+        0 => {
+            let t = card_link::whole::reply(y, answer, out);
+            Hosted {
+                card: t.card,
+                bits: t.bits,
+                answered: true,
+            }
+        }
+        255 => Hosted {
             card: y,
             bits,
             answered,
-        };
-    }
-    let t = card_link::whole::ask(y, act, out);
-    let card = t.card;
-    Hosted {
-        card,
-        bits: t.bits,
-        answered,
+        },
+        _ => {
+            let t = card_link::whole::ask(y, act, out);
+            Hosted {
+                card: t.card,
+                bits: t.bits,
+                answered,
+            }
+        }
     }
 }
 
@@ -197,11 +178,8 @@ fn count_in(t: Told) -> usize
     ensures { result ≡ count_in t }
 {
     match t {
-        Told::Quiet => 0,
         Told::Message(_) => 1,
-        Told::Granted => 0,
-        Told::Deselected => 0,
-        Told::Refused(_) => 0,
+        _ => 0,
     }
 }
 
@@ -210,31 +188,27 @@ fn last_in(t: Told, last: usize) -> usize
     ensures { result ≡ last_in t last }
 {
     match t {
-        Told::Quiet => last,
         Told::Message(n) => n,
-        Told::Granted => last,
-        Told::Deselected => last,
-        Told::Refused(_) => last,
+        _ => last,
     }
 }
 
 // After a round: told is what the card's host was told, and turn what the reader did.
 fn advance(p: Progress, told: Told, h: Hosted, turn: LinkTurn) -> Progress
-    requires { (p.messages ≤ p.rounds) × (p.rounds < 2 ^ 64 - 1) }
+    requires { (p.so_far.messages ≤ p.so_far.rounds) × (p.so_far.rounds < 2 ^ 64 - 1) }
     ensures { result ≡ advanced p told h turn }
 {
-    let card = h.card;
-    let reader = turn.reader;
-    let a = turn.answer;
     Progress {
-        reader,
-        card,
-        told: told_by(a),
-        bits: reader_link::whole::bits_of(a),
-        answered: h.answered,
-        rounds: p.rounds + 1,
-        messages: p.messages + count_in(told),
-        last: last_in(told, p.last),
+        so_far: Outcome {
+            reader: turn.reader,
+            card: h.card,
+            told: told_by(turn.answer),
+            answered: h.answered,
+            rounds: p.so_far.rounds + 1,
+            messages: p.so_far.messages + count_in(told),
+            last: last_in(told, p.so_far.last),
+        },
+        bits: reader_link::whole::bits_of(turn.answer),
     }
 }
 
@@ -251,39 +225,37 @@ fn round(
     up: &mut [u8],
     row: &mut [u8],
 ) -> Progress
-    requires { Fit p × (p.rounds < 2 ^ 64 - 1) × (length row.old ≡ row_room) }
+    requires { Fit p × (p.so_far.rounds < 2 ^ 64 - 1) × (length row.old ≡ row_room) }
     ensures row_after { state_of result before.now answer.now down.new up.new row.new ≡ round_of message.now answer.now (round_by noise.now x) (state_of p before.now answer.now down.old up.old row.old) }
     ensures fit { Fit result }
 {
-    let y = p.card;
-    let z = p.reader;
-    let bits = p.bits;
+    let was = p.so_far;
     let mut reply = [0u8; limits::ROW_ROOM];
     let t = card_turn(
-        y,
-        p.answered,
-        heard_as(x.down, &row[..bits], noise),
+        was.card,
+        was.answered,
+        heard_as(x.down, &row[..p.bits], noise),
         before,
         answer,
         down,
         &mut reply,
     );
-    let told = t.told;
-    let after = t.card;
-    let h = host_turn(after, t.bits, p.answered, x.host, answer, &mut reply);
-    let sent = h.bits;
-    let turn = reader_link::whole::hear(z, heard_as(x.up, &reply[..sent], noise), message, up, row);
-    advance(p, told, h, turn)
+    let h = host_turn(t.card, t.bits, was.answered, x.host, answer, &mut reply);
+    let turn = reader_link::whole::hear(
+        was.reader,
+        heard_as(x.up, &reply[..h.bits], noise),
+        message,
+        up,
+        row,
+    );
+    advance(p, t.told, h, turn)
 }
 
 // The number at k, 0 behind the end.
 fn at(numbers: &[u8], k: usize) -> u8
     ensures { result ≡ get_or numbers.now k 0 }
 {
-    if k < numbers.len() {
-        return numbers[k];
-    }
-    0
+    numbers.get(k).copied().unwrap_or(0)
 }
 
 // The numbers of round k.
@@ -301,17 +273,17 @@ fn fates_at(downs: &[u8], hosts: &[u8], ups: &[u8], k: usize) -> Fates
 fn begin(turn: LinkTurn, card: LinkCard) -> Progress
     ensures { result ≡ begun turn card }
 {
-    let reader = turn.reader;
-    let a = turn.answer;
     Progress {
-        reader,
-        card,
-        told: told_by(a),
-        bits: reader_link::whole::bits_of(a),
-        answered: false,
-        rounds: 0,
-        messages: 0,
-        last: 0,
+        so_far: Outcome {
+            reader: turn.reader,
+            card,
+            told: told_by(turn.answer),
+            answered: false,
+            rounds: 0,
+            messages: 0,
+            last: 0,
+        },
+        bits: reader_link::whole::bits_of(turn.answer),
     }
 }
 
@@ -319,28 +291,7 @@ fn begin(turn: LinkTurn, card: LinkCard) -> Progress
 fn goes_on(p: Progress, rounds: usize) -> bool
     ensures { result ≡ goes_on p rounds }
 {
-    if p.rounds < rounds {
-        let told = p.told;
-        return is_quiet(told);
-    }
-    false
-}
-
-fn done(p: Progress) -> Outcome
-    ensures { result ≡ done_by p }
-{
-    let reader = p.reader;
-    let card = p.card;
-    let told = p.told;
-    Outcome {
-        reader,
-        card,
-        told,
-        answered: p.answered,
-        rounds: p.rounds,
-        messages: p.messages,
-        last: p.last,
-    }
+    p.so_far.rounds < rounds && is_quiet(p.so_far.told)
 }
 
 // T-11: the reader's host hands in a message over a channel that may lose or damage frames, for at most so many rounds. downs, hosts and ups
@@ -365,12 +316,12 @@ pub fn lossy(
     let mut row = [0u8; limits::ROW_ROOM];
     let turn = reader_link::whole::send(reader, message, &mut row);
     let mut p = begin(turn, card);
+    // Kept: how many rounds there were is told, and the host's news ends them, so a `for` would count beside the count.
     while goes_on(p, rounds) {
-        let k = p.rounds;
-        let x = fates_at(downs, hosts, ups, k);
+        let x = fates_at(downs, hosts, ups, p.so_far.rounds);
         p = round(p, x, noise, message, before, answer, down, up, &mut row);
     }
-    done(p)
+    p.so_far
 }
 
 // The reader's host hands in a message, and the card's host answers it as soon as it is owed; before is what it answered before, none after

@@ -12,9 +12,7 @@ pub fn put_uid(u: Uid, out: &mut [u8]) -> usize
     ensures value { result ≡ byte_count u.size }
     ensures out_after { out.new ≡ overlay out.old 0 (uid_bytes u) }
 {
-    let size = u.size;
-    let b = u.bytes;
-    let n = uid::byte_count(size);
-    rows::within::put(out, 0, &b[..n]);
+    let n = uid::byte_count(u.size);
+    rows::within::put(out, 0, &u.bytes[..n]);
     n
 }

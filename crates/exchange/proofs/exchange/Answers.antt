@@ -1,6 +1,5 @@
 -- `exchange::exchange` meets its contract: it is `lossy` without numbers, and so the run of demand 2. Assumes nothing.
 use mathlib.Core.Path.{◌∙◌}
-use borrow.Author.Rules.{rules}
 use Rattle.rows.specs.ListLaws.{bytes_at_law}
 use Rattle.exchange.proofs.RunLaws.{clean_is, exchanges}
 use Rattle.exchange.proofs.exchange.Goals as goal

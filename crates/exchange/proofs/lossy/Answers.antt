@@ -1,11 +1,10 @@
-use mathlib.Core.Path.{◌≡◌, sym, ap, ◌∙◌}
+use mathlib.Core.Path.{◌≡◌, sym, ◌∙◌}
 use mathlib.Core.Bool.{true}
-use Prim.Native.Nat.{◌-◌}
 use native.Mathlib.Omega.{arith}
 use borrow.Author.Rules.{rules}
 use Rattle.exchange.specs.Lossy.{round_by}
-use Rattle.exchange.specs.Steps.{goes_on, state_of, rest_of, outcome_of}
-use Rattle.exchange.proofs.RunLaws.{Script, scripted, Under, under_none, rest_first, goes_left, fewer, under_turn, under_done}
+use Rattle.exchange.specs.Steps.{goes_on, done_by}
+use Rattle.exchange.proofs.RunLaws.{under_none, rest_first, goes_left, fewer, under_turn, under_done}
 use Rattle.exchange.proofs.lossy.Goals as goal
 
 pub loop-row-init : goal.loop-row-init
@@ -37,9 +36,9 @@ pub shape_of-up : goal.shape_of-up
 shape_of-up c = c.loop-row.invariant.up_size
 
 pub returns : goal.returns
+unfolding done_by
 returns c = let l = c.loop-row in
     let a = c.args in
     let s = c.send-turn.ensures in
-    ap (λ o. outcome_of o a.before.now a.answer.now l.down l.up) c.done.ensures
-    ∙ under_done (record { noise = a.noise.now; downs = a.downs.now; hosts = a.hosts.now; ups = a.ups.now }) a.message.now a.before.now a.answer.now a.rounds a.down.now a.up.now _ l.p l.down l.up l.row l.invariant (sym c.goes_on.ensures ∙ c.loop-row-test.false)
+    under_done (record { noise = a.noise.now; downs = a.downs.now; hosts = a.hosts.now; ups = a.ups.now }) a.message.now a.before.now a.answer.now a.rounds a.down.now a.up.now _ l.p l.down l.up l.row l.invariant (sym c.goes_on.ensures ∙ c.loop-row-test.false)
     ∙ rest_first (record { noise = a.noise.now; downs = a.downs.now; hosts = a.hosts.now; ups = a.ups.now }) a.reader a.card a.message.now a.before.now a.answer.now a.rounds a.down.now a.up.now _ _ c.send-turn.result c.begin-p.result (search rules) c.send-turn.auto.out (s.value, s.out_after) c.begin-p.ensures

@@ -1,12 +1,7 @@
 -- `exchange::lossy` meets its contract, the loop keeps `Under`: what is left comes to what the whole comes to. Assumes nothing.
-use mathlib.Core.Path.{◌≡◌, sym, ap, ◌∙◌}
-use mathlib.Core.Bool.{true}
 use Prim.Native.Nat.{◌-◌}
-use native.Mathlib.Omega.{arith}
-use borrow.Author.Rules.{rules}
-use Rattle.exchange.specs.Lossy.{round_by}
-use Rattle.exchange.specs.Steps.{goes_on, state_of, rest_of, outcome_of}
-use Rattle.exchange.proofs.RunLaws.{Script, scripted, Under, under_none, rest_first, goes_left, fewer, under_turn, under_done}
+use Rattle.exchange.specs.Steps.{state_of, rest_of}
+use Rattle.exchange.proofs.RunLaws.{Script, scripted, Under}
 use Rattle.exchange.proofs.lossy.Given as goal
 
 abbrev pub invariant-loop-row : goal.invariant-loop-row
@@ -15,4 +10,4 @@ invariant-loop-row l =
     Under c l.message l.before l.answer l.rounds l.initial.down l.initial.up (rest_of l.message l.answer (scripted c 0 l.rounds) (state_of l.initial.p l.before l.answer l.initial.down l.initial.up l.initial.row)) l.p l.down l.up l.row
 
 abbrev pub decreases-loop-row : goal.decreases-loop-row
-decreases-loop-row l = l.rounds - l.p.rounds
+decreases-loop-row l = l.rounds - l.p.so_far.rounds

@@ -9,11 +9,6 @@ use Rattle.uid.specs.Uid.{uid_bytes}
 use Rattle.uid.specs.BytesAtLaws.{bytes_most}
 use Rattle.kept.proofs.within.put_uid.Goals as goal
 
-pub slice_bounds-b-end : goal.slice_bounds-b-end
-slice_bounds-b-end c = let u = c.args.u in
-    let e : length u.bytes ≡ 10 = search rules in
-    omega (arith, bytes_most u.size, c.byte_count-n.ensures)
-
 pub slice_bounds-put-end : goal.slice_bounds-put-end
 slice_bounds-put-end c = let u = c.args.u in
     let e : length u.bytes ≡ 10 = search rules in
