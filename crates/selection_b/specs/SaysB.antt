@@ -5,6 +5,7 @@ use Rattle.refusal.specs.Refusal.{Said, giving, refusal_says}
 use Rattle.selection_b.specs.HeardB.{entry}
 use Rattle.selection_b.specs.declared.Held.{Held}
 use Rattle.selection_b.specs.declared.SlotRead.{SlotRead}
+use Rattle.selection_b.specs.declared.Held.{Held}
 use Rattle.refusal.specs.declared.Refusal.{Refusal}
 
 -- a slot's 13 bytes of the list
