@@ -1,9 +1,10 @@
 -- A number as bytes, and bytes of a row, by the library's methods. Assumes nothing.
-use Rattle.std.specs.Prelude.{◌≡◌, refl, ℕ, zero, suc, ◌+◌, ◌-◌, ◌*◌, ◌/◌, ◌%◌, ◌≤◌, min, List, [], ◌∷◌, ◌++◌, length, take, drop, get_or, replicate}
+use Rattle.std.specs.Prelude.{eqb, ◌&&◌, ◌≡◌, refl, ℕ, zero, suc, ◌+◌, ◌-◌, ◌/◌, ◌%◌, min, List, [], ◌∷◌, ◌++◌, length, take, drop, replicate}
 use Rattle.std.specs.Int.{w64, to_le_bytes, from_le_bytes}
 use Rattle.std.proofs.Common.{sym, ap, ◌∙◌, arith, add-one, zero-add, length-drop, take_all}
 use Rattle.std.proofs.lemmas.List.{take_min, drop_min}
-use Rattle.rows.specs.Rows.{overlay}
+use lib.Pointwise.{pointwise}
+use Rattle.rows.specs.Rows.{overlay, same}
 use Rattle.kept.specs.Kept.{bytes_at, word, number}
 
 pub word_le : (n : ℕ) → to_le_bytes w64 n ≡ word 8 n
@@ -49,3 +50,11 @@ unfolding overlay
 bytes_put k p a b l e f =
     let g : l ≡ drop p b = f ∙ take_all (length b - a) (drop a b) (simp length-drop (omega arith)) ∙ rw e (drop_min p b) in
     rw (take_min k l, zero-add) (front_put k l ∙ rw g (sym (bytes_drop k b p)))
+
+-- the library's equality of two rows is that of `same`
+pub same_is : (r s : List ℕ) → pointwise eqb r s ≡ same r s
+unfolding same
+same_is [] [] = refl
+same_is [] (y ∷ s) = refl
+same_is (x ∷ r) [] = refl
+same_is (x ∷ r) (y ∷ s) = ap (λ b. eqb x y && b) (same_is r s)

@@ -2,8 +2,8 @@
 ghost use Rattle.std.specs.Prelude.{◌≡◌};
 ghost use Rattle.kept_b.specs.KeptCardB.{state_tag, state_slot, state_in, card_bytes, card_in, Fits, taken_number, taken_refuses};
 
-use refusal::Refusal;
 use card_b::{CardB, StateB};
+use refusal::Refusal;
 
 // Which state a card is in, as a byte.
 pub fn state_tag(s: StateB) -> u8
@@ -23,34 +23,22 @@ fn state_slot(s: StateB) -> u8
     ensures { result ≡ state_slot s }
 {
     match s {
-        StateB::Off => 0,
-        StateB::Idle => 0,
         StateB::Requested(n) => n,
-        StateB::Declared => 0,
-        StateB::Active => 0,
-        StateB::Halt => 0,
+        _ => 0,
     }
 }
 
 fn state_in(t: u8, n: u8) -> StateB
     ensures { result ≡ state_in t n }
 {
-    if t == 0 {
-        return StateB::Off;
+    match t {
+        0 => StateB::Off,
+        1 => StateB::Idle,
+        2 => StateB::Requested(n),
+        3 => StateB::Declared,
+        4 => StateB::Active,
+        _ => StateB::Halt,
     }
-    if t == 1 {
-        return StateB::Idle;
-    }
-    if t == 2 {
-        return StateB::Requested(n);
-    }
-    if t == 3 {
-        return StateB::Declared;
-    }
-    if t == 4 {
-        return StateB::Active;
-    }
-    StateB::Halt
 }
 
 // A card as 15 bytes.
@@ -58,12 +46,11 @@ pub fn card_bytes(c: CardB) -> [u8; 15]
     ensures value { result ≡ card_bytes c }
     ensures fits { Fits c }
 {
-    let s = c.state;
     let p = c.pupi;
     let a = c.application;
     let i = c.protocol;
-    let tag = state_tag(s);
-    let slot = state_slot(s);
+    let tag = state_tag(c.state);
+    let slot = state_slot(c.state);
     let markers = kept::flag(c.markers);
     [
         tag, slot, c.afi, markers, p[0], p[1], p[2], p[3], a[0], a[1], a[2], a[3], i[0], i[1], i[2],
@@ -74,19 +61,13 @@ pub fn card_bytes(c: CardB) -> [u8; 15]
 pub fn card_of(b: &[u8]) -> CardB
     ensures { result ≡ card_in b.now }
 {
-    let pupi = crate::four(b, 4);
-    let afi = kept::at(b, 2);
-    let markers = kept::at(b, 3) == 1;
-    let application = crate::four(b, 8);
-    let protocol = crate::three(b, 12);
-    let state = state_in(kept::at(b, 0), kept::at(b, 1));
     CardB {
-        pupi,
-        afi,
-        markers,
-        application,
-        protocol,
-        state,
+        pupi: kept::bytes_at(b, 4),
+        afi: kept::at(b, 2),
+        markers: kept::at(b, 3) == 1,
+        application: kept::bytes_at(b, 8),
+        protocol: kept::bytes_at(b, 12),
+        state: state_in(kept::at(b, 0), kept::at(b, 1)),
     }
 }
 
@@ -95,8 +76,7 @@ pub fn taken_number(a: Result<Option<usize>, Refusal>) -> usize
     ensures { result ≡ taken_number a }
 {
     match a {
-        Ok(Some(n)) => n,
-        Ok(None) => 0,
+        Ok(sent) => sent.unwrap_or(0),
         Err(e) => kept::refused(e),
     }
 }
@@ -104,9 +84,5 @@ pub fn taken_number(a: Result<Option<usize>, Refusal>) -> usize
 pub fn taken_refuses(a: Result<Option<usize>, Refusal>) -> bool
     ensures { result ≡ taken_refuses a }
 {
-    match a {
-        Ok(Some(_)) => false,
-        Ok(None) => false,
-        Err(_) => true,
-    }
+    a.is_err()
 }

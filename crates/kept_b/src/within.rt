@@ -14,12 +14,10 @@ fn keep(t: TurnB, state: &mut [u8])
     ensures state_after { state.new ≡ overlay state.old 0 (turn_bytes t) }
     ensures state_after_2 { kept_in state.new ≡ kept_of t }
 {
-    let a = t.answer;
     let front = crate::front_bytes(t);
-    let gap = [0u8; 29];
-    let answer = crate::answer_bytes(a);
+    let answer = crate::answer_bytes(t.answer);
     rows::within::put(state, 0, &front);
-    rows::within::put(state, 16, &gap);
+    rows::within::put(state, 16, &[0; 29]);
     rows::within::put(state, 45, &answer);
 }
 
@@ -31,12 +29,10 @@ pub fn settle(x: ReaderB, t: TurnB, state: &mut [u8]) -> usize
     ensures state_after { state.new ≡ turn_left state.old t }
     ensures state_after_2 { kept_in state.new ≡ kept_after state.old t }
 {
-    let a = t.answer;
-    if crate::stays(x, t) {
-        return crate::answer_number(a);
+    if !crate::stays(x, t) {
+        keep(t, state);
     }
-    keep(t, state);
-    crate::answer_number(a)
+    crate::answer_number(t.answer)
 }
 
 // Writes a card into lent bytes.
@@ -57,11 +53,8 @@ pub fn settle_card(t: TakenB, state: &mut [u8]) -> usize
     ensures state_after { state.new ≡ taken_left state.old t }
     ensures state_after_2 { card_in state.new ≡ t.card }
 {
-    let a = t.answer;
-    let c = t.card;
-    if crate::card::taken_refuses(a) {
-        return crate::card::taken_number(a);
+    if !crate::card::taken_refuses(t.answer) {
+        keep_card(t.card, state);
     }
-    keep_card(c, state);
-    crate::card::taken_number(a)
+    crate::card::taken_number(t.answer)
 }

@@ -1,12 +1,11 @@
 -- A card that is kept is read back. Assumes nothing.
-use Rattle.std.specs.Prelude.{◌≡◌, refl, Bool, List, ◌++◌, ℕ, length, replicate}
+use Rattle.std.specs.Prelude.{◌≡◌, refl, Bool, false, List, ◌++◌, ℕ, length, replicate}
 use Rattle.std.proofs.Common.{ap}
 use Rattle.card.specs.declared.Card.{Card}
 use Rattle.card.specs.declared.CardState.{CardState}
 use Rattle.card.specs.declared.CardState.TheVariants.{Off, Idle, Ready, Active, Halt, ReadyStar, ActiveStar, Protocol}
-use Rattle.card.specs.Calls.{refused_card}
 use Rattle.uid.specs.declared.UidSize.{UidSize}
-use Rattle.rows.specs.Rows.{fill}
+use Rattle.uid.specs.declared.UidSize.TheVariants.{Single}
 use Rattle.kept.specs.Kept.{bytes_at}
 use Rattle.kept.specs.KeptLaws.{level_back, flag_back, size_back, bytes_whole}
 use Rattle.kept_card.specs.KeptCard.{state_tag, state_level, state_index, state_in, card_bytes, card_in}
@@ -34,7 +33,10 @@ pub card_length : (c : Card) → length (card_bytes c) ≡ 20
 unfolding card_bytes bytes_at
 card_length c = refl
 
--- zeros are a card without power, its UID four zeros: what is handed out where a new card is refused
-pub card_zeros : card_in (replicate 20 0) ≡ refused_card.card
-unfolding card_in bytes_at fill
+-- zeros are a card without power, its UID four zeros
+abbrev pub zero_card : Card
+zero_card = record { uid = record { size = Single; bytes = replicate 10 0 }; blocks = false; index = 0; state = Off }
+
+pub card_zeros : card_in (replicate 20 0) ≡ zero_card
+unfolding card_in bytes_at
 card_zeros = refl

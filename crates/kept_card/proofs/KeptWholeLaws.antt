@@ -1,10 +1,9 @@
 -- A whole card that is kept is read back, and so is what its host was told. Assumes nothing.
 use Rattle.std.specs.Prelude.{◌≡◌, refl, true, false, List, ◌++◌, ℕ, ◌<◌, ◌≤◌, ◌+◌, length, drop, replicate}
 use Rattle.std.proofs.Common.{sym, ap, ◌∙◌, append_assoc, arith}
-use Rattle.rows.specs.Rows.{overlay, fill}
+use Rattle.rows.specs.Rows.{overlay}
 use Rattle.block.specs.declared.Told.{Told}
 use Rattle.card.specs.declared.Card.{Card}
-use Rattle.card.specs.Calls.{refused_card}
 use Rattle.card_blocks.specs.declared.CardLink.{CardLink}
 use Rattle.card_link.specs.declared.LinkCard.{LinkCard}
 use Rattle.card_link.specs.declared.CardTurn.{CardTurn}
@@ -12,7 +11,7 @@ use Rattle.card_link.specs.CardCalls.{no_link}
 use Rattle.kept.specs.Kept.{bytes_at, word, number, event_of, length_of, told_refuses, told_event, told_length}
 use Rattle.kept.specs.KeptLaws.{word_back, room, three_put}
 use Rattle.kept_card.specs.KeptCard.{card_bytes, card_in}
-use Rattle.kept_card.proofs.KeptCardLaws.{card_back, card_length}
+use Rattle.kept_card.proofs.KeptCardLaws.{card_back, card_length, zero_card}
 use Rattle.kept_card.specs.KeptLink.{link_bytes, link_in, Sized}
 use Rattle.kept_card.proofs.KeptLinkLaws.{link_back, link_length}
 use Rattle.kept_card.specs.KeptWhole.{link_card_bytes, link_card_of, Fits, told_bytes, card_turn_bytes, card_turn_left, KeptCard, kept_card_in, kept_card_of, kept_card_after}
@@ -21,9 +20,9 @@ use Rattle.kept_card.specs.KeptWhole.{link_card_bytes, link_card_of, Fits, told_
 pub link_card_back : (x : LinkCard) (rest : List ℕ) → Fits x → link_card_of (link_card_bytes x ++ rest) ≡ x
 link_card_back x rest f = rw (append_assoc, card_back x.card _ f.0, link_back x.card x.link rest f.1)
 
--- zeros are the card that is handed out where a new one is refused: without power, its UID four zeros, without a link
-pub zeros_card : link_card_of (replicate 64 0) ≡ record { card = refused_card.card; link = no_link }
-unfolding card_in link_in bytes_at number fill
+-- zeros are the card without power whose UID is four zeros, without a link
+pub zeros_card : link_card_of (replicate 64 0) ≡ record { card = zero_card; link = no_link }
+unfolding card_in link_in bytes_at number
 zeros_card = refl
 
 -- ---- what its host was told

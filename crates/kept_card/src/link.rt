@@ -8,16 +8,13 @@ use card_blocks::{CardLink, CardPhase};
 fn number_tag(n: bool) -> u8
     ensures { result ≡ number_tag n }
 {
-    if n { 0 } else { 1 }
+    u8::from(!n)
 }
 
 fn number_in(b: u8) -> bool
     ensures { result ≡ number_in b }
 {
-    if b == 1 {
-        return false;
-    }
-    true
+    b != 1
 }
 
 fn phase_tag(p: CardPhase) -> u8
@@ -35,26 +32,20 @@ fn phase_wtx(p: CardPhase) -> u8
     ensures { result ≡ phase_wtx p }
 {
     match p {
-        CardPhase::Receiving => 0,
-        CardPhase::Owing => 0,
         CardPhase::Waiting(w) => w,
-        CardPhase::Answering => 0,
+        _ => 0,
     }
 }
 
 fn phase_in(t: u8, w: u8) -> CardPhase
     ensures { result ≡ phase_in t w }
 {
-    if t == 0 {
-        return CardPhase::Receiving;
+    match t {
+        0 => CardPhase::Receiving,
+        1 => CardPhase::Owing,
+        2 => CardPhase::Waiting(w),
+        _ => CardPhase::Answering,
     }
-    if t == 1 {
-        return CardPhase::Owing;
-    }
-    if t == 2 {
-        return CardPhase::Waiting(w);
-    }
-    CardPhase::Answering
 }
 
 fn block_tag(b: Block) -> u8
@@ -75,13 +66,9 @@ fn block_first(b: Block) -> u8
     ensures { result ≡ block_first b }
 {
     match b {
-        Block::I(n, _) => kept::flag(n),
-        Block::Ack(n) => kept::flag(n),
-        Block::Nak(n) => kept::flag(n),
-        Block::Deselect => 0,
+        Block::I(n, _) | Block::Ack(n) | Block::Nak(n) => kept::flag(n),
         Block::Wtx(w) => w,
-        Block::Unknown => 0,
-        Block::Nothing => 0,
+        Block::Deselect | Block::Unknown | Block::Nothing => 0,
     }
 }
 
@@ -90,12 +77,7 @@ fn block_second(b: Block) -> u8
 {
     match b {
         Block::I(_, chained) => kept::flag(chained),
-        Block::Ack(_) => 0,
-        Block::Nak(_) => 0,
-        Block::Deselect => 0,
-        Block::Wtx(_) => 0,
-        Block::Unknown => 0,
-        Block::Nothing => 0,
+        _ => 0,
     }
 }
 
@@ -103,26 +85,15 @@ fn block_in(t: u8, x: u8, y: u8) -> Block
     ensures { result ≡ block_in t x y }
 {
     let n = x == 1;
-    let chained = y == 1;
-    if t == 0 {
-        return Block::Nothing;
+    match t {
+        0 => Block::Nothing,
+        1 => Block::I(n, y == 1),
+        2 => Block::Ack(n),
+        3 => Block::Nak(n),
+        4 => Block::Deselect,
+        5 => Block::Wtx(x),
+        _ => Block::Unknown,
     }
-    if t == 1 {
-        return Block::I(n, chained);
-    }
-    if t == 2 {
-        return Block::Ack(n);
-    }
-    if t == 3 {
-        return Block::Nak(n);
-    }
-    if t == 4 {
-        return Block::Deselect;
-    }
-    if t == 5 {
-        return Block::Wtx(x);
-    }
-    Block::Unknown
 }
 
 pub fn link_bytes(l: CardLink) -> [u8; 25]
@@ -130,13 +101,11 @@ pub fn link_bytes(l: CardLink) -> [u8; 25]
     ensures sized { Sized l }
 {
     let number = number_tag(l.number);
-    let p = l.phase;
-    let last = l.last;
-    let phase = phase_tag(p);
-    let wtx = phase_wtx(p);
-    let block = block_tag(last);
-    let first = block_first(last);
-    let second = block_second(last);
+    let phase = phase_tag(l.phase);
+    let wtx = phase_wtx(l.phase);
+    let block = block_tag(l.last);
+    let first = block_first(l.last);
+    let second = block_second(l.last);
     let j = kept::word(l.joined);
     let a = kept::word(l.at);
     [
@@ -148,20 +117,13 @@ pub fn link_bytes(l: CardLink) -> [u8; 25]
 pub fn link_of(b: &[u8]) -> CardLink
     ensures { result ≡ link_in b.now }
 {
-    let own = kept::at(b, 21);
-    let reader = kept::at(b, 22);
-    let number = number_in(kept::at(b, 23));
-    let phase = phase_in(kept::at(b, 24), kept::at(b, 25));
-    let last = block_in(kept::at(b, 26), kept::at(b, 27), kept::at(b, 28));
-    let joined = kept::number_at(b, 29);
-    let at = kept::number_at(b, 37);
     CardLink {
-        own,
-        reader,
-        number,
-        phase,
-        last,
-        joined,
-        at,
+        own: kept::at(b, 21),
+        reader: kept::at(b, 22),
+        number: number_in(kept::at(b, 23)),
+        phase: phase_in(kept::at(b, 24), kept::at(b, 25)),
+        last: block_in(kept::at(b, 26), kept::at(b, 27), kept::at(b, 28)),
+        joined: kept::number_at(b, 29),
+        at: kept::number_at(b, 37),
     }
 }

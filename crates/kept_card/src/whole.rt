@@ -10,9 +10,10 @@ use card_link::LinkCard;
 pub fn link_card_of(b: &[u8]) -> LinkCard
     ensures { result ≡ link_card_of b.now }
 {
-    let card = crate::card_of(b);
-    let link = crate::link::link_of(b);
-    LinkCard { card, link }
+    LinkCard {
+        card: crate::card_of(b),
+        link: crate::link::link_of(b),
+    }
 }
 
 // What a host is told, as nine bytes.
@@ -20,7 +21,16 @@ pub fn told_bytes(t: Told) -> [u8; 9]
     ensures value { result ≡ told_bytes t }
     ensures t_bound { told_length t < 18446744073709551616 }
 {
-    let e = kept::told_event(t);
     let w = kept::word(kept::told_length(t));
-    [e, w[0], w[1], w[2], w[3], w[4], w[5], w[6], w[7]]
+    [
+        kept::told_event(t),
+        w[0],
+        w[1],
+        w[2],
+        w[3],
+        w[4],
+        w[5],
+        w[6],
+        w[7],
+    ]
 }

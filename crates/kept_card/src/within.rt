@@ -12,13 +12,9 @@ fn keep(t: CardTurn, state: &mut [u8])
     ensures state_after { state.new ≡ overlay state.old 0 (card_turn_bytes t) }
     ensures state_after_2 { kept_card_in state.new ≡ kept_card_of t }
 {
-    let x = t.card;
-    let c = x.card;
-    let l = x.link;
-    let told = t.told;
-    let card = crate::card_bytes(c);
-    let link = crate::link::link_bytes(l);
-    let news = crate::whole::told_bytes(told);
+    let card = crate::card_bytes(t.card.card);
+    let link = crate::link::link_bytes(t.card.link);
+    let news = crate::whole::told_bytes(t.told);
     rows::within::put(state, 0, &card);
     rows::within::put(state, 20, &link);
     rows::within::put(state, 45, &news);
@@ -32,10 +28,8 @@ pub fn settle(t: CardTurn, state: &mut [u8]) -> usize
     ensures state_after { state.new ≡ card_turn_left state.old t }
     ensures state_after_2 { kept_card_in state.new ≡ kept_card_after state.old t }
 {
-    let told = t.told;
-    if kept::told_refuses(told) {
-        return kept::told_number(t.bits, told);
+    if !kept::told_refuses(t.told) {
+        keep(t, state);
     }
-    keep(t, state);
-    kept::told_number(t.bits, told)
+    kept::told_number(t.bits, t.told)
 }

@@ -12,10 +12,9 @@ use sweep::Start;
 pub fn start_of(state: &[u8], tick: u32) -> Start
     ensures { result ≡ start_in state.now tick }
 {
-    let r = kept_reader::select::selection_of(state);
     Start {
-        reader: r,
-        tick: tick,
+        reader: kept_reader::select::selection_of(state),
+        tick,
     }
 }
 

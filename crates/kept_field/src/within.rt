@@ -20,8 +20,7 @@ pub fn cards_of(b: &[u8], n: usize) -> [Card; MOST_CARDS]
     let mut cards = [none; MOST_CARDS];
     let m = kept::few(n);
     for i in 0..m {
-        let c = kept_card::card_of(&b[kept::STATE_SIZE * i..]);
-        cards[i] = c;
+        cards[i] = kept_card::card_of(&b[kept::STATE_SIZE * i..]);
     }
     cards
 }
@@ -35,9 +34,7 @@ pub fn put_cards(cards: [Card; MOST_CARDS], n: usize, b: &mut [u8])
 {
     let m = kept::few(n);
     for i in 0..m {
-        let c = cards[i];
-        let k = kept_card::card_bytes(c);
-        rows::within::put(b, kept::STATE_SIZE * i, &k);
+        rows::within::put(b, kept::STATE_SIZE * i, &kept_card::card_bytes(cards[i]));
     }
 }
 
@@ -64,15 +61,11 @@ pub fn settle(s: Swept, n: usize, state: &mut [u8], cards: &mut [u8]) -> usize
     ensures cards_after { cards.new ≡ row_left n cards.old s }
     ensures says { Says state.old n s state.new cards.new }
 {
-    let a = s.answer;
-    if kept_reader::selection_refuses(a) {
-        return kept_reader::selection_number(a);
+    if kept_reader::selection_refuses(s.answer) {
+        return kept_reader::selection_number(s.answer);
     }
-    let x = kept_reader::reader_of(state);
-    let k = x.link;
-    let r = s.reader;
-    let after = s.cards;
-    keep(r, k, s.logged, s.frames, state);
-    put_cards(after, n, cards);
+    let k = kept_reader::link::link_of(state);
+    keep(s.reader, k, s.logged, s.frames, state);
+    put_cards(s.cards, n, cards);
     s.found
 }

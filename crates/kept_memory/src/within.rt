@@ -12,10 +12,12 @@ pub fn path_of(b: &[u8]) -> Path
     requires { memory_size ≤ length b.now }
     ensures { result ≡ path_in b.now }
 {
-    let known = kept::number_at(b, 64);
     let mut row = [0u8; 120];
     rows::within::put(&mut row, 0, &b[72..192]);
-    Path { row, known }
+    Path {
+        row,
+        known: kept::number_at(b, 64),
+    }
 }
 
 // Writes what comes of a call into lent bytes.
@@ -24,13 +26,9 @@ fn keep(m: Memory, state: &mut [u8])
     ensures state_after { state.new ≡ overlay state.old 0 (memory_bytes m) }
     ensures state_after_2 { memory_in state.new ≡ memory_of m }
 {
-    let t = m.turn;
-    let r = t.reader;
-    let a = t.answer;
-    let p = m.path;
-    let selection = kept_reader::select::selection_bytes(r);
-    let told = crate::told_bytes(a);
-    let path = crate::path_bytes(p);
+    let selection = kept_reader::select::selection_bytes(m.turn.reader);
+    let told = crate::told_bytes(m.turn.answer);
+    let path = crate::path_bytes(m.path);
     rows::within::put(state, 0, &selection);
     rows::within::put(state, 21, &told);
     rows::within::put(state, 64, &path);
@@ -44,11 +42,8 @@ pub fn settle(r: Reader, p: Path, m: Memory, state: &mut [u8]) -> usize
     ensures state_after { state.new ≡ memory_left state.old m }
     ensures state_after_2 { memory_in state.new ≡ memory_after state.old m }
 {
-    let t = m.turn;
-    let a = t.answer;
-    if crate::stays(r, p, m) {
-        return kept_reader::selection_number(a);
+    if !crate::stays(r, p, m) {
+        keep(m, state);
     }
-    keep(m, state);
-    kept_reader::selection_number(a)
+    kept_reader::selection_number(m.turn.answer)
 }

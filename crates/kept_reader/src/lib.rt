@@ -1,11 +1,11 @@
 // A whole reader kept in lent bytes: its selection (`select`), its link (`link`), and what it answered last.
-#![tactic(auto)]
+#![tactic(auto, unfolding(crate::specs::KeptReader::selection_bytes, crate::specs::KeptReader::selection_of, crate::specs::KeptReader::linked_bytes, crate::specs::KeptReader::linked_of, crate::specs::KeptReader::link_of, crate::specs::KeptReader::stays))]
 
 pub mod link;
 pub mod select;
 pub mod within;
 
-ghost use Rattle.std.specs.Prelude.{◌≡◌, ◌&&◌, ◌<◌};
+ghost use Rattle.std.specs.Prelude.{◌≡◌, ◌<◌};
 ghost use Rattle.kept_reader.specs.KeptReader.{Fits, reader_of, selection_number, answer_number, selection_refuses, answer_refuses, selection_event, answer_event, selection_length, answer_length, answer_bytes, stays};
 
 use reader::Answer;
@@ -15,9 +15,10 @@ use reader_link::{LinkAnswer, LinkReader, LinkTurn};
 pub fn reader_of(b: &[u8]) -> LinkReader
     ensures { result ≡ reader_of b.now }
 {
-    let reader = select::selection_of(b);
-    let link = link::link_of(b);
-    LinkReader { reader, link }
+    LinkReader {
+        reader: select::selection_of(b),
+        link: link::link_of(b),
+    }
 }
 
 // So many bits that a selection's answer sends, or minus the refusal's number.
@@ -25,10 +26,8 @@ pub fn selection_number(a: Answer) -> usize
     ensures { result ≡ selection_number a }
 {
     match a {
-        Answer::Sends(n) => n,
-        Answer::Finds(n) => n,
-        Answer::Selects => 0,
-        Answer::Finishes => 0,
+        Answer::Sends(n) | Answer::Finds(n) => n,
+        Answer::Selects | Answer::Finishes => 0,
         Answer::Declines(e) => kept::refused(e),
     }
 }
@@ -48,13 +47,7 @@ pub fn answer_number(a: LinkAnswer) -> usize
 pub fn selection_refuses(a: Answer) -> bool
     ensures { result ≡ selection_refuses a }
 {
-    match a {
-        Answer::Sends(_) => false,
-        Answer::Finds(_) => false,
-        Answer::Selects => false,
-        Answer::Finishes => false,
-        Answer::Declines(_) => true,
-    }
+    matches!(a, Answer::Declines(_))
 }
 
 fn answer_refuses(a: LinkAnswer) -> bool
@@ -67,15 +60,15 @@ fn answer_refuses(a: LinkAnswer) -> bool
     }
 }
 
-fn selection_event(a: Answer) -> u8
+// The number of the event that a selection's answer tells of, 0 for none.
+pub fn selection_event(a: Answer) -> u8
     ensures { result ≡ selection_event a }
 {
     match a {
-        Answer::Sends(_) => 0,
         Answer::Finds(_) => 1,
         Answer::Selects => 2,
         Answer::Finishes => 3,
-        Answer::Declines(_) => 0,
+        Answer::Sends(_) | Answer::Declines(_) => 0,
     }
 }
 
@@ -89,15 +82,13 @@ fn answer_event(a: LinkAnswer) -> u8
     }
 }
 
-fn selection_length(a: Answer) -> usize
+// What comes with it: the byte index of a refusal (T-07).
+pub fn selection_length(a: Answer) -> usize
     ensures { result ≡ selection_length a }
 {
     match a {
-        Answer::Sends(_) => 0,
-        Answer::Finds(_) => 0,
-        Answer::Selects => 0,
-        Answer::Finishes => 0,
         Answer::Declines(e) => kept::place(e),
+        _ => 0,
     }
 }
 
@@ -106,7 +97,7 @@ fn answer_length(a: LinkAnswer) -> usize
 {
     match a {
         LinkAnswer::Selection(s) => selection_length(s),
-        LinkAnswer::Opens(i) => i as usize,
+        LinkAnswer::Opens(i) => usize::from(i),
         LinkAnswer::Blocks(_, t) => kept::told_length(t),
     }
 }
@@ -115,15 +106,18 @@ fn answer_bytes(a: LinkAnswer) -> [u8; 9]
     ensures value { result ≡ answer_bytes a }
     ensures a_bound { answer_length a < 18446744073709551616 }
 {
-    let e = answer_event(a);
     let w = kept::word(answer_length(a));
-    [e, w[0], w[1], w[2], w[3], w[4], w[5], w[6], w[7]]
-}
-
-fn all_three(a: bool, b: bool, c: bool) -> bool
-    ensures { result ≡ (a && (b && c)) }
-{
-    if a { if b { c } else { false } } else { false }
+    [
+        answer_event(a),
+        w[0],
+        w[1],
+        w[2],
+        w[3],
+        w[4],
+        w[5],
+        w[6],
+        w[7],
+    ]
 }
 
 // Was a call on the reader x refused, and does x stay what it was?
@@ -131,18 +125,8 @@ fn stays(x: LinkReader, t: LinkTurn) -> bool
     ensures value { result ≡ stays x t }
     ensures fits { Fits x × Fits t.reader }
 {
-    let a = t.answer;
-    let y = t.reader;
-    let r = x.reader;
-    let s = y.reader;
-    let k = x.link;
-    let l = y.link;
-    let refuses = answer_refuses(a);
-    let selection_was = select::selection_bytes(r);
-    let selection_is = select::selection_bytes(s);
-    let link_was = link::link_bytes(k);
-    let link_is = link::link_bytes(l);
-    let selection_stays = rows::is_same(&selection_was, &selection_is);
-    let link_stays = rows::is_same(&link_was, &link_is);
-    all_three(refuses, selection_stays, link_stays)
+    let selection_stays = select::selection_bytes(x.reader)
+        == select::selection_bytes(t.reader.reader);
+    let link_stays = link::link_bytes(x.link) == link::link_bytes(t.reader.link);
+    answer_refuses(t.answer) && selection_stays && link_stays
 }

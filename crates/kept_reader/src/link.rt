@@ -19,13 +19,11 @@ fn turn_tag(t: Turn) -> u8
 fn turn_of(b: u8) -> Turn
     ensures { result ≡ turn_of b }
 {
-    if b == 0 {
-        return Turn::Sending;
+    match b {
+        0 => Turn::Sending,
+        1 => Turn::Awaiting,
+        _ => Turn::Joining,
     }
-    if b == 1 {
-        return Turn::Awaiting;
-    }
-    Turn::Joining
 }
 
 fn link_phase_tag(p: ReaderPhase) -> u8
@@ -44,31 +42,21 @@ fn link_phase_turn(p: ReaderPhase) -> u8
     ensures { result ≡ link_phase_turn p }
 {
     match p {
-        ReaderPhase::Open => 0,
         ReaderPhase::Talking(t) => turn_tag(t),
-        ReaderPhase::Leaving => 0,
-        ReaderPhase::Finished => 0,
-        ReaderPhase::Stopped => 0,
+        _ => 0,
     }
 }
 
 fn link_phase_of(t: u8, u: u8) -> ReaderPhase
     ensures { result ≡ link_phase_of t u }
 {
-    let turn = turn_of(u);
-    if t == 0 {
-        return ReaderPhase::Open;
+    match t {
+        0 => ReaderPhase::Open,
+        1 => ReaderPhase::Talking(turn_of(u)),
+        2 => ReaderPhase::Leaving,
+        3 => ReaderPhase::Finished,
+        _ => ReaderPhase::Stopped,
     }
-    if t == 1 {
-        return ReaderPhase::Talking(turn);
-    }
-    if t == 2 {
-        return ReaderPhase::Leaving;
-    }
-    if t == 3 {
-        return ReaderPhase::Finished;
-    }
-    ReaderPhase::Stopped
 }
 
 fn linked_bytes(l: ReaderLink) -> [u8; 24]
@@ -76,9 +64,8 @@ fn linked_bytes(l: ReaderLink) -> [u8; 24]
     ensures sized { Sized (Linked l) }
 {
     let number = kept::flag(l.number);
-    let p = l.phase;
-    let tag = link_phase_tag(p);
-    let turn = link_phase_turn(p);
+    let tag = link_phase_tag(l.phase);
+    let turn = link_phase_turn(l.phase);
     let a = kept::word(l.at);
     let j = kept::word(l.joined);
     [
@@ -104,36 +91,26 @@ pub fn link_bytes(k: Link) -> [u8; 24]
 fn linked_of(b: &[u8]) -> ReaderLink
     ensures { result ≡ linked_of b.now }
 {
-    let own = kept::at(b, 22);
-    let card = kept::at(b, 23);
-    let number = kept::at(b, 24) == 1;
-    let phase = link_phase_of(kept::at(b, 25), kept::at(b, 26));
-    let at = kept::number_at(b, 29);
-    let joined = kept::number_at(b, 37);
-    let again = kept::at(b, 27);
-    let repeats = kept::at(b, 28);
     ReaderLink {
-        own,
-        card,
-        number,
-        phase,
-        at,
-        joined,
-        again,
-        repeats,
+        own: kept::at(b, 22),
+        card: kept::at(b, 23),
+        number: kept::at(b, 24) == 1,
+        phase: link_phase_of(kept::at(b, 25), kept::at(b, 26)),
+        at: kept::number_at(b, 29),
+        joined: kept::number_at(b, 37),
+        again: kept::at(b, 27),
+        repeats: kept::at(b, 28),
     }
 }
 
 fn link_in(t: u8, own: u8, l: ReaderLink) -> Link
     ensures { result ≡ link_in t own l }
 {
-    if t == 0 {
-        return Link::NoLink;
+    match t {
+        0 => Link::NoLink,
+        1 => Link::RatsSent(own),
+        _ => Link::Linked(l),
     }
-    if t == 1 {
-        return Link::RatsSent(own);
-    }
-    Link::Linked(l)
 }
 
 pub fn link_of(b: &[u8]) -> Link

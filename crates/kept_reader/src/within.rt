@@ -12,13 +12,9 @@ fn keep(t: LinkTurn, state: &mut [u8])
     ensures state_after { state.new ≡ overlay state.old 0 (turn_bytes t) }
     ensures state_after_2 { kept_in state.new ≡ kept_of t }
 {
-    let x = t.reader;
-    let r = x.reader;
-    let k = x.link;
-    let a = t.answer;
-    let selection = crate::select::selection_bytes(r);
-    let link = crate::link::link_bytes(k);
-    let answer = crate::answer_bytes(a);
+    let selection = crate::select::selection_bytes(t.reader.reader);
+    let link = crate::link::link_bytes(t.reader.link);
+    let answer = crate::answer_bytes(t.answer);
     rows::within::put(state, 0, &selection);
     rows::within::put(state, 21, &link);
     rows::within::put(state, 45, &answer);
@@ -32,10 +28,8 @@ pub fn settle(x: LinkReader, t: LinkTurn, state: &mut [u8]) -> usize
     ensures state_after { state.new ≡ turn_left state.old t }
     ensures state_after_2 { kept_in state.new ≡ kept_after state.old t }
 {
-    let a = t.answer;
-    if crate::stays(x, t) {
-        return crate::answer_number(a);
+    if !crate::stays(x, t) {
+        keep(t, state);
     }
-    keep(t, state);
-    crate::answer_number(a)
+    crate::answer_number(t.answer)
 }

@@ -13,10 +13,9 @@ use reader_b::{AnswerB, ReaderB, TurnB};
 fn drawn_of(number: u8, b: &[u8]) -> Drawn
     ensures { result ≡ drawn_at number b.now }
 {
-    let c = kept_b::card::card_of(b);
     Drawn {
-        card: c,
-        number: number,
+        card: kept_b::card::card_of(b),
+        number,
     }
 }
 
@@ -24,14 +23,11 @@ fn drawn_of(number: u8, b: &[u8]) -> Drawn
 fn last_atqb(slots: usize, list: &[u8]) -> [u8; 12]
     ensures { result ≡ last_atqb slots list.now }
 {
-    if slots == 0 {
-        return [0; 12];
-    }
-    if slots > frame_b::MOST_SLOTS {
+    if slots == 0 || slots > frame_b::MOST_SLOTS {
         return [0; 12];
     }
     let at = 13 * (slots - 1) + 1;
-    kept_b::twelve(list, at as u8)
+    kept::bytes_at(list, at)
 }
 
 // The turn that a request leaves of its reader: what the last slot held is what the list has of it.
@@ -41,11 +37,10 @@ fn inquired_turn(r: ReaderB, a: AnswerB, slots: usize, list: &[u8]) -> TurnB
     if kept_b::answer_refuses(a) {
         return reader_b::within::turn(r, a);
     }
-    let q = last_atqb(slots, list);
     TurnB {
         reader: r,
         answer: a,
-        atqb: q,
+        atqb: last_atqb(slots, list),
     }
 }
 

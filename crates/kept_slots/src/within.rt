@@ -19,8 +19,7 @@ pub fn cards_of(numbers: &[u8], b: &[u8]) -> [Drawn; MOST_CARDS]
     let mut cards = [none; MOST_CARDS];
     let m = kept::few(numbers.len());
     for i in 0..m {
-        let d = crate::drawn_of(numbers[i], &b[kept::STATE_SIZE * i..]);
-        cards[i] = d;
+        cards[i] = crate::drawn_of(numbers[i], &b[kept::STATE_SIZE * i..]);
     }
     cards
 }
@@ -34,10 +33,7 @@ pub fn put_cards(cards: [Drawn; MOST_CARDS], n: usize, b: &mut [u8])
 {
     let m = kept::few(n);
     for i in 0..m {
-        let d = cards[i];
-        let c = d.card;
-        let k = kept_b::card::card_bytes(c);
-        rows::within::put(b, kept::STATE_SIZE * i, &k);
+        rows::within::put(b, kept::STATE_SIZE * i, &kept_b::card::card_bytes(cards[i].card));
     }
 }
 
@@ -58,14 +54,10 @@ pub fn settle(
     ensures cards_after { cards.new ≡ row_left x n cards.old s list.now }
     ensures says { Says x n s list.now cards.new }
 {
-    let r = s.reader;
-    let a = s.answer;
-    let t = crate::inquired_turn(r, a, s.slots, list);
+    let t = crate::inquired_turn(s.reader, s.answer, s.slots, list);
     kept_b::within::settle(x, t, state);
-    if kept_b::stays(x, t) {
-        return crate::inquired_number(a, s.slots);
+    if !kept_b::stays(x, t) {
+        put_cards(s.cards, n, cards);
     }
-    let after = s.cards;
-    put_cards(after, n, cards);
-    crate::inquired_number(a, s.slots)
+    crate::inquired_number(s.answer, s.slots)
 }

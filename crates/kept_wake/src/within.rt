@@ -17,15 +17,10 @@ pub fn settle(x: LinkReader, s: Woken, n: usize, state: &mut [u8], cards: &mut [
     ensures cards_after { cards.new ≡ row_left n cards.old s }
     ensures says { Says n s cards.new }
 {
-    let r = s.reader;
-    let k = x.link;
-    let a = s.answer;
-    let t = crate::turn_of(r, k, a);
-    let told = kept_reader::within::settle(x, t, state);
-    if kept_reader::selection_refuses(a) {
+    let told = kept_reader::within::settle(x, crate::turn_of(s.reader, x.link, s.answer), state);
+    if kept_reader::selection_refuses(s.answer) {
         return told;
     }
-    let after = s.cards;
-    kept_field::within::put_cards(after, n, cards);
+    kept_field::within::put_cards(s.cards, n, cards);
     s.frames
 }

@@ -16,10 +16,7 @@ use refusal::Refusal;
 pub fn speaks(blocks: u8) -> bool
     ensures { result ≡ speaks blocks }
 {
-    if blocks == 0 {
-        return false;
-    }
-    true
+    blocks != 0
 }
 
 fn new_turn(x: LinkCard, uid: &[u8], blocks: u8, index: u8) -> CardTurn
@@ -28,9 +25,8 @@ fn new_turn(x: LinkCard, uid: &[u8], blocks: u8, index: u8) -> CardTurn
     match card_link::whole::new_card(uid, speaks(blocks), index) {
         Ok(card) => quiet(card),
         Err(e) => CardTurn {
-            card: x,
-            bits: 0,
             told: Told::Refused(e),
+            ..quiet(x)
         },
     }
 }
@@ -142,8 +138,7 @@ pub extern "C" fn lac_card_ask(state: &mut [u8], wtxm: u8, out: &mut [u8]) -> us
 pub extern "C" fn lac_card_owes(state: &[u8]) -> u8
     ensures { result ≡ flag (owing (link_card_of state.now)) }
 {
-    let x = kept_card::whole::link_card_of(state);
-    kept::flag(card_link::whole::is_owing(x))
+    kept::flag(card_link::whole::is_owing(kept_card::whole::link_card_of(state)))
 }
 
 // Which state the card is in.
@@ -151,7 +146,5 @@ pub extern "C" fn lac_card_owes(state: &[u8]) -> u8
 pub extern "C" fn lac_card_state(state: &[u8]) -> u8
     ensures { result ≡ state_tag (card_in state.now).state }
 {
-    let c = kept_card::card_of(state);
-    let s = c.state;
-    kept_card::state_tag(s)
+    kept_card::state_tag(kept_card::card_of(state).state)
 }

@@ -163,8 +163,7 @@ pub extern "C" fn lac_uid(state: &[u8], out: &mut [u8]) -> usize
     if out.len() < kept::UID_ROOM {
         return kept::refused(Refusal::Room);
     }
-    let u = kept::uid_of(state);
-    kept::within::put_uid(u, out)
+    kept::within::put_uid(kept::uid_of(state), out)
 }
 
 // CRC_A of bytes.

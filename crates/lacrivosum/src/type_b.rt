@@ -14,21 +14,21 @@ ghost use Rattle.lacrivosum.specs.CardLibrary.{speaks};
 ghost use Rattle.lacrivosum.specs.LibraryB.{reader_bdone, unfit, due, request_call, halt_call, attach_call, hear_call, atqb_done, card_bdone, silent, unmade, new_call};
 
 use card_b::{CardB, StateB, TakenB};
-use reader_b::{ReaderB, TurnB};
+use reader_b::{AnswerB, ReaderB, TurnB};
 use refusal::Refusal;
 
 // A call with an argument that is refused: 11, 1, 6.
 fn refuse(x: ReaderB, room: usize) -> TurnB
     ensures { result ≡ due x room (unfit x) }
 {
-    let p = x.phase;
-    if !reader_b::within::is_ready(p) {
-        return reader_b::within::turn(x, reader_b::AnswerB::Declines(Refusal::NotDue));
-    }
-    if room < frame_b::FRAME_ROOM {
-        return reader_b::within::turn(x, reader_b::AnswerB::Declines(Refusal::Room));
-    }
-    reader_b::within::turn(x, reader_b::AnswerB::Declines(Refusal::Argument))
+    let e = if !reader_b::within::is_ready(x.phase) {
+        Refusal::NotDue
+    } else if room < frame_b::FRAME_ROOM {
+        Refusal::Room
+    } else {
+        Refusal::Argument
+    };
+    reader_b::within::turn(x, AnswerB::Declines(e))
 }
 
 fn halt(x: ReaderB, pupi: &[u8], out: &mut [u8]) -> TurnB
@@ -38,8 +38,7 @@ fn halt(x: ReaderB, pupi: &[u8], out: &mut [u8]) -> TurnB
     if pupi.len() != 4 {
         return refuse(x, out.len());
     }
-    let p = kept_b::four(pupi, 0);
-    reader_b::halt(x, p, out)
+    reader_b::halt(x, kept::bytes_at(pupi, 0), out)
 }
 
 fn attach(x: ReaderB, atqb: &[u8], index: u8, out: &mut [u8]) -> TurnB
@@ -49,8 +48,7 @@ fn attach(x: ReaderB, atqb: &[u8], index: u8, out: &mut [u8]) -> TurnB
     if atqb.len() != kept_b::ATQB_ROOM {
         return refuse(x, out.len());
     }
-    let q = kept_b::twelve(atqb, 0);
-    reader_b::attach(x, q, index, out)
+    reader_b::attach(x, kept::bytes_at(atqb, 0), index, out)
 }
 
 // REQB, or WUPB where wake is not 0, with n slots. 11: the reader is not ready; 1; 6: n is not 1, 2, 4, 8 or 16.
@@ -140,7 +138,7 @@ pub extern "C" fn lac_b_atqb(state: &[u8], out: &mut [u8]) -> usize
     if out.len() < kept_b::ATQB_ROOM {
         return kept::refused(Refusal::Room);
     }
-    let q = kept_b::twelve(state, 4);
+    let q: [u8; 12] = kept::bytes_at(state, 4);
     rows::within::put(out, 0, &q);
     12
 }
@@ -174,27 +172,17 @@ fn new_card(
 ) -> TakenB
     ensures { result ≡ new_call x pupi.now afi markers application.now protocol.now }
 {
-    if pupi.len() != 4 {
+    if pupi.len() != 4 || application.len() != 4 || protocol.len() != 3 {
         return unmade(x);
     }
-    if application.len() != 4 {
-        return unmade(x);
-    }
-    if protocol.len() != 3 {
-        return unmade(x);
-    }
-    let p = kept_b::four(pupi, 0);
-    let a = kept_b::four(application, 0);
-    let i = kept_b::three(protocol, 0);
-    let c = CardB {
-        pupi: p,
-        afi: afi,
+    silent(CardB {
+        pupi: kept::bytes_at(pupi, 0),
+        afi,
         markers: crate::card_calls::speaks(markers),
-        application: a,
-        protocol: i,
+        application: kept::bytes_at(application, 0),
+        protocol: kept::bytes_at(protocol, 0),
         state: StateB::Off,
-    };
-    silent(c)
+    })
 }
 
 // A card without power, over whatever the state was; markers is 0 for a card that does not answer slot markers, else any number. 6: not four bytes
@@ -267,7 +255,5 @@ pub extern "C" fn lac_b_card_take(state: &mut [u8], number: u8, row: &[u8], out:
 pub extern "C" fn lac_b_card_state(state: &[u8]) -> u8
     ensures { result ≡ state_tag (card_in state.now).state }
 {
-    let c = kept_b::card::card_of(state);
-    let s = c.state;
-    kept_b::card::state_tag(s)
+    kept_b::card::state_tag(kept_b::card::card_of(state).state)
 }

@@ -23,8 +23,7 @@ pub extern "C" fn lac_wake(state: &mut [u8], uid: &[u8], cards: &mut [u8], n: us
         return kept::refused(Refusal::Room);
     }
     let x = kept_reader::reader_of(state);
-    let r = x.reader;
     let field = kept_field::within::cards_of(cards, n);
-    let s = wake::wake(r, uid, field, n);
+    let s = wake::wake(x.reader, uid, field, n);
     kept_wake::within::settle(x, s, n, state, cards)
 }

@@ -7,7 +7,7 @@ use borrow.Author.Rules.{rules}
 use Rattle.kept_memory.proofs.path_bytes.Goals as goal
 
 pub put-requires-2 : goal.put-requires-2
-put-requires-2 c = let n : length c.args.p.row ≡ 120 = search rules in omega (arith, path_room _ _ _ c.word-w.ensures c.put.ensures)
+put-requires-2 c = let n : length c.args.p.row ≡ 120 = search rules in omega (arith, path_room _ _ _ c.word.ensures c.put.ensures)
 
 pub returns : goal.returns
-returns c = let a = c.args in let n : length a.p.row ≡ 120 = search rules in record { value = path_put a.p _ _ _ c.word-w.ensures n c.put.ensures c.put-2.ensures; fits = (search rules, n) }
+returns c = let a = c.args in let n : length a.p.row ≡ 120 = search rules in record { value = path_put a.p _ _ _ c.word.ensures n c.put.ensures c.put-2.ensures; fits = (search rules, n) }

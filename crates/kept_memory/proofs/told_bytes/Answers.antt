@@ -4,4 +4,4 @@ use borrow.Author.Rules.{rules}
 use Rattle.kept_memory.proofs.told_bytes.Goals as goal
 
 pub returns : goal.returns
-returns c = record { value = told_put c.args.a _ _ _ _ c.event-e.ensures c.place.ensures c.word-w.ensures c.put.ensures; a_bound = rw (← c.place.ensures) (search rules) }
+returns c = record { value = told_put c.args.a _ _ _ _ c.selection_event.ensures c.selection_length.ensures c.word.ensures c.put.ensures; a_bound = rw (← c.selection_length.ensures) (search rules) }

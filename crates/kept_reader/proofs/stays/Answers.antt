@@ -1,11 +1,15 @@
 -- `kept_reader::stays` meets its contract: the answer, and the bytes of the two readers compared. Assumes nothing.
+use native.Mathlib.Omega.{arith}
+use mathlib.Core.Path.{◌∙◌}
+use Rattle.kept.proofs.ByteLaws.{same_is}
 use Rattle.kept_reader.specs.StayLaws.{stays_by}
-use borrow.Author.Rules.{rules}
+use Rattle.kept_reader.proofs.stays.Goals.{then-answer_refuses, else-answer_refuses}
 use Rattle.kept_reader.proofs.stays.Goals as goal
 
-pub returns : goal.returns
-returns c = let a = c.args in
-    let w = c.selection_bytes-selection_was.ensures in
-    let i = c.selection_bytes-selection_is.ensures in
-    let k = c.link_bytes-link_was.ensures in
-    let l = c.link_bytes-link_is.ensures in record { value = stays_by a.x a.t _ _ _ _ _ _ _ _ c.all_three.ensures c.answer_refuses-refuses.ensures c.is_same-selection_stays.ensures w.value i.value c.is_same-link_stays.ensures k.value l.value; fits = ((w.five_len.0, (w.five_len.1, k.sized)), (i.five_len.0, (i.five_len.1, l.sized))) }
+pub returns-then-selection_stays-clause-value : goal.returns-then-selection_stays-clause-value
+returns-then-selection_stays-clause-value c = let a = c.args in
+    stays_by a.x a.t _ _ _ _ _ _ _ _ (rw (c.if-selection_stays.true.0, c.if-selection_stays.true.1)) c.answer_refuses.ensures (c.eq-selection_stays.ensures ∙ same_is _ _) c.selection_bytes.ensures.value c.selection_bytes-2.ensures.value (c.eq-link_stays.ensures ∙ same_is _ _) c.link_bytes.ensures.value c.link_bytes-2.ensures.value
+
+pub returns-else-selection_stays-clause-value : goal.returns-else-selection_stays-clause-value
+returns-else-selection_stays-clause-value c = let a = c.args in
+    stays_by a.x a.t _ _ _ _ _ _ _ _ (elim c.if-answer_refuses.branch [ then-answer_refuses w ↦ grind arith | else-answer_refuses w ↦ grind arith ]) c.answer_refuses.ensures (c.eq-selection_stays.ensures ∙ same_is _ _) c.selection_bytes.ensures.value c.selection_bytes-2.ensures.value (c.eq-link_stays.ensures ∙ same_is _ _) c.link_bytes.ensures.value c.link_bytes-2.ensures.value

@@ -1,6 +1,5 @@
 -- `kept_b::within::keep_card` meets its contract, by the law `Kept-back`. Assumes nothing.
 use Rattle.kept_b.specs.KeptCardBLaws.{card_put}
-use borrow.Author.Rules.{rules}
 use Rattle.kept_b.proofs.within.keep_card.Goals as goal
 
 pub returns : goal.returns

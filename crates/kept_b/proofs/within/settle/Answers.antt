@@ -3,17 +3,19 @@ use mathlib.Core.Path.{◌≡◌, sym, ◌∙◌}
 use Rattle.kept_b.specs.KeptReaderB.{reader_in}
 use Rattle.kept_b.specs.KeptReaderBLaws.{stayed, moved}
 use borrow.Author.Rules.{rules}
+use Rattle.kept_b.proofs.within.settle.Goals.{then-not-stays, else-not-stays}
 use Rattle.kept_b.proofs.within.settle.Goals as goal
 
-pub returns-then-stays : goal.returns-then-stays
-returns-then-stays c = let a = c.args in
-    let e : a.x ≡ reader_in a.state.now = search rules in
-    let s = stayed a.state.now a.x a.t e (sym c.stays.ensures ∙ c.if-stays.true) in
-    record { value = c.answer_number.ensures; state_after = s.0; state_after_2 = s.1 }
-
 pub returns : goal.returns
-returns c = let a = c.args in
+returns c =
+    let a = c.args in
     let e : a.x ≡ reader_in a.state.now = search rules in
-    let k = c.keep.ensures in
-    let s = moved a.state.now _ a.x a.t e (sym c.stays.ensures ∙ c.if-stays.false) k.state_after k.state_after_2 in
-    record { value = c.answer_number-2.ensures; state_after = s.0; state_after_2 = s.1 }
+    elim c.if-not-stays.branch [
+      | then-not-stays w ↦
+          (let k = w.keep.ensures in
+          let both = moved a.state.now _ a.x a.t e (sym c.stays.ensures ∙ w.if-not-stays.true) k.state_after k.state_after_2 in
+          record { value = c.answer_number.ensures; state_after = rw w.state-is both.0; state_after_2 = rw w.state-is both.1 })
+      | else-not-stays w ↦
+          (let both = stayed a.state.now a.x a.t e (sym c.stays.ensures ∙ w.if-not-stays.false) in
+          record { value = c.answer_number.ensures; state_after = rw w.state-is both.0; state_after_2 = rw w.state-is both.1 })
+    ]

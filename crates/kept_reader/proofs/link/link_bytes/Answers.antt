@@ -1,5 +1,4 @@
 -- `kept_reader::link::link_bytes` meets its contract, case by case. Assumes nothing.
-use borrow.Author.Rules.{rules}
 use Rattle.kept_reader.proofs.link.link_bytes.Goals as goal
 
 pub returns-in-NoLink : goal.returns-in-NoLink
