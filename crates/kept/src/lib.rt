@@ -1,6 +1,7 @@
 // A state kept in lent bytes: what a reader's bytes and a card's are made of.
 #![tactic(auto)]
 
+pub mod states;
 pub mod within;
 
 ghost use Rattle.std.specs.Prelude.{◌≡◌, ◌+◌, ◌%◌, ◌*◌, min, get_or};

@@ -16,13 +16,12 @@ pub fn cards_of(b: &[u8], n: usize) -> [Card; MOST_CARDS]
     requires { state_size * n ≤ length b.now }
     ensures { result ≡ field_in n b.now }
 {
-    let none = kept_card::card_of(&b[..0]);
-    let mut cards = [none; MOST_CARDS];
-    let m = kept::few(n);
-    for i in 0..m {
-        cards[i] = kept_card::card_of(&b[kept::STATE_SIZE * i..]);
-    }
-    cards
+    kept::states::read(
+        n,
+        kept_card::card_of(&[]),
+        b,
+        |_i, state| kept_card::card_of(state),
+    )
 }
 
 // Writes the first n cards of an array, as many as it has, back into a row of states: of each state its first 20 bytes.
@@ -32,8 +31,9 @@ pub fn put_cards(cards: [Card; MOST_CARDS], n: usize, b: &mut [u8])
     ensures b_after_2 { cards_in (length (take n cards)) b.new ≡ take n cards }
     ensures cards_len { length cards ≡ most_cards }
 {
-    let m = kept::few(n);
-    for i in 0..m {
+    // Kept: tried as one function of `kept::states` with kept_slots. No proof yet covers a bound `Fn(T) -> [u8; N]`, and no clause can speak of every
+    // property of a value, which the cards read back need.
+    for i in 0..kept::few(n) {
         rows::within::put(b, kept::STATE_SIZE * i, &kept_card::card_bytes(cards[i]));
     }
 }

@@ -1,5 +1,5 @@
 // A reader that remembers (T-14, crate memory) kept in lent bytes: the reader of a sweep, and its path.
-#![tactic(auto)]
+#![tactic(auto, unfolding(crate::specs::KeptMemory::start_on))]
 
 pub mod within;
 

@@ -1,5 +1,5 @@
 // A row of Type B cards kept in lent bytes, each with the slot number that its host drew, and what a request with all its markers leaves (T-05).
-#![tactic(auto)]
+#![tactic(auto, unfolding(crate::specs::KeptSlots::inquired_turn, crate::specs::KeptSlots::last_atqb))]
 
 pub mod within;
 

@@ -15,13 +15,9 @@ pub fn cards_of(numbers: &[u8], b: &[u8]) -> [Drawn; MOST_CARDS]
     requires { state_size * length numbers.now ≤ length b.now }
     ensures { result ≡ field_in numbers.now b.now }
 {
-    let none = crate::drawn_of(0, &b[..0]);
-    let mut cards = [none; MOST_CARDS];
-    let m = kept::few(numbers.len());
-    for i in 0..m {
-        cards[i] = crate::drawn_of(numbers[i], &b[kept::STATE_SIZE * i..]);
-    }
-    cards
+    kept::states::read(numbers.len(), crate::drawn_of(0, &[]), b, |i, state| {
+        crate::drawn_of(kept::at(numbers, i), state)
+    })
 }
 
 // Writes the first n cards of an array, as many as it has, back into a row of states: of each state its first 15 bytes.
@@ -31,8 +27,8 @@ pub fn put_cards(cards: [Drawn; MOST_CARDS], n: usize, b: &mut [u8])
     ensures b_after_2 { cards_in (length (take n cards)) b.new ≡ map card_of (take n cards) }
     ensures cards_len { length cards ≡ most_cards }
 {
-    let m = kept::few(n);
-    for i in 0..m {
+    // Kept: tried as one function with kept_field (`kept_field::within::put_cards` says why not).
+    for i in 0..kept::few(n) {
         rows::within::put(b, kept::STATE_SIZE * i, &kept_b::card::card_bytes(cards[i].card));
     }
 }

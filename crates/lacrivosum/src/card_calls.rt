@@ -25,8 +25,9 @@ fn new_turn(x: LinkCard, uid: &[u8], blocks: u8, index: u8) -> CardTurn
     match card_link::whole::new_card(uid, speaks(blocks), index) {
         Ok(card) => quiet(card),
         Err(e) => CardTurn {
+            card: x,
+            bits: 0,
             told: Told::Refused(e),
-            ..quiet(x)
         },
     }
 }

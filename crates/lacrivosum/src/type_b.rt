@@ -21,14 +21,13 @@ use refusal::Refusal;
 fn refuse(x: ReaderB, room: usize) -> TurnB
     ensures { result ≡ due x room (unfit x) }
 {
-    let e = if !reader_b::within::is_ready(x.phase) {
-        Refusal::NotDue
-    } else if room < frame_b::FRAME_ROOM {
-        Refusal::Room
-    } else {
-        Refusal::Argument
-    };
-    reader_b::within::turn(x, AnswerB::Declines(e))
+    if !reader_b::within::is_ready(x.phase) {
+        return reader_b::within::turn(x, AnswerB::Declines(Refusal::NotDue));
+    }
+    if room < frame_b::FRAME_ROOM {
+        return reader_b::within::turn(x, AnswerB::Declines(Refusal::Room));
+    }
+    reader_b::within::turn(x, AnswerB::Declines(Refusal::Argument))
 }
 
 fn halt(x: ReaderB, pupi: &[u8], out: &mut [u8]) -> TurnB
@@ -172,7 +171,13 @@ fn new_card(
 ) -> TakenB
     ensures { result ≡ new_call x pupi.now afi markers application.now protocol.now }
 {
-    if pupi.len() != 4 || application.len() != 4 || protocol.len() != 3 {
+    if pupi.len() != 4 {
+        return unmade(x);
+    }
+    if application.len() != 4 {
+        return unmade(x);
+    }
+    if protocol.len() != 3 {
         return unmade(x);
     }
     silent(CardB {

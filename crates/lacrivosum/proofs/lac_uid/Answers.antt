@@ -14,4 +14,4 @@ returns-then-out-lt-UID_ROOM c = let a = c.args in
 pub returns : goal.returns
 returns c = let a = c.args in
     let put = c.put_uid.ensures in
-    uid_given_law a.state.now a.out.now _ _ _ c.if-state-lt-STATE_SIZE.false c.if-out-lt-UID_ROOM.false c.uid_of-u.ensures put.value put.out_after
+    uid_given_law a.state.now a.out.now _ _ _ c.if-state-lt-STATE_SIZE.false c.if-out-lt-UID_ROOM.false c.uid_of.ensures put.value put.out_after

@@ -1,6 +1,5 @@
 -- `kept_field::within::settle` meets its contract, by the laws `settled_refused` and `settled_swept`. Assumes nothing.
-use mathlib.Core.Path.{sym, ap, ◌∙◌}
-use Rattle.reader_link.specs.declared.LinkReader.{LinkReader}
+use mathlib.Core.Path.{sym, ◌∙◌}
 use Rattle.kept_field.specs.SweptLaws.{settled_refused, settled_swept}
 use borrow.Author.Rules.{rules}
 use Rattle.kept_field.proofs.within.settle.Goals as goal
@@ -11,6 +10,5 @@ returns-then-selection_refuses c = let a = c.args in let both = settled_refused 
 pub returns : goal.returns
 returns c = let a = c.args in
     let no = sym c.selection_refuses.ensures ∙ c.if-selection_refuses.false in
-    let l = ap (λ (x : LinkReader). x.link) c.reader_of-x.ensures in
     let k = c.keep.ensures in
-    let p = c.put_cards.ensures in let both = settled_swept a.s a.n a.state.now a.cards.now _ _ _ no l k.state_after k.state_after_2 p.b_after p.b_after_2 p.cards_len in record { value = both.0; state_after = both.1.0; cards_after = both.1.1.0; says = both.1.1.1 }
+    let p = c.put_cards.ensures in let both = settled_swept a.s a.n a.state.now a.cards.now _ _ _ no c.link_of-k.ensures k.state_after k.state_after_2 p.b_after p.b_after_2 p.cards_len in record { value = both.0; state_after = both.1.0; cards_after = both.1.1.0; says = both.1.1.1 }

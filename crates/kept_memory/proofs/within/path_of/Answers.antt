@@ -4,4 +4,4 @@ use borrow.Author.Rules.{rules}
 use Rattle.kept_memory.proofs.within.path_of.Goals as goal
 
 pub returns : goal.returns
-returns c = path_read c.args.b.now _ _ (search rules) c.number_at-known.ensures c.put.ensures
+returns c = path_read c.args.b.now _ _ (search rules) c.number_at.ensures c.put.ensures

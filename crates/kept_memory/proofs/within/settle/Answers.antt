@@ -14,11 +14,11 @@ returns c =
     let f : a.p ≡ path_in a.state.now = search rules in
     let s = c.stays.ensures in
     elim c.if-not-stays.branch [
-      then-not-stays w ↦
-        (let k = w.keep.ensures in
-        let both = moved a.state.now _ a.r a.p a.m e f (sym s.value ∙ w.if-not-stays.true) k.state_after k.state_after_2 in
-        record { value = c.selection_number.ensures; state_after = rw w.state-is both.0; state_after_2 = rw w.state-is both.1 })
-    | else-not-stays w ↦
-        (let both = stayed a.state.now a.r a.p a.m e f s.five_len (sym s.value ∙ w.if-not-stays.false) in
-        record { value = c.selection_number.ensures; state_after = rw w.state-is both.0; state_after_2 = rw w.state-is both.1 })
+      | then-not-stays w ↦
+          (let k = w.keep.ensures in
+          let both = moved a.state.now _ a.r a.p a.m e f (sym s.value ∙ w.if-not-stays.true) k.state_after k.state_after_2 in
+          record { value = c.selection_number.ensures; state_after = rw w.state-is both.0; state_after_2 = rw w.state-is both.1 })
+      | else-not-stays w ↦
+          (let both = stayed a.state.now a.r a.p a.m e f s.five_len (sym s.value ∙ w.if-not-stays.false) in
+          record { value = c.selection_number.ensures; state_after = rw w.state-is both.0; state_after_2 = rw w.state-is both.1 })
     ]

@@ -14,7 +14,7 @@ unfolding cards_left states_left
 loop-i-init c = (omega arith, omega arith, omega arith, search rules, refl, refl, tt)
 
 pub put-requires : goal.put-requires
-put-requires c = let k : length c.card_bytes-k.result ≡ 15 = search rules in
+put-requires c = let k : length c.card_bytes.result ≡ 15 = search rules in
     let l = c.loop-i in
     omega (arith, l.invariant.4)
 
@@ -22,11 +22,11 @@ pub loop-i-preserved : goal.loop-i-preserved
 loop-i-preserved c = let l = c.loop-i in
     let a = c.args in
     let p = c.put in
-    let t = put_turn l.b a.b.now _ a.cards l.i _ _ _ (omega arith) (omega arith) l.invariant.5 l.invariant.6 refl c.card_bytes-k.ensures.fits c.card_bytes-k.ensures.value p.ensures in
+    let t = put_turn l.b a.b.now _ a.cards l.i _ _ _ (omega arith) (omega arith) l.invariant.5 l.invariant.6 refl c.card_bytes.ensures.fits c.card_bytes.ensures.value p.ensures in
     (omega arith, omega arith, omega arith, l.invariant.3, p.auto.out ∙ l.invariant.4, t.0, t.1)
 
 pub returns : goal.returns
 returns c = let l = c.loop-i in
     let a = c.args in
-    let e : l.i ≡ c.few-m.result = omega arith in
-    let d = put_done a.n l.i _ a.b.now a.cards (omega arith) l.invariant.3 (e ∙ c.few-m.ensures) l.invariant.5 l.invariant.6 in record { b_after = d.0; b_after_2 = d.1; cards_len = l.invariant.3 }
+    let e : l.i ≡ c.few-i-end.result = omega arith in
+    let d = put_done a.n l.i _ a.b.now a.cards (omega arith) l.invariant.3 (e ∙ c.few-i-end.ensures) l.invariant.5 l.invariant.6 in record { b_after = d.0; b_after_2 = d.1; cards_len = l.invariant.3 }

@@ -11,7 +11,7 @@ use Rattle.kept_slots.specs.SlotsLaws.{Whole, put_turn, put_done}
 use Rattle.kept_slots.proofs.within.put_cards.Given as goal
 
 abbrev pub invariant-loop-i : goal.invariant-loop-i
-invariant-loop-i l = (l.i ≤ l.m) × (l.m ≤ l.n) × (l.m ≤ 32) × (length l.cards ≡ 32) × (length l.b ≡ length l.initial.b) × (l.b ≡ cards_left l.initial.b (take l.i l.cards)) × All Whole (take l.i l.cards)
+invariant-loop-i l = (l.i ≤ l.i-end) × (l.i-end ≤ l.n) × (l.i-end ≤ 32) × (length l.cards ≡ 32) × (length l.b ≡ length l.initial.b) × (l.b ≡ cards_left l.initial.b (take l.i l.cards)) × All Whole (take l.i l.cards)
 
 abbrev pub decreases-loop-i : goal.decreases-loop-i
-decreases-loop-i l = l.m - l.i
+decreases-loop-i l = l.i-end - l.i

@@ -3,4 +3,4 @@ use borrow.Author.Rules.{rules}
 use Rattle.lacrivosum.proofs.card_calls.lac_card_owes.Goals as goal
 
 pub returns : goal.returns
-returns c = rw (c.flag.ensures, c.is_owing.ensures, c.link_card_of-x.ensures)
+returns c = rw (c.flag.ensures, c.is_owing.ensures, c.link_card_of.ensures)

@@ -6,4 +6,4 @@ use borrow.Author.Rules.{rules}
 use Rattle.lacrivosum.proofs.frames.lac_frame_read.Goals as goal
 
 pub returns : goal.returns
-returns c = let r = c.read-r in let both = received_said r.result _ (read_frame 1 most_bytes c.args.row.now) _ _ _ r.ensures.result_value r.ensures.out_after c.received_number.ensures in record { value = both.0; out_after = both.1 }
+returns c = let r = c.read in let both = received_said r.result _ (read_frame 1 most_bytes c.args.row.now) _ _ _ r.ensures.result_value r.ensures.out_after c.number.ensures in record { value = both.0; out_after = both.1 }

@@ -6,4 +6,4 @@ use borrow.Author.Rules.{rules}
 use Rattle.lacrivosum.proofs.frames.lac_frame_read_crc.Goals as goal
 
 pub returns : goal.returns
-returns c = let r = c.read_crc-r in let both = received_said r.result _ (read_crc 3 most_bytes c.args.row.now) _ _ _ r.ensures.result_value r.ensures.out_after c.received_number.ensures in record { value = both.0; out_after = both.1 }
+returns c = let r = c.read_crc in let both = received_said r.result _ (read_crc 3 most_bytes c.args.row.now) _ _ _ r.ensures.result_value r.ensures.out_after c.number.ensures in record { value = both.0; out_after = both.1 }

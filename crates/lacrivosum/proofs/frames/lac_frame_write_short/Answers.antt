@@ -4,4 +4,4 @@ use borrow.Author.Rules.{rules}
 use Rattle.lacrivosum.proofs.frames.lac_frame_write_short.Goals as goal
 
 pub returns : goal.returns
-returns c = let w = c.write_short-w in let both = written_said w.result _ _ _ _ _ w.ensures.result_value w.ensures.out_after c.written_number.ensures in record { value = both.0; out_after = both.1 }
+returns c = let w = c.write_short in let both = written_said w.result _ _ _ _ _ w.ensures.result_value w.ensures.out_after c.number.ensures in record { value = both.0; out_after = both.1 }

@@ -7,4 +7,4 @@ pub returns-then-atqb-ne-ATQB_ROOM : goal.returns-then-atqb-ne-ATQB_ROOM
 returns-then-atqb-ne-ATQB_ROOM c = let a = c.args in let both = attach_unfit a.x a.atqb.now a.index a.out.now _ c.if-atqb-ne-ATQB_ROOM.true c.refuse.ensures in record { value = both.0; out_after = both.1 }
 
 pub returns : goal.returns
-returns c = let a = c.args in let both = attach_fit a.x a.atqb.now _ a.index a.out.now _ _ c.if-atqb-ne-ATQB_ROOM.false c.twelve-q.ensures c.attach.ensures.value c.attach.ensures.out_after in record { value = both.0; out_after = both.1 }
+returns c = let a = c.args in let both = attach_fit a.x a.atqb.now _ a.index a.out.now _ _ c.if-atqb-ne-ATQB_ROOM.false c.bytes_at.ensures c.attach.ensures.value c.attach.ensures.out_after in record { value = both.0; out_after = both.1 }

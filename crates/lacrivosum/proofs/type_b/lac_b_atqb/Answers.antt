@@ -13,4 +13,4 @@ returns-then-out-lt-ATQB_ROOM c = let a = c.args in
 
 pub returns : goal.returns
 returns c = let a = c.args in
-    atqb_given a.state.now a.out.now _ _ c.if-state-lt-STATE_SIZE.false c.if-out-lt-ATQB_ROOM.false c.twelve-q.ensures c.put.ensures
+    atqb_given a.state.now a.out.now _ _ c.if-state-lt-STATE_SIZE.false c.if-out-lt-ATQB_ROOM.false c.bytes_at-q.ensures c.put.ensures

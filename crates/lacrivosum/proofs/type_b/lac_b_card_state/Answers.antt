@@ -3,4 +3,4 @@ use borrow.Author.Rules.{rules}
 use Rattle.lacrivosum.proofs.type_b.lac_b_card_state.Goals as goal
 
 pub returns : goal.returns
-returns c = rw (c.state_tag.ensures, c.card_of-c.ensures)
+returns c = rw (c.state_tag.ensures, c.card_of.ensures)

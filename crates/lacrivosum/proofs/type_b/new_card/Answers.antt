@@ -17,4 +17,4 @@ returns-then-protocol-ne3 c = let a = c.args in
 
 pub returns : goal.returns
 returns c = let a = c.args in
-    new_made a.x a.pupi.now a.afi a.markers a.application.now a.protocol.now _ _ _ _ _ c.if-pupi-ne4.false c.if-application-ne4.false c.if-protocol-ne3.false c.four-p.ensures c.four-a.ensures c.three-i.ensures c.speaks.ensures c.silent.ensures
+    new_made a.x a.pupi.now a.afi a.markers a.application.now a.protocol.now _ _ _ _ _ c.if-pupi-ne4.false c.if-application-ne4.false c.if-protocol-ne3.false c.bytes_at.ensures c.bytes_at-2.ensures c.bytes_at-3.ensures c.speaks.ensures c.silent.ensures
