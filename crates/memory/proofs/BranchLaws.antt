@@ -2,14 +2,15 @@
 use Rattle.std.specs.Prelude.{◌≡◌, Bool, length, get_or, replicate, ltb}
 use Rattle.std.proofs.Math.Path.{refl, sym, ap, ap₂}
 use Rattle.std.proofs.Common.{◌∙◌, not-suc-le-zero, length-append, take-suc, lt-ltb, le-ltb, arith}
-use Prim.Native.Nat.{ℕ, suc, ◌-◌, ◌≤◌, ◌<◌}
+use Prim.Native.Nat.{ℕ, zero, suc, ◌+◌, ◌-◌, ◌≤◌, ◌<◌}
 use Rattle.std.proofs.Math.Bool.{true, false, cond}
 use mathlib.Core.List.{List, [], ◌∷◌, ◌++◌, append_assoc}
 use Rattle.std.proofs.Math.ListN.{take, length-take}
+use Rattle.std.proofs.Math.Seq.{take-length, take-take}
 use Rattle.rows.specs.ListLaws.{is_nil_law}
 use Rattle.rows.specs.Rows.{clean, fill, overlay}
 use Rattle.uid.specs.FillLaws.{fill_zeros}
-use Rattle.memory.specs.Memory.{branch, known}
+use Rattle.memory.specs.Memory.{branch}
 use Rattle.memory.specs.Stored.{path_of, stored, Branched}
 use Rattle.memory.specs.declared.Path.{Path}
 
@@ -60,6 +61,36 @@ module _ (row : List ℕ) (i : ℕ) (h : 1 ≤ i) (k : i ≤ length row) where
 pub branched_none : (row : List ℕ) (n i : ℕ) → i ≡ 0 → branch (take i row) ≡ branch (take n row) → Branched row n 0
 unfolding branch
 branched_none row n i z e = record { long = rw (← e, z); within = omega arith; is = λ h. absurd (not-suc-le-zero h) }
+
+-- ---- by the place of the last 2
+
+module _ (row : List ℕ) where
+  -- the d bits from i on are none of them a 2
+  settled : (i d : ℕ) → i + d ≤ length row → ((k : ℕ) → i ≤ k → k < i + d → get_or row k 0 ≤ 1) → branch (take (i + d) row) ≡ branch (take i row)
+  settled i zero h c = let e : i + 0 ≡ i = omega arith in rw e
+  settled i (suc d) h c =
+      let e : i + suc d - 1 ≡ i + d = omega arith in
+      branched_less row (i + suc d) (omega arith) h (c (i + suc d - 1) (omega arith) (omega arith))
+      ∙ ap (λ n. branch (take n row)) e ∙ settled i d (omega arith) (λ k l m. c k l (omega arith))
+
+  pub branched_at : (i : ℕ) → i < length row → 1 < get_or row i 0 → ((k : ℕ) → i < k → k < length row → get_or row k 0 ≤ 1) → Branched row (length row) (i + 1)
+  branched_at i h l c =
+      let e : i + 1 + (length row - (i + 1)) ≡ length row = omega arith in
+      let z : i + 1 - 1 ≡ i = omega arith in
+      branched_here row (i + 1) (omega arith) (omega arith) (length row) (omega arith)
+      (sym (ap (λ n. branch (take n row)) (sym e) ∙ settled (i + 1) (length row - (i + 1)) (omega arith) (λ k a b. c k (omega arith) (omega arith)))) (rw z l)
+
+  pub branched_nowhere : ((k : ℕ) → k < length row → get_or row k 0 ≤ 1) → Branched row (length row) 0
+  branched_nowhere c =
+      let e : 0 + length row ≡ length row = omega arith in
+      branched_none row (length row) 0 refl (sym (ap (λ n. branch (take n row)) (sym e) ∙ settled 0 (length row) (omega arith) (λ k a b. c k (omega arith))))
+
+-- the path is the first n places of its row
+pub branched_path : (row : List ℕ) (n r : ℕ) → Branched (take n row) (length (take n row)) r → Branched row n r
+branched_path row n r b =
+    let e : take (length (take n row)) (take n row) ≡ take n row = take-length (take n row) in
+    let h : r ≤ n = omega (arith, b.within, length-take n row) in
+    record { long = b.long ∙ ap (λ l. length (branch l)) e; within = h; is = λ z. ap branch (sym e) ∙ b.is z ∙ ap (λ l. l ++ 0 ∷ []) (take-take (r - 1) n row (omega arith)) }
 
 -- ---- in an array
 

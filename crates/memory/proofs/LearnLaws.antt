@@ -1,7 +1,7 @@
 -- The path grows by the bits that an answer to ANTICOLLISION gives. Assumes nothing.
-use Rattle.std.specs.Prelude.{◌≡◌, ℕ, zero, suc, ◌+◌, ◌-◌, ◌*◌, ◌≤◌, ◌<◌, min, true, false, length, take, set, replicate}
+use Rattle.std.specs.Prelude.{◌≡◌, ℕ, zero, suc, ◌+◌, ◌-◌, ◌*◌, ◌≤◌, ◌<◌, min, Bool, true, false, length, take, set, replicate, ltb}
 use Rattle.std.proofs.Math.Path.{refl}
-use Rattle.std.proofs.Common.{sym, ap, ap₂, ◌∙◌, not-suc-le-zero, true≢false, length-append, length-take, length-drop, length-set, take_all, arith}
+use Rattle.std.proofs.Common.{sym, ap, ap₂, ◌∙◌, not-suc-le-zero, true≢false, length-append, length-take, length-drop, length-set, take_all, ltb-true, ltb-false, arith}
 use Rattle.std.proofs.Math.Nat.{min-le_right}
 use Rattle.std.proofs.lemmas.Bool.{false≢true}
 use mathlib.Core.List.{List, [], ◌∷◌, ◌++◌}
@@ -13,7 +13,7 @@ use Rattle.frame.specs.Frame.{air_bits}
 use Rattle.frame.specs.ByteLaws.{length_air_bits}
 use Rattle.uid.specs.FillLaws.{fill_zeros}
 use Rattle.uid.specs.Uid.{place}
-use Rattle.memory.specs.Memory.{known, keeping, marked, learnt}
+use Rattle.memory.specs.Memory.{keeping, marked, learnt}
 use Rattle.memory.specs.Stored.{path_of, stored, is_collided, Marked}
 use Rattle.memory.specs.declared.Path.{Path}
 use Rattle.selection.specs.declared.Rest.{Rest}
@@ -96,18 +96,24 @@ module _ (l : Level) (r : Reader) (x : Rest) (p q : Path) (n top : ℕ) (d : Lis
       let A : List ℕ = air_bits x.five in
       ap (take x.known) (sym (take_all 40 A (omega (arith, length_air_bits x.five, m.five)))) ∙ take_least x.known 40 A ∙ ap (λ i. take i A) (sym e)
 
-  pub made_learns : r.known < top → q ≡ stored (take n (path_of p) ++ take (top - r.known) (drop r.known d)) → q ≡ stored (take (40 * place l + r.known) (path_of p) ++ learnt r x)
-  unfolding learnt
-  made_learns h o = rw (known_is, ← m.is r.known h, drop_take r.known top d, ← en) o
-
   nothing : (s : RestSays) → marked s [] ≡ []
   unfolding keeping
   nothing Whole = refl
   nothing Collided = refl
   nothing (NotRest e) = refl
 
-  pub made_learns_none : top ≤ r.known → q ≡ stored (take n (path_of p) ++ []) → q ≡ stored (take (40 * place l + r.known) (path_of p) ++ learnt r x)
+  -- d's bits from the smaller of k and top on
+  pub made_learns : (i : ℕ) → i ≡ min r.known top → q ≡ stored (take n (path_of p) ++ take (top - i) (drop i d)) → q ≡ stored (take (40 * place l + r.known) (path_of p) ++ learnt r x)
   unfolding learnt
-  made_learns_none h o =
-      let z : drop r.known (take top (air_bits x.five)) ≡ [] = is_nil_law (drop r.known (take top (air_bits x.five))) (rw (length-drop, length-take) (omega arith)) in
-      rw (known_is, z, nothing x.says, ← en) o
+  made_learns i is o = go (ltb r.known top) refl
+    where
+      go : (b : Bool) → ltb r.known top ≡ b → q ≡ stored (take (40 * place l + r.known) (path_of p) ++ marked x.says (drop r.known (take x.known (air_bits x.five))))
+      go true b =
+          let h : r.known < top = ltb-true r.known top b in
+          let z : i ≡ r.known = omega (arith, is, h) in
+          rw (known_is, ← m.is r.known h, drop_take r.known top d, ← en) (rw z at o)
+      go false b =
+          let h : top ≤ r.known = ltb-false r.known top b in
+          let z : top - i ≡ 0 = omega (arith, is, h) in
+          let none : drop r.known (take top (air_bits x.five)) ≡ [] = is_nil_law (drop r.known (take top (air_bits x.five))) (rw (length-drop, length-take) (omega arith)) in
+          rw (known_is, none, nothing x.says, ← en) (rw z at o)

@@ -14,7 +14,7 @@ use Rattle.memory.specs.declared.Path.{Path}
 use Rattle.memory.specs.declared.Memory.{Memory}
 use Rattle.uid.specs.declared.Level.{Level}
 use Rattle.reader.specs.declared.Phase.{Phase}
-use Rattle.reader.specs.declared.Phase.TheVariants.{AnticollisionSent}
+use Rattle.reader.specs.declared.Phase.TheVariants.{New, ReqaSent, AnticollisionSent, SelectSent, HltaSent, Selected, Finished, Stopped, WupaSent, UidSelectSent}
 use Rattle.reader.specs.declared.Reader.{Reader}
 use Rattle.reader.specs.declared.Turn.{Turn}
 use Rattle.reader.specs.declared.Answer.{Answer}
@@ -62,6 +62,24 @@ path_at q w e = ap path_of e ∙ path_stored w
 pub heard_at : (r : Reader) (w h : List ℕ) (p : Phase) (u : Recall) (m : Memory) → r.phase ≡ p → m ≡ memory_of u → u ≡ hear_in p r w h → m ≡ memory_of (hear r w h)
 unfolding hear
 heard_at r w h p u m e q f = q ∙ ap memory_of (f ∙ ap (λ p. hear_in p r w h) (sym e))
+
+-- no row is awaited in a sweep
+pub else_heard : (r : Reader) (w h : List ℕ) (t : Turn) (m : Memory) → (r.phase ≡ ReqaSent → ⊥) → ((l : Level) → r.phase ≡ AnticollisionSent l → ⊥) → ((l : Level) → r.phase ≡ SelectSent l → ⊥) → (r.phase ≡ HltaSent → ⊥)
+    → m ≡ memory_of (recall t w) → t ≡ Plain.hear r h → m ≡ memory_of (hear r w h)
+unfolding hear
+else_heard r w h t m a b c d e q = e ∙ ap memory_of (ap (λ u. recall u w) q ∙ go r.phase refl)
+  where
+    go : (p : Phase) → r.phase ≡ p → recall (Plain.hear r h) w ≡ hear_in p r w h
+    go New z = refl
+    go ReqaSent z = absurd (a z)
+    go (AnticollisionSent l) z = absurd (b l z)
+    go (SelectSent l) z = absurd (c l z)
+    go HltaSent z = absurd (d z)
+    go Selected z = refl
+    go Finished z = refl
+    go Stopped z = refl
+    go WupaSent z = refl
+    go (UidSelectSent l) z = refl
 
 pub rest_heard : (l : Level) (r : Reader) (w h : List ℕ) (t : Turn) (m : Memory) → m ≡ memory_of (stays t (take (40 * place l + r.known) w ++ learnt r (read_rest r.known r.five h)))
     → t ≡ Plain.hear r h → r.phase ≡ AnticollisionSent l → m ≡ memory_of (hear r w h)

@@ -1,7 +1,7 @@
 -- A level comes next: what the path has of it. Assumes nothing.
 use Rattle.std.specs.Prelude.{◌≡◌, refl, ℕ, zero, suc, ◌+◌, ◌-◌, ◌*◌, ◌≤◌, ◌<◌, min, Bool, true, false, cond, List, [], ◌∷◌, ◌++◌, length, take, drop, get_or, set, replicate, ltb}
-use Rattle.std.proofs.Common.{sym, ap, ◌∙◌, length-take, length-drop, take_all, get_or-take, get_or-drop, drop-drop, ltb-false, arith}
-use Rattle.std.proofs.Math.Nat.{zero-min, min-zero, suc-min-suc, min-le_left, min-le_right}
+use Rattle.std.proofs.Common.{sym, ap, ◌∙◌, length-take, length-drop, take_all, drop-drop, ltb-false, arith}
+use Rattle.std.proofs.Math.Nat.{zero-min, min-zero, suc-min-suc, min-le_right}
 use Rattle.std.proofs.lemmas.List.{length-map}
 use Rattle.std.proofs.Math.ListN.{get_or-map}
 use Rattle.rows.specs.ListLaws.{all_take_law, all_drop, all_append}
@@ -67,6 +67,12 @@ take_least (suc k) zero l = rw (min-zero (suc k))
 take_least (suc k) (suc n) [] = sym (none_taken (min (suc k) (suc n)))
 take_least (suc k) (suc n) (x ∷ l) = rw (suc-min-suc k n) (ap (λ t. x ∷ t) (take_least k n l))
 
+-- a turn of the loop that copies the bits of a part of a path
+pub part_turn : (s : List ℕ) (i : ℕ) → length s ≤ 40 → i < length s → set (overlay (replicate 40 0) 0 (take i (bits s))) i (cond (ltb 1 (get_or s i 0)) 1 (get_or s i 0)) ≡ overlay (replicate 40 0) 0 (take (i + 1) (bits s))
+part_turn s i h l =
+    let z : 0 + i ≡ i = omega arith in
+    rw (z, bit_at) at (overlay_copy (replicate 40 0) 0 (bits s) i (omega arith) (omega (arith, length_bits s)))
+
 module _ (row : List ℕ) (n at m : ℕ) (e : m ≡ min 40 (n - at)) where
   -- the bits of the level that begins at a place, of which m are known
   level_part : take 40 (drop at (bits (take n row))) ≡ bits (take m (drop at row))
@@ -74,21 +80,14 @@ module _ (row : List ℕ) (n at m : ℕ) (e : m ≡ min 40 (n - at)) where
       ap (take 40) (bits_drop at (take n row)) ∙ bits_take 40 (drop at (take n row))
       ∙ ap bits (ap (take 40) (drop_take at n row) ∙ take_least 40 (n - at) (drop at row) ∙ ap (λ k. take k (drop at row)) (sym e))
 
-  -- a turn of the loop that copies them
   module _ (h : length row ≡ 120) (k : n ≤ 120) where
     long_part : length (bits (take m (drop at row))) ≡ m
     long_part = rw (length_bits, length-take, length-drop) (omega (arith, e, min-le_right 40 (n - at)))
 
-    pub part_turn : (i : ℕ) → i < m → set (overlay (replicate 40 0) 0 (take i (bits (take m (drop at row))))) i (cond (ltb 1 (get_or row (at + i) 0)) 1 (get_or row (at + i) 0))
-        ≡ overlay (replicate 40 0) 0 (take (i + 1) (bits (take m (drop at row))))
-    part_turn i l =
-        let v : get_or (bits (take m (drop at row))) i 0 ≡ cond (ltb 1 (get_or row (at + i) 0)) 1 (get_or row (at + i) 0) =
-        bit_at (take m (drop at row)) i ∙ rw (get_or-take m (drop at row) i 0 l, get_or-drop at row i 0) in
-        let z : 0 + i ≡ i = omega arith in
-        rw (z, v) at (overlay_copy (replicate 40 0) 0 (bits (take m (drop at row))) i (omega (arith, e, min-le_left 40 (n - at))) (omega (arith, long_part)))
-
-    pub part_done : (x : List ℕ) (i : ℕ) → m ≤ i → x ≡ overlay (replicate 40 0) 0 (take i (bits (take m (drop at row)))) → x ≡ fill 40 (take 40 (drop at (bits (take n row))))
-    part_done x i l q = q ∙ ap (overlay (replicate 40 0) 0) (take_all i (bits (take m (drop at row))) (omega (arith, long_part))) ∙ fill_zeros 40 (bits (take m (drop at row))) ∙ ap (fill 40) (sym level_part)
+    pub part_done : (x s : List ℕ) (k i : ℕ) → k ≡ m → s ≡ take k (drop at row) → length s ≤ i → x ≡ overlay (replicate 40 0) 0 (take i (bits s)) → x ≡ fill 40 (take 40 (drop at (bits (take n row))))
+    part_done x s k i a b l q =
+        let c : s ≡ take m (drop at row) = b ∙ ap (λ k. take k (drop at row)) a in
+        q ∙ ap (overlay (replicate 40 0) 0) (take_all i (bits s) (omega (arith, length_bits s))) ∙ fill_zeros 40 (bits s) ∙ ap (λ s. fill 40 (bits s)) c ∙ ap (fill 40) (sym level_part)
 
 -- ---- five bytes
 

@@ -14,36 +14,26 @@ use uid::Level;
 fn sent_bit(x: u8) -> u8
     ensures { result ≡ cond (ltb 1 x) 1 x }
 {
-    if x > 1 {
-        return 1;
-    }
-    x
+    x.min(1)
 }
 
 // How many bits of the level that begins at a place are known.
 fn level_known(n: usize, at: usize) -> usize
     ensures { result ≡ min 40 (n - at) }
 {
-    if n < at {
-        return 0;
-    }
-    if 40 < n - at {
-        return 40;
-    }
-    n - at
+    n.saturating_sub(at).min(40)
 }
 
 // Those bits, zeros behind.
 fn level_bits(p: Path, at: usize) -> [u8; 40]
-    requires { p.known ≤ 120 }
+    requires { (p.known ≤ 120) × (at ≤ 120) }
     ensures value { result ≡ fill 40 (take 40 (drop at (bits (path_of p)))) }
     ensures row_len { length p.row ≡ 120 }
 {
-    let row = p.row;
     let m = level_known(p.known, at);
     let mut e = [0u8; 40];
-    for i in 0..m {
-        e[i] = sent_bit(row[at + i]);
+    for (i, x) in p.row[at..at + m].iter().enumerate() {
+        e[i] = sent_bit(*x);
     }
     e
 }
@@ -66,9 +56,10 @@ fn first_phase(l: Level, m: usize) -> Phase
     ensures { result ≡ cond (ltb m 40) (AnticollisionSent l) (SelectSent l) }
 {
     if m < 40 {
-        return Phase::AnticollisionSent(l);
+        Phase::AnticollisionSent(l)
+    } else {
+        Phase::SelectSent(l)
     }
-    Phase::SelectSent(l)
 }
 
 // Level l comes next: its known bits are sent at once.
@@ -78,16 +69,11 @@ pub fn enters(l: Level, r: Reader, p: Path) -> Turn
 {
     let at = 40 * selection::numbers::place(l);
     let m = level_known(p.known, at);
-    let five = five_bytes(level_bits(p, at));
-    let phase = first_phase(l, m);
-    let u = r.uid;
-    let next = Reader {
-        phase: phase,
-        sweeps: r.sweeps,
-        five: five,
+    reader::within::sends(Reader {
+        phase: first_phase(l, m),
+        five: five_bytes(level_bits(p, at)),
         known: m as u8,
-        uid: u,
         sak: 0,
-    };
-    reader::within::sends(next)
+        ..r
+    })
 }

@@ -10,7 +10,7 @@ ghost use Rattle.std.specs.Prelude.{◌≡◌, true, length};
 ghost use Rattle.reader.specs.Calls.{Completed, begin_says, row_after, turn_says};
 ghost use Rattle.memory.specs.Calls.{refused, start_call, hear_call, hear_says};
 
-use reader::{Reader, Turn};
+use reader::{Answer, Reader, Turn};
 use refusal::Refusal;
 
 // The path, in the first `known` places of the row; zeros stand behind it.
@@ -30,11 +30,13 @@ pub struct Memory {
 fn declines(r: Reader, p: Path, e: Refusal) -> Memory
     ensures { result ≡ refused r p e }
 {
-    let t = Turn {
-        reader: r,
-        answer: reader::Answer::Declines(e),
-    };
-    Memory { turn: t, path: p }
+    Memory {
+        turn: Turn {
+            reader: r,
+            answer: Answer::Declines(e),
+        },
+        path: p,
+    }
 }
 
 // The host wants every idle card, one after the other, in few frames: REQA goes out. The lent row has room for 81 bits.
@@ -43,9 +45,10 @@ pub fn start_sweep(r: Reader, out: &mut [u8]) -> Memory
     ensures out_after { out.new ≡ row_after result.turn out.old }
     ensures turn_value { turn_says result.turn ≡ begin_says true r (length out.old) }
 {
-    let t = reader::start_sweep(r, out);
-    let p = paths::empty();
-    Memory { turn: t, path: p }
+    Memory {
+        turn: reader::start_sweep(r, out),
+        path: paths::empty(),
+    }
 }
 
 // The reader hears a row, an empty one for silence. Its next frame, if there is one, stands at the front of the lent row. A UID that it
@@ -56,15 +59,13 @@ pub fn hear(r: Reader, p: Path, row: &[u8], out: &mut [u8]) -> Memory
     ensures turn_value { turn_says result.turn ≡ hear_says r p row.now (length out.old) }
     ensures completed { Completed result.turn.answer result.turn.reader }
 {
-    let phase = r.phase;
-    if !reader::is_awaiting(phase) {
+    if !reader::is_awaiting(r.phase) {
         return declines(r, p, Refusal::NotDue);
     }
     if out.len() < limits::FRAME_ROOM {
         return declines(r, p, Refusal::Room);
     }
     let m = within::hear_rules(r, p, row);
-    let t = m.turn;
-    reader::within::put_sent(t, out);
+    reader::within::put_sent(m.turn, out);
     m
 }

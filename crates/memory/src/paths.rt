@@ -1,5 +1,5 @@
 // The path on values: its newest branch, and what an answer to ANTICOLLISION adds to it.
-ghost use Rattle.std.specs.Prelude.{◌≡◌, [], ◌++◌, ◌+◌, ◌*◌, ◌≤◌, min, length, take};
+ghost use Rattle.std.specs.Prelude.{◌≡◌, ℕ, [], ◌++◌, ◌+◌, ◌*◌, ◌≤◌, ◌<◌, min, length, take, slice_index, None, IfSome};
 ghost use Rattle.uid.specs.Uid.{place};
 ghost use Rattle.memory.specs.Memory.{branch, learnt};
 ghost use Rattle.memory.specs.Stored.{path_of, stored, Branched, is_collided, Marked};
@@ -19,40 +19,33 @@ pub fn empty() -> Path
     }
 }
 
-fn at_most(n: usize, m: usize) -> usize
-    ensures { result ≡ min n m }
-{
-    if n < m {
-        return n;
-    }
-    m
-}
-
 // A path as it is kept: at most 120 bits, zeros behind them.
 pub fn tidy(p: Path) -> Path
     ensures value { result ≡ stored (path_of p) }
     ensures known_bound { result.known ≤ 120 }
 {
-    let row = p.row;
-    let m = at_most(p.known, 120);
-    let mut out = [0u8; 120];
-    rows::within::put(&mut out, 0, &row[..m]);
-    Path { row: out, known: m }
+    let known = p.known.min(120);
+    let mut row = [0u8; 120];
+    rows::within::put(&mut row, 0, &p.row[..known]);
+    Path { row, known }
+}
+
+// Where the last 2 of a path is.
+fn last_collided(path: &[u8]) -> Option<usize>
+    ensures none { result ≡ None → (k : ℕ) → k < length path.now → slice_index path.now k ≤ 1 }
+    ensures some { IfSome result (λ i. (i < length path.now) × (1 < slice_index path.now i) × ((k : ℕ) → i < k → k < length path.now → slice_index path.now k ≤ 1)) }
+{
+    path.iter().rposition(|x| *x > 1)
 }
 
 // How many bits the newest branch of a path has: up to its last 2, or none.
-fn branch_bits(row: [u8; 120], n: usize) -> usize
-    requires { n ≤ 120 }
-    ensures { Branched row n result }
+fn branch_bits(path: &[u8]) -> usize
+    ensures { Branched path.now (length path.now) result }
 {
-    let mut i = n;
-    while 0 < i {
-        if row[i - 1] > 1 {
-            return i;
-        }
-        i -= 1;
+    match last_collided(path) {
+        Some(i) => i + 1,
+        None => 0,
     }
-    0
 }
 
 // The newest branch of a path.
@@ -61,13 +54,12 @@ pub fn take_branch(p: Path) -> Path
     ensures value { result ≡ stored (branch (path_of p)) }
     ensures known_bound { result.known ≤ 120 }
 {
-    let row = p.row;
-    let n = branch_bits(row, p.known);
-    let mut out = [0u8; 120];
-    if 0 < n {
-        rows::within::put(&mut out, 0, &row[..n - 1]);
+    let known = branch_bits(&p.row[..p.known]);
+    let mut row = [0u8; 120];
+    if 0 < known {
+        rows::within::put(&mut row, 0, &p.row[..known - 1]);
     }
-    Path { row: out, known: n }
+    Path { row, known }
 }
 
 // The first n bits of a path, and a row behind them.
@@ -76,13 +68,12 @@ fn joined(p: Path, n: usize, s: &[u8]) -> Path
     ensures value { result ≡ stored (take n (path_of p) ++ s.now) }
     ensures known_bound { result.known ≤ 120 }
 {
-    let row = p.row;
-    let m = at_most(n, p.known);
-    let mut out = [0u8; 120];
-    rows::within::put(&mut out, 0, &row[..m]);
-    rows::within::put(&mut out, m, s);
+    let m = n.min(p.known);
+    let mut row = [0u8; 120];
+    rows::within::put(&mut row, 0, &p.row[..m]);
+    rows::within::put(&mut row, m, s);
     Path {
-        row: out,
+        row,
         known: m + s.len(),
     }
 }
@@ -90,11 +81,7 @@ fn joined(p: Path, n: usize, s: &[u8]) -> Path
 fn is_collided(s: RestSays) -> bool
     ensures { result ≡ is_collided s }
 {
-    match s {
-        RestSays::Whole => false,
-        RestSays::Collided => true,
-        RestSays::NotRest(_) => false,
-    }
+    matches!(s, RestSays::Collided)
 }
 
 // The bits of a level as an answer gives them, of which the first top are known: a 2 where the last of these was put against a 0.
@@ -102,14 +89,10 @@ fn marked_bits(x: Rest, top: usize) -> [u8; 40]
     requires { top ≤ 40 }
     ensures { Marked x top result }
 {
-    let five = x.five;
     let mut d = [0u8; 40];
-    uid::within::put_level(&mut d, 0, five);
-    let says = x.says;
-    if is_collided(says) {
-        if 0 < top {
-            d[top - 1] = 2;
-        }
+    uid::within::put_level(&mut d, 0, x.five);
+    if is_collided(x.says) && 0 < top {
+        d[top - 1] = 2;
     }
     d
 }
@@ -122,10 +105,7 @@ pub fn learns(l: Level, r: Reader, x: Rest, p: Path) -> Path
 {
     let k = r.known as usize;
     let n = 40 * selection::numbers::place(l) + k;
-    let top = at_most(x.known as usize, 40);
+    let top = (x.known as usize).min(40);
     let d = marked_bits(x, top);
-    if k < top {
-        return joined(p, n, &d[k..top]);
-    }
-    joined(p, n, &d[..0])
+    joined(p, n, &d[k.min(top)..top])
 }

@@ -1,5 +1,5 @@
 // The rules of the reader that remembers, on values. Called by our own crates only: firmware calls `start_sweep` and `hear`.
-ghost use Rattle.std.specs.Prelude.{◌≡◌, true, [], ◌++◌, ◌+◌, ◌*◌, take};
+ghost use Rattle.std.specs.Prelude.{◌≡◌, Bool, true, false, [], ◌++◌, ◌+◌, ◌*◌, take};
 ghost use Rattle.uid.specs.Uid.{place};
 ghost use Rattle.selection.specs.Heard.{read_rest};
 ghost use Rattle.reader.specs.Reader.{blank, sends};
@@ -8,7 +8,8 @@ ghost use Rattle.memory.specs.Memory.{recall, learnt, enters_by, keeps, higher, 
 ghost use Rattle.memory.specs.Stored.{path_of, stored, Kept, is_sends, is_on, memory_of};
 
 use crate::level::enters;
-use crate::paths::{empty, learns, take_branch, tidy};
+pub use crate::paths::empty;
+use crate::paths::{learns, take_branch, tidy};
 use crate::{Memory, Path};
 use reader::{Answer, Phase, Reader, Turn};
 use uid::Level;
@@ -17,35 +18,24 @@ use uid::Level;
 pub fn fresh() -> Memory
     ensures { result ≡ memory_of (recall (sends (blank ReqaSent true)) []) }
 {
-    let t = reader::within::sends(reader::within::blank(Phase::ReqaSent, true));
-    let p = empty();
-    Memory { turn: t, path: p }
+    Memory {
+        turn: reader::within::sends(reader::within::blank(Phase::ReqaSent, true)),
+        path: empty(),
+    }
 }
 
 // Does the reader send a frame, its UID not yet complete?
 fn is_sending(a: Answer) -> bool
     ensures { result ≡ is_sends a }
 {
-    match a {
-        Answer::Sends(_) => true,
-        Answer::Finds(_) => false,
-        Answer::Selects => false,
-        Answer::Finishes => false,
-        Answer::Declines(_) => false,
-    }
+    matches!(a, Answer::Sends(_))
 }
 
 // Does the sweep go on?
 fn is_on(a: Answer) -> bool
     ensures { result ≡ is_on a }
 {
-    match a {
-        Answer::Sends(_) => true,
-        Answer::Finds(_) => true,
-        Answer::Selects => false,
-        Answer::Finishes => false,
-        Answer::Declines(_) => false,
-    }
+    matches!(a, Answer::Sends(_) | Answer::Finds(_))
 }
 
 // The path after an answer: nothing is remembered where the sweep ends.
@@ -53,10 +43,7 @@ fn keeps(a: Answer, p: Path) -> Path
     requires { Kept p }
     ensures { result ≡ stored (keeps a (path_of p)) }
 {
-    if is_on(a) {
-        return p;
-    }
-    empty()
+    if is_on(a) { p } else { empty() }
 }
 
 // Level l comes next where the plain reader opens it.
@@ -65,10 +52,10 @@ fn enters_by(a: Answer, l: Level, t: Turn, p: Path) -> Turn
     ensures { result ≡ enters_by a l t (path_of p) }
 {
     if is_sending(a) {
-        let r = t.reader;
-        return enters(l, r, p);
+        enters(l, t.reader, p)
+    } else {
+        t
     }
-    t
 }
 
 fn higher(l: Level) -> Level
@@ -76,8 +63,7 @@ fn higher(l: Level) -> Level
 {
     match l {
         Level::One => Level::Two,
-        Level::Two => Level::Three,
-        Level::Three => Level::Three,
+        _ => Level::Three,
     }
 }
 
@@ -86,9 +72,10 @@ fn stays(t: Turn, p: Path) -> Memory
     requires { Kept p }
     ensures { result ≡ memory_of (stays t (path_of p)) }
 {
-    let a = t.answer;
-    let q = keeps(a, p);
-    Memory { turn: t, path: q }
+    Memory {
+        turn: t,
+        path: keeps(t.answer, p),
+    }
 }
 
 // Level l comes next, if the sweep goes on.
@@ -96,12 +83,9 @@ fn comes(l: Level, t: Turn, p: Path) -> Memory
     requires { Kept p }
     ensures { result ≡ memory_of (comes l t (path_of p)) }
 {
-    let a = t.answer;
-    let next = enters_by(a, l, t, p);
-    let q = keeps(a, p);
     Memory {
-        turn: next,
-        path: q,
+        turn: enters_by(t.answer, l, t, p),
+        path: keeps(t.answer, p),
     }
 }
 
@@ -118,11 +102,8 @@ fn hear_rest(l: Level, r: Reader, p: Path, t: Turn, row: &[u8]) -> Memory
     requires { Kept p }
     ensures { result ≡ memory_of (stays t (take (40 * place l + r.known) (path_of p) ++ learnt r (read_rest r.known r.five row.now))) }
 {
-    let k = r.known;
-    let five = r.five;
-    let x = selection::heard::read_rest(k, five, row);
-    let q = learns(l, r, x, p);
-    stays(t, q)
+    let x = selection::heard::read_rest(r.known, r.five, row);
+    stays(t, learns(l, r, x, p))
 }
 
 // What the reader does with a row, by the frame that it sent last; the path is tidy.
@@ -131,18 +112,12 @@ fn hear_kept(r: Reader, p: Path, row: &[u8]) -> Memory
     ensures { result ≡ memory_of (hear r (path_of p) row.now) }
 {
     let t = reader::within::hear_rules(r, row);
-    let phase = r.phase;
-    match phase {
-        Phase::New => unchanged(t, p),
+    match r.phase {
         Phase::ReqaSent => comes(Level::One, t, take_branch(p)),
         Phase::AnticollisionSent(l) => hear_rest(l, r, p, t, row),
         Phase::SelectSent(l) => comes(higher(l), t, p),
         Phase::HltaSent => stays(t, p),
-        Phase::Selected => unchanged(t, p),
-        Phase::Finished => unchanged(t, p),
-        Phase::Stopped => unchanged(t, p),
-        Phase::WupaSent => unchanged(t, p),
-        Phase::UidSelectSent(_) => unchanged(t, p),
+        _ => unchanged(t, p),
     }
 }
 
@@ -150,18 +125,43 @@ fn hear_kept(r: Reader, p: Path, row: &[u8]) -> Memory
 pub fn hear_rules(r: Reader, p: Path, row: &[u8]) -> Memory
     ensures { result ≡ memory_of (hear r (path_of p) row.now) }
 {
-    let q = tidy(p);
-    hear_kept(r, q, row)
+    hear_kept(r, tidy(p), row)
 }
 
-// What the reader of any sweep does with a row: of one that remembers, or of the plain one, which has no path.
-pub fn hear_if(remembers: bool, r: Reader, p: Path, row: &[u8]) -> Memory
-    ensures { result ≡ memory_of (hear_if remembers r (path_of p) row.now) }
+// The plain reader's turn: nothing is remembered.
+fn without_path(r: Reader, row: &[u8]) -> Memory
+    ensures { result ≡ memory_of (hear_if false r [] row.now) }
 {
-    if remembers {
-        return hear_rules(r, p, row);
+    Memory {
+        turn: reader::within::hear_rules(r, row),
+        path: empty(),
     }
-    let t = reader::within::hear_rules(r, row);
-    let q = empty();
-    Memory { turn: t, path: q }
+}
+
+// What the reader of a sweep does with a row: of one that remembers, or of the plain one, which has no path.
+pub trait Hears {
+    ghost remembers: { Bool };
+
+    fn hear(r: Reader, p: Path, row: &[u8]) -> Memory
+        ensures { result ≡ memory_of (hear_if remembers r (path_of p) row.now) };
+}
+
+pub struct Plain;
+
+impl Hears for Plain {
+    ghost remembers = { false };
+
+    fn hear(r: Reader, p: Path, row: &[u8]) -> Memory {
+        without_path(r, row)
+    }
+}
+
+pub struct Remembering;
+
+impl Hears for Remembering {
+    ghost remembers = { true };
+
+    fn hear(r: Reader, p: Path, row: &[u8]) -> Memory {
+        hear_rules(r, p, row)
+    }
 }

@@ -1,6 +1,5 @@
 -- `memory::hear` meets its contract. Assumes nothing.
 use mathlib.Core.Path.{sym, ◌∙◌}
-use borrow.Author.Tests.{not-true, not-false}
 use Rattle.reader.specs.Calls.{row_after}
 use Rattle.reader.specs.SakLevelLaws.{completed_valid}
 use Rattle.memory.proofs.CallLaws.{hear_not_due, hear_room, hear_due, hear_says_law, heard_valid, refused_row_law, refused_valid}

@@ -3,7 +3,7 @@ use Prim.Native.Nat.{◌+◌, ◌*◌}
 use native.Mathlib.Omega.{arith}
 use lib.ListN.{length-take, length-drop}
 use Rattle.reader.specs.StepLaws.{place_most}
-use Rattle.memory.proofs.LearnLaws.{made_learns, made_learns_none}
+use Rattle.memory.proofs.LearnLaws.{made_learns}
 use borrow.Author.Rules.{rules}
 use Rattle.memory.proofs.paths.learns.Goals as goal
 
@@ -15,18 +15,11 @@ overflow_add-n c = omega (arith, c.place.ensures, place_most c.args.l)
 
 pub joined-requires : goal.joined-requires
 joined-requires c = let a = c.args in
-    (search rules, rw (length-take, length-drop) (omega (arith, c.marked_bits-d.ensures.long, c.place.ensures, place_most a.l, c.at_most-top.ensures)))
-
-pub returns-then-k-top : goal.returns-then-k-top
-returns-then-k-top c = let a = c.args in record {
-  value = made_learns a.l a.r a.x a.p _ (40 * c.place.result + a.r.known) c.at_most-top.result c.marked_bits-d.result (omega (arith, c.place.ensures)) c.at_most-top.ensures
-      c.marked_bits-d.ensures (omega arith) c.joined.ensures.value;
-  known_bound = c.joined.ensures.known_bound;
-}
+    (search rules, rw (length-take, length-drop) (omega (arith, c.marked_bits-d.ensures.long, c.place.ensures, place_most a.l, c.min-top.ensures, c.min.ensures)))
 
 pub returns : goal.returns
 returns c = let a = c.args in record {
-  value = made_learns_none a.l a.r a.x a.p _ (40 * c.place.result + a.r.known) c.at_most-top.result c.marked_bits-d.result (omega (arith, c.place.ensures)) c.at_most-top.ensures
-      c.marked_bits-d.ensures (omega arith) c.joined-2.ensures.value;
-  known_bound = c.joined-2.ensures.known_bound;
+  value = made_learns a.l a.r a.x a.p _ (40 * c.place.result + a.r.known) c.min-top.result c.marked_bits-d.result (omega (arith, c.place.ensures)) c.min-top.ensures
+      c.marked_bits-d.ensures c.min.result c.min.ensures c.joined.ensures.value;
+  known_bound = c.joined.ensures.known_bound;
 }

@@ -6,16 +6,13 @@ use Rattle.memory.proofs.StoredLaws.{made_tidy}
 use borrow.Author.Rules.{rules}
 use Rattle.memory.proofs.paths.tidy.Goals as goal
 
-pub slice_bounds-row-end : goal.slice_bounds-row-end
-slice_bounds-row-end c = let n : length c.args.p.row ≡ 120 = search rules in omega (arith, c.at_most-m.ensures)
-
-pub slice_bounds-put-end-2 : goal.slice_bounds-put-end-2
-slice_bounds-put-end-2 c = let n : length c.args.p.row ≡ 120 = search rules in rw length-take (omega (arith, c.at_most-m.ensures))
+pub slice_bounds-put-end : goal.slice_bounds-put-end
+slice_bounds-put-end c = let n : length c.args.p.row ≡ 120 = search rules in omega (arith, c.min-known.ensures)
 
 pub put-requires : goal.put-requires
-put-requires c = let n : length c.args.p.row ≡ 120 = search rules in rw length-take (omega (arith, c.at_most-m.ensures))
+put-requires c = let n : length c.args.p.row ≡ 120 = search rules in rw length-take (omega (arith, c.min-known.ensures))
 
 pub returns : goal.returns
-returns c = let m = c.at_most-m in
+returns c = let m = c.min-known in
     let a = c.args in
     let n : length a.p.row ≡ 120 = search rules in record { value = made_tidy a.p m.result _ n m.ensures c.put.ensures; known_bound = omega (arith, m.ensures) }

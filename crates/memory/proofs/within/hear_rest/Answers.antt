@@ -7,14 +7,13 @@ use Rattle.uid.specs.Uid.{place}
 use Rattle.memory.specs.Memory.{learnt, stays}
 use Rattle.memory.specs.Stored.{path_of, memory_of}
 use Rattle.memory.proofs.StoredLaws.{kept_stored, path_at}
-use borrow.Author.Rules.{rules}
 use Rattle.memory.proofs.within.hear_rest.Goals as goal
 
 pub stays-requires : goal.stays-requires
-stays-requires c = kept_stored c.learns-q.result _ c.learns-q.ensures.value c.learns-q.ensures.known_bound
+stays-requires c = kept_stored c.learns.result _ c.learns.ensures.value c.learns.ensures.known_bound
 
 pub returns : goal.returns
-returns c = let q = c.learns-q in
+returns c = let q = c.learns in
     let x = c.read_rest-x in
     let a = c.args in
     c.stays.ensures
