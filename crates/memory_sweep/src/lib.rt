@@ -9,6 +9,7 @@ ghost use Rattle.memory_sweep.specs.Promise.{Recalls};
 
 use card::Card;
 use limits::MOST_CARDS;
+use memory::within::Remembering;
 use sweep::{Start, Swept};
 
 // The reader finds every idle card of a field, the first n cards, and halts it, as the plain sweep does: the same list and the same cards. It keeps the
@@ -24,5 +25,5 @@ pub fn sweep(
     ensures list_after { call result log.new list.new ≡ recall_of start cards n log.old list.old }
     ensures recalls { Recalls start cards n log.old list.old result log.new list.new }
 {
-    sweep::within::call(true, start, cards, n, log, list)
+    sweep::within::call::<Remembering>(start, cards, n, log, list)
 }

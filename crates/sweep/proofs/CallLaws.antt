@@ -17,7 +17,6 @@ use Rattle.sweep_rules.specs.Demand.{Typed, Demand3}
 use Rattle.sweep_rules.specs.Run.{Out, sweep}
 use Rattle.sweep_rules.specs.Terms.{within}
 use Rattle.card.specs.declared.Card.{Card}
-use Rattle.refusal.specs.declared.Refusal.{Refusal}
 use Rattle.refusal.specs.declared.Refusal.TheVariants.{Room, Argument, NotDue}
 use Rattle.sweep.specs.Sweep.{call, refused, done, call_of, sweep_of}
 use Rattle.sweep.specs.Promise.{Terms, swept_says, says_of, Sweeps}

@@ -1,5 +1,5 @@
 -- What the call that both sweeps share asks for and gives (crate sweep, module within): the plain one, and the one that remembers (T-14).
-use Rattle.std.specs.Prelude.{◌≡◌, ℕ, ◌≤◌, true, List, length}
+use Rattle.std.specs.Prelude.{◌≡◌, ◌≤◌, true, List, length}
 use Rattle.rows.specs.Rows.{All}
 use Rattle.limits.specs.Limits.{log_room, list_room}
 use Rattle.air_log.specs.Log.{log_size, list_bytes}

@@ -10,6 +10,7 @@ ghost use Rattle.sweep.specs.Promise.{Sweeps};
 
 use card::Card;
 use limits::MOST_CARDS;
+use memory::within::Plain;
 use reader::{Answer, Reader};
 
 // What a sweep begins with: a new reader, and the tick of the log's first record (T-09). Each record after it has the next tick; ticks wrap.
@@ -44,5 +45,5 @@ pub fn sweep(
     ensures list_after { call result log.new list.new ≡ sweep_of start cards n log.old list.old }
     ensures sweeps { Sweeps start cards n log.old list.old result log.new list.new }
 {
-    within::call(false, start, cards, n, log, list)
+    within::call::<Plain>(start, cards, n, log, list)
 }

@@ -10,6 +10,7 @@ ghost use Rattle.sweep.specs.Shared.{FitsRoom};
 use crate::{Start, Swept};
 use card::Card;
 use limits::MOST_CARDS;
+use memory::within::Hears;
 use reader::{Answer, Reader};
 use refusal::Refusal;
 
@@ -20,29 +21,27 @@ fn refused(r: Reader, cards: [Card; MOST_CARDS], e: Refusal) -> Swept
     Swept {
         reader: r,
         answer: Answer::Declines(e),
-        cards: cards,
+        cards,
         frames: 0,
         logged: 0,
         found: 0,
     }
 }
 
-// The tests 11, 1 and 6 in their order, all unchanged where one declines; else the sweep, with or without a memory.
-pub fn call(
-    remembers: bool,
+// The tests 11, 1 and 6 in their order, all unchanged where one declines; else the sweep of the reader that hears as H does.
+pub fn call<H: Hears>(
     start: Start,
     cards: [Card; MOST_CARDS],
     n: usize,
     log: &mut [u8],
     list: &mut [u8],
 ) -> Swept
-    requires { FitsRoom (swept_if remembers) (take n cards) }
-    ensures list_after { call result log.new list.new ≡ call_of (swept_if remembers) start cards n log.old list.old }
+    requires { FitsRoom (swept_if H.remembers) (take n cards) }
+    ensures list_after { call result log.new list.new ≡ call_of (swept_if H.remembers) start cards n log.old list.old }
     ensures all { Terms start cards n log.old list.old → All Typed (take n cards) }
 {
     let r = start.reader;
-    let phase = r.phase;
-    if !reader::within::is_new(phase) {
+    if !reader::within::is_new(r.phase) {
         return refused(r, cards, Refusal::NotDue);
     }
     if log.len() < limits::LOG_ROOM {
@@ -54,19 +53,15 @@ pub fn call(
     if n > MOST_CARDS {
         return refused(r, cards, Refusal::Argument);
     }
-    if !sweep_steps::within::is_within(cards, n) {
+    if !sweep_steps::within::is_within(&cards[..n]) {
         return refused(r, cards, Refusal::Argument);
     }
-    let p = sweep_steps::within::run(remembers, cards, n, start.tick, log, list);
-    let m = p.memory;
-    let turn = m.turn;
-    let last = turn.reader;
-    let answer = turn.answer;
-    let after = p.cards;
+    let p = sweep_steps::within::run::<H>(cards, n, start.tick, log, list);
+    let cards = p.cards;
     Swept {
-        reader: last,
-        answer: answer,
-        cards: after,
+        reader: p.memory.turn.reader,
+        answer: p.memory.turn.answer,
+        cards,
         frames: p.frames,
         logged: p.logged,
         found: p.found,

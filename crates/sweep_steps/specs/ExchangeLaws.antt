@@ -1,7 +1,7 @@
 -- Laws of one exchange: rows at the front of the arrays into which they were written, and the two records in the log. Assumes nothing.
-use Rattle.std.specs.Prelude.{◌≡◌, refl, ℕ, ◌+◌, ◌≤◌, true, List, [], ◌∷◌, ◌++◌, length, take, drop, replicate}
+use Rattle.std.specs.Prelude.{◌≡◌, ℕ, ◌+◌, ◌≤◌, List, length, take, replicate}
 use Rattle.std.proofs.Common.{sym, ap, ◌∙◌, arith, length-append}
-use Rattle.rows.specs.Rows.{overlay, clean}
+use Rattle.rows.specs.Rows.{overlay}
 use Rattle.rows.proofs.RowLaws.{overlay_front, overlay_next}
 use Rattle.reader.specs.Reader.{frame}
 use Rattle.field.specs.Calls.{together}

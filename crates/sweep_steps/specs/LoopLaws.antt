@@ -1,7 +1,7 @@
 -- Laws of the loop as it is coded: it is one of any reader's (RunLaws.antt), the plain one's where it does not remember. Assumes nothing.
-use Rattle.std.specs.Prelude.{◌≡◌, ℕ, ◌+◌, ◌-◌, ◌≤◌, ◌<◌, Bool, true, false, List, [], length, take}
+use Rattle.std.specs.Prelude.{◌≡◌, ℕ, ◌-◌, ◌≤◌, ◌<◌, Bool, true, false, List, length, take}
 use Rattle.std.proofs.Math.Path.{refl, ap}
-use Rattle.std.proofs.Common.{subst, ◌∙◌, arith}
+use Rattle.std.proofs.Common.{arith}
 use Rattle.reader.specs.Reader.{sends}
 use Rattle.air_log.specs.Log.{log_size, list_bytes}
 use Rattle.limits.specs.Limits.{most_cards, most_frames}
@@ -14,7 +14,7 @@ use Rattle.card.specs.declared.Card.{Card}
 use Rattle.sweep_steps.specs.Loop.{sweeper, first_recall, swept_if, reached_at, recall_at, exchanged, started, stepped, next_turn}
 use Rattle.sweep_steps.specs.RunLaws as run-laws
 use Rattle.sweep_steps.specs.RunLaws.{goes_on_law}
-use Rattle.sweep_steps.specs.Steps.{Reached, next_heard, onto, goes_on, Roomy, Written}
+use Rattle.sweep_steps.specs.Steps.{next_heard, onto, goes_on, Roomy, Written}
 use Rattle.sweep_steps.specs.declared.within.Progress.{Progress}
 
 -- where it does not remember it is the plain sweep

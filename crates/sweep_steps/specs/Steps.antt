@@ -2,18 +2,24 @@
 use Rattle.std.specs.Prelude.{ℕ, ◌+◌, ◌*◌, ◌≤◌, ◌<◌, Bool, true, false, ◌&&◌, List, [], ◌∷◌, ◌++◌, ◌≡◌, length, take, drop, replicate, ltb}
 use Rattle.rows.specs.Rows.{overlay}
 use Rattle.uid.specs.Uid.{uid_bytes}
-use Rattle.reader.specs.Reader.{frame}
+use Rattle.reader.specs.Reader.{frame, uid}
 use Rattle.field.specs.Calls.{cards_after}
 use Rattle.field.specs.Field.{heard_from}
 use Rattle.air_log.specs.Log.{Exchange, sent_heard, exchange_bytes, exchange_size, log_size, list_bytes}
 use Rattle.limits.specs.Limits.{most_cards, most_frames}
 use Rattle.sweep_rules.specs.Run.{Out}
 use Rattle.card.specs.declared.Card.{Card}
+use Rattle.card.specs.declared.CardState.TheVariants.{Off}
+use Rattle.uid.specs.declared.UidSize.TheVariants.{Single}
 use Rattle.reader.specs.declared.Reader.{Reader}
 use Rattle.reader.specs.declared.Turn.{Turn}
 use Rattle.reader.specs.declared.Answer.{Answer}
 use Rattle.reader.specs.declared.Answer.TheVariants.{Sends, Finds, Selects, Finishes, Declines}
 use Rattle.sweep_steps.specs.declared.within.Aired.{Aired}
+
+-- what stands in an array where there is no card
+abbrev pub no_card : Card
+no_card = record { uid = uid Single []; blocks = false; index = 0; state = Off }
 
 -- a frame is out
 abbrev pub goes : Answer → Bool

@@ -1,9 +1,11 @@
--- Laws of the loops that test a field. Assumes nothing.
-use Rattle.std.specs.Prelude.{◌≡◌, refl, ℕ, zero, suc, ◌+◌, ◌≤◌, ◌<◌, Bool, true, false, not, ◌&&◌, List, [], ◌∷◌, ◌++◌, length, take, drop, get_or, leb}
-use Rattle.std.proofs.Common.{sym, ap, ◌∙◌, add-one, not-suc-le-zero, arith, length-take, drop_of_length-le, drop-cons, take-suc, get_or-take, length-take-le, Fits, le-leb}
+-- Laws of the tests of a field. Assumes nothing.
+use Rattle.std.specs.Prelude.{◌≡◌, refl, ℕ, suc, ◌≤◌, ◌<◌, Bool, true, false, not, ◌&&◌, ◌||◌, List, [], ◌∷◌, length, get_or}
+use Rattle.std.specs.List.{list_all, list_any, AllWithin}
+use Rattle.std.proofs.Common.{ap, arith, Fits}
+use borrow.Author.Tests.{le-leb, lt-leb}
 use Rattle.std.specs.Int.{w8}
-use Rattle.rows.specs.Rows.{All, Bytes, any, same}
-use Rattle.rows.specs.ListLaws.{all_append, bytes_at_law}
+use Rattle.rows.specs.Rows.{All, any, same}
+use Rattle.rows.specs.ListLaws.{bytes_at_law}
 use Rattle.uid.specs.Uid.{uid_bytes}
 use Rattle.limits.specs.Limits.{most_cards}
 use Rattle.sweep_rules.specs.Terms.{card_fits, all_fit, apart, within}
@@ -14,63 +16,41 @@ use Rattle.card.specs.declared.Card.{Card}
 pub typed_card : (c : Card) → length c.uid.bytes ≡ 10 → ((i : ℕ) → Fits w8 (get_or c.uid.bytes i 0)) → Typed c
 typed_card c l h = record { ten = l; bytes = bytes_at_law c.uid.bytes h }
 
--- one element more has F
-pub all_next : {A : Type 0} (F : A → Type 0) (l : List A) (i : ℕ) (d : A) → i < length l → All F (take i l) → F (get_or l i d) → All F (take (i + 1) l)
-all_next F l i d h a f = rw (add-one, take-suc l i d h) (all_append F (take i l) (get_or l i d ∷ []) a (f, tt))
-
--- ---- the cards from i on, the first n being the field
-
-module _ (cs : List Card) (n : ℕ) (hn : n ≤ length cs) where
-  at_most : (i : ℕ) → n ≤ i → drop i (take n cs) ≡ []
-  at_most i h = drop_of_length-le (take n cs) {i = i} (rw length-take (omega arith))
-
-  module _ (i : ℕ) (d : Card) (h : i < n) where
-    one_more : drop i (take n cs) ≡ get_or cs i d ∷ drop (i + 1) (take n cs)
-    one_more = rw (drop-cons (take n cs) i d (rw length-take (omega arith)), get_or-take n cs i d h, add-one)
-
-    pub fit_next : card_fits (get_or cs i d) ≡ true → all_fit (drop i (take n cs)) ≡ all_fit (drop (i + 1) (take n cs))
-    unfolding all_fit
-    fit_next e = rw (one_more, e)
-
-    pub fit_not : card_fits (get_or cs i d) ≡ false → all_fit (drop i (take n cs)) ≡ false
-    unfolding all_fit
-    fit_not e = rw (one_more, e)
-
-    pub any_next : (t : Card → Bool) → t (get_or cs i d) ≡ false → any t (drop i (take n cs)) ≡ any t (drop (i + 1) (take n cs))
-    unfolding any
-    any_next t e = rw (one_more, e)
-
-    pub any_here : (t : Card → Bool) → t (get_or cs i d) ≡ true → any t (drop i (take n cs)) ≡ true
-    unfolding any
-    any_here t e = rw (one_more, e)
-
-    pub apart_next : not (any (λ k. same (uid_bytes (get_or cs i d).uid) (uid_bytes k.uid)) (drop (i + 1) (take n cs))) ≡ true
-        → apart (drop i (take n cs)) ≡ apart (drop (i + 1) (take n cs))
-    unfolding apart
-    apart_next e = rw (one_more, e)
-
-    pub apart_not : not (any (λ k. same (uid_bytes (get_or cs i d).uid) (uid_bytes k.uid)) (drop (i + 1) (take n cs))) ≡ false
-        → apart (drop i (take n cs)) ≡ false
-    unfolding apart
-    apart_not e = rw (one_more, e)
-
-  pub fit_done : (i : ℕ) → n ≤ i → all_fit (drop i (take n cs)) ≡ true
-  unfolding all_fit
-  fit_done i h = rw (at_most i h)
-
-  pub any_done : (t : Card → Bool) (i : ℕ) → n ≤ i → any t (drop i (take n cs)) ≡ false
-  unfolding any
-  any_done t i h = rw (at_most i h)
-
-  pub apart_done : (i : ℕ) → n ≤ i → apart (drop i (take n cs)) ≡ true
+-- a card more
+module _ (c : Card) (cs : List Card) where
+  pub apart_next : not (any (λ k. same (uid_bytes c.uid) (uid_bytes k.uid)) cs) ≡ true → apart (c ∷ cs) ≡ apart cs
   unfolding apart
-  apart_done i h = rw (at_most i h)
+  apart_next e = rw e
 
-  -- all tests together
-  pub within_not : all_fit (take n cs) ≡ false → n ≤ most_cards → within (take n cs) ≡ false
-  unfolding within
-  within_not e h = rw (le-leb (length (take n cs)) most_cards (rw (length-take-le n cs hn) h), e)
+  pub apart_not : not (any (λ k. same (uid_bytes c.uid) (uid_bytes k.uid)) cs) ≡ false → apart (c ∷ cs) ≡ false
+  unfolding apart
+  apart_not e = rw e
 
-  pub within_rest : all_fit (take n cs) ≡ true → n ≤ most_cards → within (take n cs) ≡ apart (take n cs)
-  unfolding within
-  within_rest e h = rw (le-leb (length (take n cs)) most_cards (rw (length-take-le n cs hn) h), e)
+pub apart_none : (cs : List Card) → length cs ≡ 0 → apart cs ≡ true
+unfolding apart
+apart_none [] e = refl
+apart_none (c ∷ cs) e = absurd (omega (arith, e))
+
+-- by the library's words
+pub all_fit_is : (cs : List Card) → list_all card_fits cs ≡ all_fit cs
+unfolding all_fit
+all_fit_is [] = refl
+all_fit_is (c ∷ cs) = ap (λ b. card_fits c && b) (all_fit_is cs)
+
+pub any_is : {A : Type 0} (t : A → Bool) (l : List A) → list_any t l ≡ any t l
+unfolding any
+any_is t [] = refl
+any_is t (x ∷ l) = ap (λ b. t x || b) (any_is t l)
+
+pub typed : (cs : List Card) → AllWithin Typed cs 0 (length cs) → All Typed cs
+typed [] h = tt
+typed (c ∷ cs) h = (h 0 c (omega arith) (omega arith), typed cs (λ k d a b. h (suc k) d (omega arith) (omega arith)))
+
+-- all tests together
+pub within_small : (cs : List Card) → length cs ≤ most_cards → within cs ≡ (all_fit cs && apart cs)
+unfolding within
+within_small cs h = rw (le-leb (length cs) most_cards h)
+
+pub within_long : (cs : List Card) → most_cards < length cs → within cs ≡ false
+unfolding within
+within_long cs h = rw (lt-leb (length cs) most_cards h)

@@ -1,26 +1,30 @@
 // The sweep's loop: an exchange is a reader frame and what is heard after it. Called by our own crates only, which lend the room.
 ghost use Rattle.std.specs.Prelude.{◌≡◌, true, ◌+◌, ◌*◌, ◌≤◌, ◌<◌, length, take};
-ghost use Rattle.rows.specs.Rows.{All, overlay, clean};
+ghost use Rattle.rows.specs.Rows.{overlay, clean};
 ghost use Rattle.air_log.specs.Log.{sent_heard, exchange_bytes, exchange_size, log_bytes, log_size, list_bytes};
 ghost use Rattle.air_log.specs.Calls.{most_bits};
 ghost use Rattle.limits.specs.Limits.{most_cards};
-ghost use Rattle.sweep_rules.specs.Terms.{within};
-ghost use Rattle.sweep_rules.specs.Demand.{Typed};
-ghost use Rattle.sweep_steps.specs.Steps.{goes, found_by, exchange_of, aired, goes_on, ends, tick_bound, Roomy, Written};
+ghost use Rattle.sweep_steps.specs.Steps.{no_card, goes, found_by, exchange_of, aired, goes_on, ends, tick_bound, Roomy, Written};
 ghost use Rattle.sweep_steps.specs.Loop.{swept_if, reached_at, exchanged, stepped, next_turn};
 
-use card::Card;
+pub use crate::terms::is_within;
+use card::{Card, CardState};
 use limits::MOST_CARDS;
+use memory::within::Hears;
 use memory::{Memory, Path};
 use reader::{Answer, Reader, Turn};
+use uid::UidSize;
 
-// Are the first n cards a field that a sweep takes?
-pub fn is_within(cards: [Card; MOST_CARDS], n: usize) -> bool
-    requires { n ≤ most_cards }
-    ensures value { result ≡ within (take n cards) }
-    ensures all { result ≡ true → All Typed (take n cards) }
+// A card that is off: it stands in an array where there is no card.
+pub fn no_card() -> Card
+    ensures { result ≡ no_card }
 {
-    crate::terms::is_within(cards, n)
+    Card {
+        uid: uid::within::sized(UidSize::Single, &[]),
+        blocks: false,
+        index: 0,
+        state: CardState::Off,
+    }
 }
 
 // A frame was on the air: the cards after it, the bits heard, at the front of a row with room for the longest answer, and the bytes of log that both took.
@@ -80,20 +84,18 @@ pub fn air(
     let bits = reader::within::frame_bits(r);
     let mut heard = [0u8; 45];
     let t = field::within::take_all(cards, n, &frame[..bits], &mut heard);
-    let m = t.bits;
-    let bytes = put_exchange(log, at, tick, &frame[..bits], &heard[..m]);
-    let after = t.cards;
+    let bytes = put_exchange(log, at, tick, &frame[..bits], &heard[..t.bits]);
+    let cards = t.cards;
     Aired {
-        cards: after,
-        heard: heard,
-        bits: m,
-        bytes: bytes,
+        cards,
+        heard,
+        bits: t.bits,
+        bytes,
     }
 }
 
 // The reader's frame on the air, and what the reader does with what it heard.
-fn exchange(
-    remembers: bool,
+fn exchange<H: Hears>(
     r: Reader,
     path: Path,
     cards: [Card; MOST_CARDS],
@@ -103,17 +105,15 @@ fn exchange(
     tick: usize,
 ) -> Exchanged
     requires { (n ≤ most_cards) × (at + exchange_size (exchange_of r (take n cards)) ≤ length log.old) × (tick < tick_bound) }
-    ensures value { result ≡ exchanged remembers r path cards n }
+    ensures value { result ≡ exchanged H.remembers r path cards n }
     ensures log_after { log.new ≡ overlay log.old at (exchange_bytes tick (exchange_of r (take n cards))) }
 {
     let a = air(r, cards, n, log, at, tick);
-    let heard = a.heard;
-    let k = a.bits;
-    let m = memory::within::hear_if(remembers, r, path, &heard[..k]);
-    let after = a.cards;
+    let heard = &a.heard[..a.bits];
+    let cards = a.cards;
     Exchanged {
-        memory: m,
-        cards: after,
+        memory: H::hear(r, path, heard),
+        cards,
         bytes: a.bytes,
     }
 }
@@ -125,50 +125,37 @@ pub fn put_found(t: Turn, list: &mut [u8], at: usize) -> usize
     ensures list_after { list.new ≡ overlay list.old at (list_bytes (found_by t)) }
     ensures t_len { length (list_bytes (found_by t)) ≡ 11 * length (found_by t) }
 {
-    let a = t.answer;
-    let r = t.reader;
-    let u = r.uid;
-    match a {
-        Answer::Sends(_) => 0,
+    match t.answer {
         Answer::Finds(_) => {
-            air_log::within::put_entry(list, at, u);
+            air_log::within::put_entry(list, at, t.reader.uid);
             1
         }
-        Answer::Selects => 0,
-        Answer::Finishes => 0,
-        Answer::Declines(_) => 0,
+        _ => 0,
     }
 }
 
 // One exchange more of a sweep that began with the tick start.
-fn step(
-    remembers: bool,
-    p: Progress,
-    n: usize,
-    start: u32,
-    log: &mut [u8],
-    list: &mut [u8],
-) -> Progress
-    requires { Roomy (reached_at p) n (next_turn remembers p n) log.old list.old }
-    ensures value { result ≡ stepped remembers p n }
-    ensures written { Written start (reached_at p) n (next_turn remembers p n) log.old list.old log.new list.new }
+fn step<H: Hears>(p: Progress, n: usize, start: u32, log: &mut [u8], list: &mut [u8]) -> Progress
+    requires { Roomy (reached_at p) n (next_turn H.remembers p n) log.old list.old }
+    ensures value { result ≡ stepped H.remembers p n }
+    ensures written { Written start (reached_at p) n (next_turn H.remembers p n) log.old list.old log.new list.new }
 {
-    let m = p.memory;
-    let t = m.turn;
-    let r = t.reader;
-    let path = m.path;
-    let cards = p.cards;
-    let at = p.logged;
     let tick = start as usize + 2 * p.frames;
-    let x = exchange(remembers, r, path, cards, n, log, at, tick);
-    let next = x.memory;
-    let turn = next.turn;
-    let found = put_found(turn, list, 11 * p.found);
-    let after = x.cards;
+    let x = exchange::<H>(
+        p.memory.turn.reader,
+        p.memory.path,
+        p.cards,
+        n,
+        log,
+        p.logged,
+        tick,
+    );
+    let found = put_found(x.memory.turn, list, 11 * p.found);
+    let cards = x.cards;
     Progress {
-        memory: next,
-        cards: after,
-        logged: at + x.bytes,
+        memory: x.memory,
+        cards,
+        logged: p.logged + x.bytes,
         frames: p.frames + 1,
         found: p.found + found,
     }
@@ -178,53 +165,39 @@ fn step(
 pub fn goes(a: Answer) -> bool
     ensures { result ≡ goes a }
 {
-    match a {
-        Answer::Sends(_) => true,
-        Answer::Finds(_) => true,
-        Answer::Selects => false,
-        Answer::Finishes => false,
-        Answer::Declines(_) => false,
-    }
+    matches!(a, Answer::Sends(_) | Answer::Finds(_))
 }
 
 // Is a frame out, and may the reader send one more?
 fn goes_on(p: Progress) -> bool
     ensures { result ≡ goes_on (reached_at p) }
 {
-    if p.frames < limits::MOST_FRAMES {
-        let m = p.memory;
-        let t = m.turn;
-        let a = t.answer;
-        return goes(a);
-    }
-    false
+    p.frames < limits::MOST_FRAMES && goes(p.memory.turn.answer)
 }
 
-// A whole sweep over the first n cards, plain or one that remembers (T-14), the tick of its first record start. It is called where log and list have
+// A whole sweep over the first n cards, of the reader that hears as H does, the tick of its first record start. It is called where log and list have
 // room for what it writes.
-pub fn run(
-    remembers: bool,
+pub fn run<H: Hears>(
     cards: [Card; MOST_CARDS],
     n: usize,
     start: u32,
     log: &mut [u8],
     list: &mut [u8],
 ) -> Progress
-    requires { (n ≤ most_cards) × (log_size (swept_if remembers (take n cards)).exchanges ≤ length log.old) × (length (list_bytes (swept_if remembers (take n cards)).found) ≤ length list.old) }
-    ensures result_value { reached_at result ≡ ends cards n (swept_if remembers (take n cards)) }
-    ensures log_after { log.new ≡ overlay log.old 0 (log_bytes start (swept_if remembers (take n cards)).exchanges) }
-    ensures list_after { list.new ≡ overlay list.old 0 (list_bytes (swept_if remembers (take n cards)).found) }
+    requires { (n ≤ most_cards) × (log_size (swept_if H.remembers (take n cards)).exchanges ≤ length log.old) × (length (list_bytes (swept_if H.remembers (take n cards)).found) ≤ length list.old) }
+    ensures result_value { reached_at result ≡ ends cards n (swept_if H.remembers (take n cards)) }
+    ensures log_after { log.new ≡ overlay log.old 0 (log_bytes start (swept_if H.remembers (take n cards)).exchanges) }
+    ensures list_after { list.new ≡ overlay list.old 0 (list_bytes (swept_if H.remembers (take n cards)).found) }
 {
-    let m = memory::within::fresh();
     let mut p = Progress {
-        memory: m,
-        cards: cards,
+        memory: memory::within::fresh(),
+        cards,
         logged: 0,
         frames: 0,
         found: 0,
     };
     while goes_on(p) {
-        p = step(remembers, p, n, start, log, list);
+        p = step::<H>(p, n, start, log, list);
     }
     p
 }

@@ -1,6 +1,5 @@
 use mathlib.Core.Path.{◌∙◌}
 use mathlib.Core.Bool.{false}
-use borrow.Author.Rules.{rules}
 use lib.ListN.{take}
 use Rattle.sweep_rules.specs.Run.{sweep}
 use Rattle.sweep_steps.specs.Loop.{swept_if}

@@ -1,31 +1,15 @@
-use Prim.Native.Nat.{◌≤◌, ◌-◌}
-use mathlib.Core.Path.{◌≡◌, refl, sym, ◌∙◌}
-use native.Mathlib.Omega.{arith}
-use borrow.Author.Rules.{rules}
-use borrow.Author.Tests.{not-true, not-false}
-use lib.ListN.{length, take, drop}
-use Rattle.limits.specs.Limits.{most_cards}
+use mathlib.Core.Path.{sym, ap, ◌∙◌}
 use Rattle.sweep_rules.specs.Terms.{apart}
-use Rattle.sweep_steps.specs.TermLaws.{apart_next, apart_not, apart_done}
+use Rattle.sweep_steps.specs.TermLaws.{apart_next, apart_not, apart_none}
 use Rattle.sweep_steps.proofs.terms.is_apart.Goals as goal
 
-pub loop-i-init : goal.loop-i-init
-loop-i-init c = (omega arith, search rules, refl)
-
-pub is_alone-requires : goal.is_alone-requires
-is_alone-requires c = (omega arith, omega arith)
-
 pub returns-then-not-is_alone : goal.returns-then-not-is_alone
-returns-then-not-is_alone c = let l = c.loop-i in
-    let a = c.args in
-    sym (sym l.invariant.2 ∙ apart_not a.cards a.n (omega arith) l.i _ (omega arith) (sym c.is_alone.ensures ∙ c.if-not-is_alone.true))
+returns-then-not-is_alone c = let s = c.in-Some in
+    sym (sym c.loop-c.invariant ∙ ap apart s.ensures.cases.0 ∙ apart_not s.c.now s.behind.now (sym c.is_alone.ensures ∙ c.if-not-is_alone.true))
 
-pub loop-i-preserved : goal.loop-i-preserved
-loop-i-preserved c = let l = c.loop-i in
-    let a = c.args in
-    (omega arith, omega arith, sym (apart_next a.cards a.n (omega arith) l.i _ (omega arith) (sym c.is_alone.ensures ∙ c.if-not-is_alone.false)) ∙ l.invariant.2)
+pub loop-c-preserved : goal.loop-c-preserved
+loop-c-preserved c = let s = c.in-Some in
+    sym (apart_next s.c.now s.behind.now (sym c.is_alone.ensures ∙ c.if-not-is_alone.false)) ∙ sym (ap apart s.ensures.cases.0) ∙ c.loop-c.invariant
 
 pub returns : goal.returns
-returns c = let l = c.loop-i in
-    let a = c.args in
-    sym (sym l.invariant.2 ∙ apart_done a.cards a.n (omega arith) l.i (omega arith))
+returns c = sym (sym c.loop-c.invariant ∙ apart_none c.loop-c.rest.now c.in_default.ensures.cases)

@@ -1,16 +1,11 @@
-use Prim.Native.Nat.{◌≤◌, ◌-◌}
-use mathlib.Core.Path.{◌≡◌, refl, sym, ◌∙◌}
-use native.Mathlib.Omega.{arith}
-use borrow.Author.Rules.{rules}
-use borrow.Author.Tests.{not-true, not-false}
-use lib.ListN.{length, take, drop}
-use Rattle.limits.specs.Limits.{most_cards}
+-- `sweep_steps::terms::is_apart` meets its contract: whether no UID is there twice is told by the cards that are left. Assumes nothing.
+use mathlib.Core.Path.{◌≡◌}
+use lib.ListN.{length}
 use Rattle.sweep_rules.specs.Terms.{apart}
-use Rattle.sweep_steps.specs.TermLaws.{apart_next, apart_not, apart_done}
 use Rattle.sweep_steps.proofs.terms.is_apart.Given as goal
 
-abbrev pub invariant-loop-i : goal.invariant-loop-i
-invariant-loop-i l = (l.i ≤ l.n) × (length l.cards ≡ most_cards) × (apart (drop l.i (take l.n l.cards)) ≡ apart (take l.n l.cards))
+abbrev pub invariant-loop-c : goal.invariant-loop-c
+invariant-loop-c l = apart l.rest ≡ apart l.fn.cards
 
-abbrev pub decreases-loop-i : goal.decreases-loop-i
-decreases-loop-i l = l.n - l.i
+abbrev pub decreases-loop-c : goal.decreases-loop-c
+decreases-loop-c l = length l.rest

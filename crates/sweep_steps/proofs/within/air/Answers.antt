@@ -10,7 +10,6 @@ use Rattle.sweep_steps.specs.ExchangeLaws.{Front, front_of_law, heard_front}
 use Rattle.rows.specs.CleanLaws.{bits_clean}
 use Rattle.reader.specs.FrameLaws.{frame_bits}
 use Rattle.sweep_steps.specs.Steps.{exchange_of, aired}
-use borrow.Author.Rules.{rules}
 use Rattle.sweep_steps.proofs.within.air.Goals as goal
 
 pub slice_bounds-frame-end : goal.slice_bounds-frame-end

@@ -1,8 +1,7 @@
-use mathlib.Core.Path.{◌≡◌, sym, ap₂, ◌∙◌}
+use mathlib.Core.Path.{sym, ap₂, ◌∙◌}
 use Prim.Native.Nat.{◌+◌}
 use native.Mathlib.Omega.{arith}
 use Rattle.sweep_steps.specs.ExchangeLaws.{length_exchange, exchange_written}
-use borrow.Author.Rules.{rules}
 use Rattle.sweep_steps.proofs.within.put_exchange.Goals as goal
 
 pub put_sent-first-requires : goal.put_sent-first-requires
