@@ -9,6 +9,7 @@ ghost use Rattle.memory_sweep.specs.Recalled.{recall_of};
 ghost use Rattle.memory_sweep.specs.Promise.{Recalls};
 
 use card::Card;
+use memory::within::Remembering;
 use sweep::Start;
 use sweep_row::RowSwept;
 
@@ -20,11 +21,5 @@ pub mod within;
 pub fn sweep_row(start: Start, cards: &mut [Card], log: &mut [u8], list: &mut [u8]) -> RowSwept
     ensures { (call (swept_row result cards.new) log.new list.new ≡ recall_of start cards.old (length cards.old) log.old list.old) × Recalls start cards.old (length cards.old) log.old list.old (swept_row result cards.new) log.new list.new }
 {
-    let mut p = sweep_row::within::opening(true, start, cards.len(), log, list);
-    while p.going {
-        let t = sweep_row::within::turn(p, cards[p.at], log, list);
-        cards[p.at] = t.card;
-        p = t.next;
-    }
-    p.swept
+    sweep_row::within::over::<Remembering>(start, cards, log, list)
 }

@@ -23,11 +23,8 @@ pub fn sweep_array(
     requires { n ≤ most_cards }
     ensures { Promises start cards n log.old list.old (swept_row result.swept result.cards) log.new list.new }
 {
-    let s = crate::sweep_row(start, &mut cards[..n], log, list);
-    ArraySwept {
-        cards: cards,
-        swept: s,
-    }
+    let swept = crate::sweep_row(start, &mut cards[..n], log, list);
+    ArraySwept { cards, swept }
 }
 
 // The answer of `memory_sweep::sweep`, by the lent row. An array holds no row of more cards than the limit, which that call declines.
@@ -44,17 +41,5 @@ pub fn sweep_by_row(
     if n > MOST_CARDS {
         return memory_sweep::sweep(start, cards, n, log, list);
     }
-    let a = sweep_array(start, cards, n, log, list);
-    let s = a.swept;
-    let last = s.reader;
-    let answer = s.answer;
-    let after = a.cards;
-    Swept {
-        reader: last,
-        answer: answer,
-        cards: after,
-        frames: s.frames,
-        logged: s.logged,
-        found: s.found,
-    }
+    sweep_array(start, cards, n, log, list).whole()
 }

@@ -28,7 +28,7 @@ use Rattle.sweep_row.specs.SeenLaws.{SeenFrom, seen_none, seen_next, set_own}
 use Rattle.sweep_row.specs.Under.{padded, Begun, Looking, Taking, Called, UnderIf, Under}
 
 -- it begins
-pub looking_first : (b : Bool) (start : Start) (cards : List Card) (log list : List ℕ) → Begun start cards log list → 0 < length cards → Looking b start cards log list (looks b start (length cards)) cards log list
+pub looking_first : (b : Bool) (start : Start) (cards : List Card) (log list : List ℕ) → Begun start cards log list → 0 < length cards → Looking b start cards log list (looks start (length cards)) cards log list
 looking_first b start cards log list begun h =
     let e : length cards ≡ suc (length cards - 1) = omega arith in
     record {
@@ -40,7 +40,6 @@ looking_first b start cards log list begun h =
       at = omega arith;
       bits = omega arith;
       tick = refl;
-      kind = refl;
       refused = refl;
       seen = subst (λ i. SeenFrom cards i none_seen) e (seen_none cards begun.few);
     }
@@ -59,7 +58,7 @@ module _ (b : Bool) (start : Start) (cards₀ : List Card) (log₀ list₀ : Lis
   abbrev s : Seen
   s = seen_with p.seen p.at p.cards c
 
-  pub looking_ready : p.looking ≡ true → Ready p c log list
+  pub looking_ready : p.looking ≡ true → Ready b p c log list
   looking_ready l =
       record {
         at = omega (arith, L.at, L.count);
@@ -93,7 +92,6 @@ module _ (b : Bool) (start : Start) (cards₀ : List Card) (log₀ list₀ : Lis
           at = omega (arith, L.at);
           bits = L.bits;
           tick = L.tick;
-          kind = L.kind;
           refused = L.refused;
           seen = subst (λ i. SeenFrom cards₀ i s) e seen;
         }
@@ -129,7 +127,6 @@ module _ (b : Bool) (start : Start) (cards₀ : List Card) (log₀ list₀ : Lis
             at = omega (arith, L.count, L.at);
             goes = first_goes;
             tick = L.tick;
-            kind = L.kind;
             sweep_at = subst (λ m. U cards₀ (padded m cards₀) log list) (sym L.count) v;
             take_at =
                 subst (λ w. take-laws.Under silence.heard cards₀ N f silence.heard w 0 (suc (p.cards - 1))) (sym same)

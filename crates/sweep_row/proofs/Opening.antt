@@ -78,10 +78,10 @@ module _ (b : Bool) (start : Start) (n : ℕ) (log list : List ℕ) where
         go [] h = carried b start [] log list none tt empty_within s [] log₁ list₁ es no_cards_law el ef
         go (c ∷ cards) h = absurd (omega (arith, h, z))
 
-    pub opens_looks : n ≤ most_cards → (n ≡ 0 → ⊥) → (p : Progress) → p ≡ looks b start n → Opened b start n log list p log list
+    pub opens_looks : n ≤ most_cards → (n ≡ 0 → ⊥) → (p : Progress) → p ≡ looks start n → Opened b start n log list p log list
     opens_looks few z p e =
         record {
           begins = λ cards h.
-              subst (λ q. Under b start cards log list q cards log list) (ap (looks b start) h ∙ sym e)
+              subst (λ q. Under b start cards log list q cards log list) (ap (looks start) h ∙ sym e)
               (looking_first b start cards log list (record { new = new; log_has_room = hlog; list_has_room = hlist; few = omega (arith, h) }) (omega (arith, h, z)));
         }

@@ -23,12 +23,12 @@ module _ (b : Bool) (start : Start) (cards₀ : List Card) (log₀ list₀ : Lis
   same : get_or ws p.at nobody ≡ get_or ws p.at no_card
   same = get_or_default ws p.at nobody no_card here
 
-  pub ready : Ready p (get_or ws p.at nobody) log list
-  ready = subst (λ c. Ready p c log list) (sym same) (law.ready b start cards₀ log₀ list₀ p ws log list u g)
+  pub ready : Ready b p (get_or ws p.at nobody) log list
+  ready = subst (λ c. Ready b p c log list) (sym same) (law.ready b start cards₀ log₀ list₀ p ws log list u g)
 
-  module _ (t : Turned) (log₁ list₁ : List ℕ) (k : Turns p (get_or ws p.at nobody) log list t log₁ list₁) where
-    turns : Turns p (get_or ws p.at no_card) log list t log₁ list₁
-    turns = subst (λ c. Turns p c log list t log₁ list₁) same k
+  module _ (t : Turned) (log₁ list₁ : List ℕ) (k : Turns b p (get_or ws p.at nobody) log list t log₁ list₁) where
+    turns : Turns b p (get_or ws p.at no_card) log list t log₁ list₁
+    turns = subst (λ c. Turns b p c log list t log₁ list₁) same k
 
     pub fewer : measure t.next < measure p
     fewer = law.fewer b start cards₀ log₀ list₀ p ws log list u g t log₁ list₁ turns

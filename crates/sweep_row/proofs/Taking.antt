@@ -115,14 +115,14 @@ module _ (b : Bool) (start : Start) (cards₀ : List Card) (log₀ list₀ : Lis
     abbrev after : Recall
     after = hear_if b p.swept.reader (path_of p.path) (steps.next_heard P N)
 
-    hears : after ≡ heard_by p a
+    hears : after ≡ heard_by b p a
     unfolding heard_by
-    hears = ap₂ (λ k h. hear_if k p.swept.reader (path_of p.path) h) (sym T.kind) heard
+    hears = ap (λ h. hear_if b p.swept.reader (path_of p.path) h) heard
 
-    turn : after.turn ≡ (heard_by p a).turn
+    turn : after.turn ≡ (heard_by b p a).turn
     turn = ap (λ m. m.turn) hears
 
-    room : Roomy p a log list
+    room : Roomy b p a log list
     room =
         let R : steps.Roomy P N after.turn log list = run-laws.under_room (sweeper b) start.tick (swept_if b cards₀) (padded N cards₀) N log₀ list₀ (recall_at p) P refl log list T.sweep_at T.begun.few goes_plain log_fits list_fits in
         record {
@@ -136,10 +136,10 @@ module _ (b : Bool) (start : Start) (cards₀ : List Card) (log₀ list₀ : Lis
     log₁ = overlay log p.swept.logged (exchange_bytes (row_tick p) (exchange_with p.swept.reader a))
 
     abbrev list₁ : List ℕ
-    list₁ = overlay list (11 * p.swept.found) (list_bytes (steps.found_by (heard_by p a).turn))
+    list₁ = overlay list (11 * p.swept.found) (list_bytes (steps.found_by (heard_by b p a).turn))
 
     abbrev q : Progress
-    q = again p (finished p a)
+    q = again p (finished b p a)
 
     abbrev ws₁ : List Card
     ws₁ = set ws p.at (takes c f)
@@ -166,11 +166,11 @@ module _ (b : Bool) (start : Start) (cards₀ : List Card) (log₀ list₀ : Lis
     -- the reader's state, and how far the sweep is
     state : after ≡ recall_at q
     unfolding finished
-    state = hears ∙ ap (recall (heard_by p a).turn) (sym (path_at (stored (heard_by p a).path) (heard_by p a).path refl))
+    state = hears ∙ ap (recall (heard_by b p a).turn) (sym (path_at (stored (heard_by b p a).path) (heard_by b p a).path refl))
 
     stepped : steps.onto P N (recall_at q).turn ≡ reached_at q ws₁
     unfolding steps.onto finished
-    stepped = ap₂ (λ x k. made (heard_by p a).turn x k) exchange plain_after
+    stepped = ap₂ (λ x k. made (heard_by b p a).turn x k) exchange plain_after
 
     abbrev Sweeps : Recall → steps.Reached → List ℕ → List ℕ → Type 0
     Sweeps m s x y = run-laws.Under (sweeper b) start.tick (swept_if b cards₀) (padded N cards₀) N log₀ list₀ m s x y
@@ -187,7 +187,7 @@ module _ (b : Bool) (start : Start) (cards₀ : List Card) (log₀ list₀ : Lis
         })))
 
     -- the next pass begins
-    goes_on_law : goes_on (finished p a).swept ≡ true → Taking b start cards₀ log₀ list₀ q ws₁ log₁ list₁
+    goes_on_law : goes_on (finished b p a).swept ≡ true → Taking b start cards₀ log₀ list₀ q ws₁ log₁ list₁
     goes_on_law g =
         let e : length ws₁ ≡ suc (p.cards - 1) = omega (arith, size, T.count, T.at) in
         record {
@@ -201,13 +201,12 @@ module _ (b : Bool) (start : Start) (cards₀ : List Card) (log₀ list₀ : Lis
           at = omega (arith, T.count, T.at);
           goes = g;
           tick = T.tick;
-          kind = T.kind;
           sweep_at = under;
           take_at = subst (take-laws.Under silence.heard ws₁ (length ws₁) (frame q.swept.reader) silence.heard ws₁ 0) e (take_start (frame q.swept.reader) silence.heard ws₁);
         }
 
     -- it is over
-    module _ (g : goes_on (finished p a).swept ≡ false) where
+    module _ (g : goes_on (finished b p a).swept ≡ false) where
       ends : reached_at q ws₁ ≡ steps.ends (padded N cards₀) N (swept_if b cards₀)
       ends = run-laws.under_ends (sweeper b) start.tick (swept_if b cards₀) (padded N cards₀) N log₀ list₀ (recall_at q) (reached_at q ws₁) refl log₁ list₁ under T.begun.few (same_goes q ws₁ ∙ g)
 
@@ -231,9 +230,9 @@ module _ (b : Bool) (start : Start) (cards₀ : List Card) (log₀ list₀ : Lis
           (run-laws.under_list (sweeper b) start.tick (swept_if b cards₀) (padded N cards₀) N log₀ list₀ (recall_at q) (reached_at q ws₁) refl log₁ list₁ under T.begun.few (same_goes q ws₁ ∙ g))
 
     pub taken_last : Under b start cards₀ log₀ list₀ q ws₁ log₁ list₁
-    taken_last = go (goes_on (finished p a).swept) refl
+    taken_last = go (goes_on (finished b p a).swept) refl
       where
-        go : (g : Bool) → goes_on (finished p a).swept ≡ g → UnderIf b g false start cards₀ log₀ list₀ q ws₁ log₁ list₁
+        go : (g : Bool) → goes_on (finished b p a).swept ≡ g → UnderIf b g false start cards₀ log₀ list₀ q ws₁ log₁ list₁
         go true e = goes_on_law e
         go false e = over e
 
@@ -252,12 +251,11 @@ module _ (b : Bool) (start : Start) (cards₀ : List Card) (log₀ list₀ : Lis
         at = omega (arith, T.at);
         goes = T.goes;
         tick = T.tick;
-        kind = T.kind;
         sweep_at = T.sweep_at;
         take_at = subst (take-laws.Under T.heard₀ cs (length cs) f a.heard (set ws p.at (takes c f)) a.bits) e (take_next p T.heard₀ cs ws at_cs T.take_at);
       }
 
-  pub taking_ready : Ready p c log list
+  pub taking_ready : Ready b p c log list
   taking_ready =
       record {
         at = omega (arith, T.at, T.count);

@@ -39,26 +39,26 @@ module _ (b : Bool) (start : Start) (cards₀ : List Card) (log₀ list₀ : Lis
     takes_it : p.looking ≡ false → Taking b start cards₀ log₀ list₀ p ws log list
     takes_it l = subst (λ i. UnderIf b true i start cards₀ log₀ list₀ p ws log list) l (subst (λ i. UnderIf b i p.looking start cards₀ log₀ list₀ p ws log list) g u)
 
-    pub ready : Ready p c log list
+    pub ready : Ready b p c log list
     ready = go p.looking refl
       where
-        go : (b : Bool) → p.looking ≡ b → Ready p c log list
+        go : (k : Bool) → p.looking ≡ k → Ready b p c log list
         go true l = looking_ready b start cards₀ log₀ list₀ p ws log list (looks l) l
         go false l = taking_ready b start cards₀ log₀ list₀ p ws log list (takes_it l)
 
     pub here : p.at < length cards₀
     here = go p.looking refl
       where
-        go : (b : Bool) → p.looking ≡ b → p.at < length cards₀
+        go : (k : Bool) → p.looking ≡ k → p.at < length cards₀
         go true l = (looks l).at
         go false l = (takes_it l).at
 
-    module _ (t : Turned) (log₁ list₁ : List ℕ) (k : Turns p c log list t log₁ list₁) where
+    module _ (t : Turned) (log₁ list₁ : List ℕ) (k : Turns b p c log list t log₁ list₁) where
       abbrev After : Turned → List ℕ → List ℕ → Type 0
       After t log₁ list₁ = Under b start cards₀ log₀ list₀ t.next (set ws p.at t.card) log₁ list₁
 
       -- two turns of the same card are the same
-      same : (t' : Turned) (log₂ list₂ : List ℕ) → Turns p c log list t' log₂ list₂ → After t' log₂ list₂ → After t log₁ list₁
+      same : (t' : Turned) (log₂ list₂ : List ℕ) → Turns b p c log list t' log₂ list₂ → After t' log₂ list₂ → After t log₁ list₁
       same t' log₂ list₂ k' v =
           subst (λ x. After t x list₁) (k'.log_row ∙ sym k.log_row)
           (subst (λ x. After t log₂ x) (k'.list_row ∙ sym k.list_row)
@@ -74,26 +74,26 @@ module _ (b : Bool) (start : Start) (cards₀ : List Card) (log₀ list₀ : Lis
       unfolding looked heard_card
       after = go p.looking refl (eqb p.at 0) refl
         where
-          go : (b : Bool) → p.looking ≡ b → (z : Bool) → eqb p.at 0 ≡ z → After t log₁ list₁
+          go : (k : Bool) → p.looking ≡ k → (z : Bool) → eqb p.at 0 ≡ z → After t log₁ list₁
           go true l true z =
               let T : (seen_with p.seen p.at p.cards c).fits ≡ true → Typed c = λ f. k.typed f l in
-              same (turned c (looked p c)) log list (turns_look p c log list (looked p c) l refl T)
-              (subst (λ x. Under b start cards₀ log₀ list₀ x (set ws p.at c) log list) (sym (ap (λ b. cond b (decided p (seen_with p.seen p.at p.cards c)) (back p (seen_with p.seen p.at p.cards c))) z))
+              same (turned c (looked p c)) log list (turns_look b p c log list (looked p c) l refl T)
+              (subst (λ x. Under b start cards₀ log₀ list₀ x (set ws p.at c) log list) (sym (ap (λ k. cond k (decided p (seen_with p.seen p.at p.cards c)) (back p (seen_with p.seen p.at p.cards c))) z))
               (looked_last b start cards₀ log₀ list₀ p ws log list (looks l) T (eqb-true p.at 0 z)))
           go true l false z =
               let T : (seen_with p.seen p.at p.cards c).fits ≡ true → Typed c = λ f. k.typed f l in
-              same (turned c (looked p c)) log list (turns_look p c log list (looked p c) l refl T)
-              (subst (λ x. Under b start cards₀ log₀ list₀ x (set ws p.at c) log list) (sym (ap (λ b. cond b (decided p (seen_with p.seen p.at p.cards c)) (back p (seen_with p.seen p.at p.cards c))) z))
+              same (turned c (looked p c)) log list (turns_look b p c log list (looked p c) l refl T)
+              (subst (λ x. Under b start cards₀ log₀ list₀ x (set ws p.at c) log list) (sym (ap (λ k. cond k (decided p (seen_with p.seen p.at p.cards c)) (back p (seen_with p.seen p.at p.cards c))) z))
               (going_back (back p (seen_with p.seen p.at p.cards c)) g l (set ws p.at c) (looked_next b start cards₀ log₀ list₀ p ws log list (looks l) T (eqb-false p.at 0 z))))
           go false l true z =
-              same _ _ _ (turns_end p c log list l (heard_card p.air p.swept.reader c) refl (eqb-true p.at 0 z) (finished p (air_with p c)) refl (again p (finished p (air_with p c))) refl _ _ refl refl)
+              same _ _ _ (turns_end b p c log list l (heard_card p.air p.swept.reader c) refl (eqb-true p.at 0 z) (finished b p (air_with p c)) refl (again p (finished b p (air_with p c))) refl _ _ refl refl)
               (taken_last b start cards₀ log₀ list₀ p ws log list (takes_it l) (eqb-true p.at 0 z))
           go false l false z =
-              same _ log list (turns_on p c log list l (heard_card p.air p.swept.reader c) refl (eqb-false p.at 0 z) (onward p (air_with p c)) refl)
+              same _ log list (turns_on b p c log list l (heard_card p.air p.swept.reader c) refl (eqb-false p.at 0 z) (onward p (air_with p c)) refl)
               (going_on (onward p (air_with p c)) g l (set ws p.at (takes c (frame p.swept.reader))) (taken_next b start cards₀ log₀ list₀ p ws log list (takes_it l) (eqb-false p.at 0 z)))
 
       -- fewer turns are to come
-      decides : (s : Seen) (b : Bool) → s.fits ≡ b → measure (cond b (again p first_row) (stopped p.swept)) < pass_turns * (1 + most_frames) + p.at
+      decides : (s : Seen) (f : Bool) → s.fits ≡ f → measure (cond f (again p first_row) (stopped p.swept)) < pass_turns * (1 + most_frames) + p.at
       unfolding first_row
       decides s true e = omega (arith, ready.few)
       decides s false e = omega arith
@@ -102,31 +102,31 @@ module _ (b : Bool) (start : Start) (cards₀ : List Card) (log₀ list₀ : Lis
       unfolding turn_of looked decided took finished
       fewer = go p.looking refl (eqb p.at 0) refl
         where
-          next : (q : Progress) → (turn_of p c).next ≡ q → measure q < measure p → measure t.next < measure p
+          next : (q : Progress) → (turn_of b p c).next ≡ q → measure q < measure p → measure t.next < measure p
           next q e h = subst (λ x. measure x.next < measure p) (sym k.is) (subst (λ x. measure x < measure p) (sym e) h)
 
           long : p.looking ≡ true → measure p ≡ pass_turns * (1 + most_frames) + p.at
-          long l = ap (λ b. cond b (pass_turns * (1 + most_frames) + p.at) (pass_turns * (most_frames - p.swept.frames) + p.at)) l
+          long l = ap (λ k. cond k (pass_turns * (1 + most_frames) + p.at) (pass_turns * (most_frames - p.swept.frames) + p.at)) l
 
           short : p.looking ≡ false → measure p ≡ pass_turns * (most_frames - p.swept.frames) + p.at
-          short l = ap (λ b. cond b (pass_turns * (1 + most_frames) + p.at) (pass_turns * (most_frames - p.swept.frames) + p.at)) l
+          short l = ap (λ k. cond k (pass_turns * (1 + most_frames) + p.at) (pass_turns * (most_frames - p.swept.frames) + p.at)) l
 
-          go : (b : Bool) → p.looking ≡ b → (z : Bool) → eqb p.at 0 ≡ z → measure t.next < measure p
+          go : (k : Bool) → p.looking ≡ k → (z : Bool) → eqb p.at 0 ≡ z → measure t.next < measure p
           go true l true z =
               next (decided p (seen_with p.seen p.at p.cards c))
-              (ap (λ b. (cond b (turned c (looked p c)) (turned (takes c (frame p.swept.reader)) (took p c))).next) l ∙ ap (λ b. cond b (decided p (seen_with p.seen p.at p.cards c)) (back p (seen_with p.seen p.at p.cards c))) z)
+              (ap (λ k. (cond k (turned c (looked p c)) (turned (takes c (frame p.swept.reader)) (took b p c))).next) l ∙ ap (λ k. cond k (decided p (seen_with p.seen p.at p.cards c)) (back p (seen_with p.seen p.at p.cards c))) z)
               (rw (long l) (decides (seen_with p.seen p.at p.cards c) (seen_with p.seen p.at p.cards c).fits refl))
           go true l false z =
               next (back p (seen_with p.seen p.at p.cards c))
-              (ap (λ b. (cond b (turned c (looked p c)) (turned (takes c (frame p.swept.reader)) (took p c))).next) l ∙ ap (λ b. cond b (decided p (seen_with p.seen p.at p.cards c)) (back p (seen_with p.seen p.at p.cards c))) z)
-              (let e : measure (back p (seen_with p.seen p.at p.cards c)) ≡ pass_turns * (1 + most_frames) + (p.at - 1) = ap (λ b. cond b (pass_turns * (1 + most_frames) + (p.at - 1)) (pass_turns * (most_frames - p.swept.frames) + (p.at - 1))) l in
+              (ap (λ k. (cond k (turned c (looked p c)) (turned (takes c (frame p.swept.reader)) (took b p c))).next) l ∙ ap (λ k. cond k (decided p (seen_with p.seen p.at p.cards c)) (back p (seen_with p.seen p.at p.cards c))) z)
+              (let e : measure (back p (seen_with p.seen p.at p.cards c)) ≡ pass_turns * (1 + most_frames) + (p.at - 1) = ap (λ k. cond k (pass_turns * (1 + most_frames) + (p.at - 1)) (pass_turns * (most_frames - p.swept.frames) + (p.at - 1))) l in
               omega (arith, long l, e, eqb-false p.at 0 z))
           go false l true z =
-              next (again p (finished p (air_with p c)))
-              (ap (λ b. (cond b (turned c (looked p c)) (turned (takes c (frame p.swept.reader)) (took p c))).next) l ∙ ap (λ b. cond b (again p (finished p (air_with p c))) (onward p (air_with p c))) z)
+              next (again p (finished b p (air_with p c)))
+              (ap (λ k. (cond k (turned c (looked p c)) (turned (takes c (frame p.swept.reader)) (took b p c))).next) l ∙ ap (λ k. cond k (again p (finished b p (air_with p c))) (onward p (air_with p c))) z)
               (omega (arith, short l, ready.few, (ready.room l (eqb-true p.at 0 z)).more))
           go false l false z =
               next (onward p (air_with p c))
-              (ap (λ b. (cond b (turned c (looked p c)) (turned (takes c (frame p.swept.reader)) (took p c))).next) l ∙ ap (λ b. cond b (again p (finished p (air_with p c))) (onward p (air_with p c))) z)
-              (let e : measure (onward p (air_with p c)) ≡ pass_turns * (most_frames - p.swept.frames) + (p.at - 1) = ap (λ b. cond b (pass_turns * (1 + most_frames) + (p.at - 1)) (pass_turns * (most_frames - p.swept.frames) + (p.at - 1))) l in
+              (ap (λ k. (cond k (turned c (looked p c)) (turned (takes c (frame p.swept.reader)) (took b p c))).next) l ∙ ap (λ k. cond k (again p (finished b p (air_with p c))) (onward p (air_with p c))) z)
+              (let e : measure (onward p (air_with p c)) ≡ pass_turns * (most_frames - p.swept.frames) + (p.at - 1) = ap (λ k. cond k (pass_turns * (1 + most_frames) + (p.at - 1)) (pass_turns * (most_frames - p.swept.frames) + (p.at - 1))) l in
               omega (arith, short l, e, eqb-false p.at 0 z))

@@ -85,13 +85,13 @@ exchange_with r a = sent_heard (frame r) (heard_in a)
 unfoldable pub exchanged_with : Bool → Reader → Path → Air → Exchanged
 exchanged_with b r w a = record { memory = memory_of (hear_if b r (path_of w) (heard_in a)); bytes = exchange_size (exchange_with r a) }
 
--- the reader's turn and path after it
-unfoldable pub heard_by : Progress → Air → Recall
-heard_by p a = hear_if p.remembers p.swept.reader (path_of p.path) (heard_in a)
+-- the reader's turn and path after it; b says whether it remembers
+unfoldable pub heard_by : Bool → Progress → Air → Recall
+heard_by b p a = hear_if b p.swept.reader (path_of p.path) (heard_in a)
 
-unfoldable pub finished : Progress → Air → RowReached
-finished p a =
-    let m : Recall = heard_by p a in
+unfoldable pub finished : Bool → Progress → Air → RowReached
+finished b p a =
+    let m : Recall = heard_by b p a in
     record {
       swept = record {
         reader = m.turn.reader;
@@ -108,10 +108,10 @@ abbrev pub row_tick : Progress → ℕ
 row_tick p = p.tick + 2 * p.swept.frames
 
 -- log and list have room for it
-pub record Roomy (p : Progress) (a : Air) (log list : List ℕ) : Type 0 where
+pub record Roomy (b : Bool) (p : Progress) (a : Air) (log list : List ℕ) : Type 0 where
   pub bits : a.bits ≤ length a.heard
   pub log_has_room : p.swept.logged + exchange_size (exchange_with p.swept.reader a) ≤ length log
-  pub list_has_room : 11 * p.swept.found + 11 * length (found_by (heard_by p a).turn) ≤ length list
+  pub list_has_room : 11 * p.swept.found + 11 * length (found_by (heard_by b p a).turn) ≤ length list
   pub more : p.swept.frames < most_frames
 
 unfoldable pub goes_on : RowSwept → Bool
@@ -145,11 +145,11 @@ end_row o =
 -- ---- how far it is
 
 abbrev pub stopped : RowSwept → Progress
-stopped s = record { going = false; at = 0; swept = s; looking = false; cards = 0; seen = none_seen; air = silence; tick = 0; path = no_path; remembers = false }
+stopped s = record { going = false; at = 0; swept = s; looking = false; cards = 0; seen = none_seen; air = silence; tick = 0; path = no_path }
 
--- the first pass over a row of n cards, of a sweep that remembers or of the plain one
-abbrev pub looks : Bool → Start → ℕ → Progress
-looks b start n =
+-- the first pass over a row of n cards
+abbrev pub looks : Start → ℕ → Progress
+looks start n =
     record {
       going = true;
       at = n - 1;
@@ -160,7 +160,6 @@ looks b start n =
       air = silence;
       tick = start.tick;
       path = no_path;
-      remembers = b;
     }
 
 -- the next pass over the row
@@ -176,7 +175,6 @@ again p f =
       air = silence;
       tick = p.tick;
       path = f.path;
-      remembers = p.remembers;
     }
 
 -- the next card of a pass
@@ -192,7 +190,6 @@ onto p s a =
       air = a;
       tick = p.tick;
       path = p.path;
-      remembers = p.remembers;
     }
 
 abbrev pub onward : Progress → Air → Progress
@@ -215,31 +212,31 @@ looked p c =
 abbrev pub air_with : Progress → Card → Air
 air_with p c = (heard_card p.air p.swept.reader c).air
 
-unfoldable pub took : Progress → Card → Progress
-took p c = cond (eqb p.at 0) (again p (finished p (air_with p c))) (onward p (air_with p c))
+unfoldable pub took : Bool → Progress → Card → Progress
+took b p c = cond (eqb p.at 0) (again p (finished b p (air_with p c))) (onward p (air_with p c))
 
-unfoldable pub turn_of : Progress → Card → Turned
-turn_of p c =
+unfoldable pub turn_of : Bool → Progress → Card → Turned
+turn_of b p c =
     cond p.looking (record { card = c; next = looked p c })
-    (record { card = takes c (frame p.swept.reader); next = took p c })
+    (record { card = takes c (frame p.swept.reader); next = took b p c })
 
 -- log and list afterwards
 unfoldable pub log_of : Progress → Card → List ℕ → List ℕ
 log_of p c log = cond p.looking log (cond (eqb p.at 0) (overlay log p.swept.logged (exchange_bytes (row_tick p) (exchange_with p.swept.reader (air_with p c)))) log)
 
-unfoldable pub list_of : Progress → Card → List ℕ → List ℕ
-list_of p c list = cond p.looking list (cond (eqb p.at 0) (overlay list (11 * p.swept.found) (list_bytes (found_by (heard_by p (air_with p c)).turn))) list)
+unfoldable pub list_of : Bool → Progress → Card → List ℕ → List ℕ
+list_of b p c list = cond p.looking list (cond (eqb p.at 0) (overlay list (11 * p.swept.found) (list_bytes (found_by (heard_by b p (air_with p c)).turn))) list)
 
 -- what a turn asks for: a place in the row, and room where it ends an exchange
-pub record Ready (p : Progress) (c : Card) (log list : List ℕ) : Type 0 where
+pub record Ready (b : Bool) (p : Progress) (c : Card) (log list : List ℕ) : Type 0 where
   pub at : p.at < p.cards
   pub few : p.cards ≤ most_cards
   pub bits : p.air.bits ≤ length p.air.heard
-  pub room : p.looking ≡ false → p.at ≡ 0 → Roomy p (air_with p c) log list
+  pub room : p.looking ≡ false → p.at ≡ 0 → Roomy b p (air_with p c) log list
 
 -- a turn
-pub record Turns (p : Progress) (c : Card) (log list : List ℕ) (t : Turned) (log₁ list₁ : List ℕ) : Type 0 where
-  pub is : t ≡ turn_of p c
+pub record Turns (b : Bool) (p : Progress) (c : Card) (log list : List ℕ) (t : Turned) (log₁ list₁ : List ℕ) : Type 0 where
+  pub is : t ≡ turn_of b p c
   pub log_row : log₁ ≡ log_of p c log
-  pub list_row : list₁ ≡ list_of p c list
+  pub list_row : list₁ ≡ list_of b p c list
   pub typed : (seen_with p.seen p.at p.cards c).fits ≡ true → p.looking ≡ true → Typed c

@@ -1,6 +1,6 @@
 -- Laws of the first pass over a row: its cards are seen one by one, the last first. Assumes nothing.
-use Rattle.std.specs.Prelude.{◌≡◌, refl, ℕ, zero, suc, ◌+◌, ◌-◌, ◌≤◌, ◌<◌, Bool, true, false, not, ◌&&◌, ◌||◌, List, [], ◌∷◌, map, length, replicate, take, drop, get_or, set}
-use Rattle.std.proofs.Common.{ap, ◌∙◌, not-suc-le-zero, add-one, arith, drop_of_length-le, get_or-take}
+use Rattle.std.specs.Prelude.{◌≡◌, refl, ℕ, zero, suc, ◌+◌, ◌≤◌, ◌<◌, Bool, true, false, not, ◌&&◌, ◌||◌, List, [], ◌∷◌, map, length, take, drop, get_or, set}
+use Rattle.std.proofs.Common.{ap, ◌∙◌, not-suc-le-zero, add-one, arith, drop_of_length-le}
 use Rattle.std.proofs.Math.ListN.{length-take, length-set}
 use Rattle.std.proofs.Math.Seq.{drop-cons}
 use Rattle.rows.specs.ListLaws.{both}
@@ -13,34 +13,16 @@ use Rattle.card.specs.declared.Card.{Card}
 use Rattle.sweep_row.specs.declared.seen.Seen.{Seen}
 use Rattle.sweep_row.specs.Row.{no_card, none_seen, seen_with}
 
--- ---- a test on the elements from i on, the first n being those that count
-module _ {A : Type 0} (t : A → Bool) (l : List A) (n : ℕ) (h : n ≤ length l) (i : ℕ) where
-  module _ (d : A) (k : i < n) where
-    one_more : drop i (take n l) ≡ get_or l i d ∷ drop (i + 1) (take n l)
-    one_more = rw (drop-cons (take n l) i d (rw length-take (omega arith)), get_or-take n l i d k, add-one)
-
-    pub any_next : t (get_or l i d) ≡ false → any t (drop i (take n l)) ≡ any t (drop (i + 1) (take n l))
-    unfolding any
-    any_next e = rw (one_more, e)
-
-    pub any_here : t (get_or l i d) ≡ true → any t (drop i (take n l)) ≡ true
-    unfolding any
-    any_here e = rw (one_more, e)
-
-  pub any_done : n ≤ i → any t (drop i (take n l)) ≡ false
-  unfolding any
-  any_done k = rw (drop_of_length-le (take n l) {i = i} (rw length-take (omega arith)))
-
 -- ---- a field of one card
-pub alone_fits : (c : Card) → within (take 1 (replicate most_cards c)) ≡ card_fits c
+pub alone_fits : (c : Card) → within (c ∷ []) ≡ card_fits c
 unfolding within all_fit apart any
 alone_fits c = go (card_fits c) refl
   where
-    go : (b : Bool) → card_fits c ≡ b → within (take 1 (replicate most_cards c)) ≡ b
+    go : (b : Bool) → card_fits c ≡ b → within (c ∷ []) ≡ b
     go true e = rw e
     go false e = rw e
 
-pub alone_typed : (c : Card) → All Typed (take 1 (replicate most_cards c)) → Typed c
+pub alone_typed : (c : Card) → All Typed (c ∷ []) → Typed c
 alone_typed c h = h.0
 
 -- ---- one card more

@@ -26,9 +26,9 @@ yes b x y e = sym (ap (λ t. cond t x y) e)
 no : {A : Type 0} (b : Bool) (x y : A) → b ≡ false → y ≡ cond b x y
 no b x y e = sym (ap (λ t. cond t x y) e)
 
-module _ (p : Progress) (c : Card) (log list : List ℕ) where
+module _ (b : Bool) (p : Progress) (c : Card) (log list : List ℕ) where
   pub turns_look : (q : Progress) → p.looking ≡ true → q ≡ looked p c → ((seen_with p.seen p.at p.cards c).fits ≡ true → Typed c)
-      → Turns p c log list (turned c q) log list
+      → Turns b p c log list (turned c q) log list
   unfolding turn_of log_of list_of
   turns_look q l e t =
       record {
@@ -39,21 +39,21 @@ module _ (p : Progress) (c : Card) (log list : List ℕ) where
       }
 
   module _ (l : p.looking ≡ false) (h : HeardCard) (e : h ≡ heard_card p.air p.swept.reader c) where
-    pub turns_end : p.at ≡ 0 → (f : RowReached) → f ≡ finished p h.air → (q : Progress) → q ≡ again p f
+    pub turns_end : p.at ≡ 0 → (f : RowReached) → f ≡ finished b p h.air → (q : Progress) → q ≡ again p f
         → (log₁ list₁ : List ℕ) → log₁ ≡ overlay log p.swept.logged (exchange_bytes (row_tick p) (exchange_with p.swept.reader h.air))
-        → list₁ ≡ overlay list (11 * p.swept.found) (list_bytes (found_by (heard_by p h.air).turn))
-        → Turns p c log list (turned h.card q) log₁ list₁
+        → list₁ ≡ overlay list (11 * p.swept.found) (list_bytes (found_by (heard_by b p h.air).turn))
+        → Turns b p c log list (turned h.card q) log₁ list₁
     unfolding turn_of took log_of list_of heard_card
-    turns_end z f ef q eq log₁ list₁ a b =
+    turns_end z f ef q eq log₁ list₁ a v =
         let t : eqb p.at 0 ≡ true = eq-eqb p.at 0 z in
         record {
-          is = ap₂ turned (ap (λ k. k.card) e) (eq ∙ ap (again p) (ef ∙ ap (λ k. finished p k.air) e) ∙ yes (eqb p.at 0) _ _ t) ∙ no p.looking _ _ l;
+          is = ap₂ turned (ap (λ k. k.card) e) (eq ∙ ap (again p) (ef ∙ ap (λ k. finished b p k.air) e) ∙ yes (eqb p.at 0) _ _ t) ∙ no p.looking _ _ l;
           log_row = a ∙ ap (λ k. overlay log p.swept.logged (exchange_bytes (row_tick p) (exchange_with p.swept.reader k.air))) e ∙ yes (eqb p.at 0) _ _ t ∙ no p.looking _ _ l;
-          list_row = b ∙ ap (λ k. overlay list (11 * p.swept.found) (list_bytes (found_by (heard_by p k.air).turn))) e ∙ yes (eqb p.at 0) _ _ t ∙ no p.looking _ _ l;
+          list_row = v ∙ ap (λ k. overlay list (11 * p.swept.found) (list_bytes (found_by (heard_by b p k.air).turn))) e ∙ yes (eqb p.at 0) _ _ t ∙ no p.looking _ _ l;
           typed = λ f g. absurd (false≢true (sym l ∙ g));
         }
 
-    pub turns_on : (p.at ≡ 0 → ⊥) → (q : Progress) → q ≡ onward p h.air → Turns p c log list (turned h.card q) log list
+    pub turns_on : (p.at ≡ 0 → ⊥) → (q : Progress) → q ≡ onward p h.air → Turns b p c log list (turned h.card q) log list
     unfolding turn_of took log_of list_of heard_card
     turns_on z q eq =
         let t : eqb p.at 0 ≡ false = ne_eqb p.at 0 z in

@@ -42,7 +42,6 @@ pub record Looking (b : Bool) (start : Start) (cards₀ : List Card) (log₀ lis
   pub at : p.at < length cards₀
   pub bits : p.air.bits ≤ length p.air.heard
   pub tick : p.tick ≡ start.tick
-  pub kind : p.remembers ≡ b
   pub refused : p.swept ≡ refused_row start.reader Argument
   pub seen : SeenFrom cards₀ (suc p.at) p.seen
 
@@ -73,7 +72,6 @@ pub record Taking (b : Bool) (start : Start) (cards₀ : List Card) (log₀ list
   pub at : p.at < length cards₀
   pub goes : goes_on p.swept ≡ true
   pub tick : p.tick ≡ start.tick
-  pub kind : p.remembers ≡ b
   pub sweep_at : run-laws.Under (sweeper b) start.tick (swept_if b cards₀) (padded (length cards₀) cards₀) (length cards₀) log₀ list₀ (recall_at p) (reached_at p cs) log list
   pub take_at : take-laws.Under heard₀ cs (length cs) (frame p.swept.reader) p.air.heard cards p.air.bits (suc p.at)
 

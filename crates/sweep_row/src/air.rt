@@ -38,10 +38,11 @@ pub fn hear_card(a: Air, r: Reader, c: Card) -> HeardCard
     let n = reader::within::frame_bits(r);
     let mut heard = a.heard;
     let o = field::within::take_one(c, &frame[..n], &mut heard, a.bits);
-    let k = o.card;
-    let b = Air {
-        heard: heard,
-        bits: o.bits,
-    };
-    HeardCard { card: k, air: b }
+    HeardCard {
+        card: o.card,
+        air: Air {
+            heard,
+            bits: o.bits,
+        },
+    }
 }

@@ -8,6 +8,7 @@ ghost use Rattle.sweep_row.specs.Row.{goes_on, exchanged_with, finished, Roomy, 
 use crate::RowSwept;
 use crate::air::Air;
 use crate::within::Progress;
+use memory::within::Hears;
 use memory::{Memory, Path};
 use reader::Reader;
 
@@ -26,8 +27,7 @@ pub struct RowReached {
 }
 
 // The records of the reader's frame and of what was heard, and what the reader does with it.
-fn exchange(
-    remembers: bool,
+fn exchange<H: Hears>(
     r: Reader,
     path: Path,
     a: Air,
@@ -36,51 +36,39 @@ fn exchange(
     tick: usize,
 ) -> Exchanged
     requires { (a.bits ≤ length a.heard) × (at + exchange_size (exchange_with r a) ≤ length log.old) × (tick < tick_bound) }
-    ensures value { result ≡ exchanged_with remembers r path a }
+    ensures value { result ≡ exchanged_with H.remembers r path a }
     ensures log_after { log.new ≡ overlay log.old at (exchange_bytes tick (exchange_with r a)) }
 {
     let mut frame = [0u8; 81];
     reader::within::put_frame(r, &mut frame);
     let bits = reader::within::frame_bits(r);
-    let heard = a.heard;
-    let m = a.bits;
-    let bytes = sweep_steps::within::put_exchange(log, at, tick, &frame[..bits], &heard[..m]);
-    let next = memory::within::hear_if(remembers, r, path, &heard[..m]);
+    let heard = &a.heard[..a.bits];
     Exchanged {
-        memory: next,
-        bytes: bytes,
+        bytes: sweep_steps::within::put_exchange(log, at, tick, &frame[..bits], heard),
+        memory: H::hear(r, path, heard),
     }
 }
 
 // One exchange more in the log, and in the list the UID that it found.
-pub fn finish(p: Progress, a: Air, log: &mut [u8], list: &mut [u8]) -> RowReached
-    requires { Roomy p a log.old list.old }
-    ensures value { result ≡ finished p a }
+pub fn finish<H: Hears>(p: Progress, a: Air, log: &mut [u8], list: &mut [u8]) -> RowReached
+    requires { Roomy H.remembers p a log.old list.old }
+    ensures value { result ≡ finished H.remembers p a }
     ensures log_after { log.new ≡ overlay log.old p.swept.logged (exchange_bytes (row_tick p) (exchange_with p.swept.reader a)) }
-    ensures list_after { list.new ≡ overlay list.old (11 * p.swept.found) (list_bytes (found_by (heard_by p a).turn)) }
+    ensures list_after { list.new ≡ overlay list.old (11 * p.swept.found) (list_bytes (found_by (heard_by H.remembers p a).turn)) }
 {
     let s = p.swept;
-    let r = s.reader;
-    let path = p.path;
-    let at = s.logged;
     let tick = p.tick as usize + 2 * s.frames;
-    let x = exchange(p.remembers, r, path, a, log, at, tick);
-    let m = x.memory;
-    let t = m.turn;
-    let found = sweep_steps::within::put_found(t, list, 11 * s.found);
-    let next = t.reader;
-    let answer = t.answer;
-    let f = RowSwept {
-        reader: next,
-        answer: answer,
-        frames: s.frames + 1,
-        logged: at + x.bytes,
-        found: s.found + found,
-    };
-    let after = m.path;
+    let x = exchange::<H>(s.reader, p.path, a, log, s.logged, tick);
+    let found = sweep_steps::within::put_found(x.memory.turn, list, 11 * s.found);
     RowReached {
-        swept: f,
-        path: after,
+        swept: RowSwept {
+            reader: x.memory.turn.reader,
+            answer: x.memory.turn.answer,
+            frames: s.frames + 1,
+            logged: s.logged + x.bytes,
+            found: s.found + found,
+        },
+        path: x.memory.path,
     }
 }
 
@@ -88,9 +76,5 @@ pub fn finish(p: Progress, a: Air, log: &mut [u8], list: &mut [u8]) -> RowReache
 pub fn goes_on(s: RowSwept) -> bool
     ensures { result ≡ goes_on s }
 {
-    if s.frames < limits::MOST_FRAMES {
-        let a = s.answer;
-        return sweep_steps::within::goes(a);
-    }
-    false
+    s.frames < limits::MOST_FRAMES && sweep_steps::within::goes(s.answer)
 }

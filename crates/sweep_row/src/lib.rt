@@ -7,6 +7,7 @@ ghost use Rattle.sweep.specs.Promise.{Sweeps};
 ghost use Rattle.sweep_row.specs.Row.{swept_row};
 
 use card::Card;
+use memory::within::Plain;
 use reader::{Answer, Reader};
 use sweep::Start;
 
@@ -35,11 +36,5 @@ pub fn sweep_row(start: Start, cards: &mut [Card], log: &mut [u8], list: &mut [u
     ensures list_after { call (swept_row result cards.new) log.new list.new ≡ sweep_of start cards.old (length cards.old) log.old list.old }
     ensures sweeps { Sweeps start cards.old (length cards.old) log.old list.old (swept_row result cards.new) log.new list.new }
 {
-    let mut p = within::opening(false, start, cards.len(), log, list);
-    while p.going {
-        let t = within::turn(p, cards[p.at], log, list);
-        cards[p.at] = t.card;
-        p = t.next;
-    }
-    p.swept
+    within::over::<Plain>(start, cards, log, list)
 }

@@ -17,44 +17,31 @@ use sweep::Start;
 pub fn stopped(s: RowSwept) -> Progress
     ensures { result ≡ stopped s }
 {
-    let n = crate::seen::none();
-    let a = crate::air::silence();
-    let w = crate::begin::no_path();
     Progress {
         going: false,
         at: 0,
         swept: s,
         looking: false,
         cards: 0,
-        seen: n,
-        air: a,
+        seen: crate::seen::none(),
+        air: crate::air::silence(),
         tick: 0,
-        path: w,
-        remembers: false,
+        path: memory::within::empty(),
     }
 }
 
 // The first pass over a row of n cards.
-pub fn looks(remembers: bool, start: Start, n: usize) -> Progress
+pub fn looks(start: Start, n: usize) -> Progress
     requires { 0 < n }
-    ensures { result ≡ looks remembers start n }
+    ensures { result ≡ looks start n }
 {
-    let r = start.reader;
-    let s = crate::begin::refused(r, Refusal::Argument);
-    let seen = crate::seen::none();
-    let a = crate::air::silence();
-    let w = crate::begin::no_path();
     Progress {
         going: true,
         at: n - 1,
-        swept: s,
         looking: true,
         cards: n,
-        seen: seen,
-        air: a,
         tick: start.tick,
-        path: w,
-        remembers: remembers,
+        ..stopped(crate::begin::refused(start.reader, Refusal::Argument))
     }
 }
 
@@ -63,44 +50,26 @@ pub fn again(p: Progress, f: RowReached) -> Progress
     requires { 0 < p.cards }
     ensures { result ≡ again p f }
 {
-    let s = f.swept;
-    let w = f.path;
-    let going = crate::finish::goes_on(s);
-    let seen = p.seen;
-    let a = crate::air::silence();
     Progress {
-        going: going,
+        going: crate::finish::goes_on(f.swept),
         at: p.cards - 1,
-        swept: s,
+        swept: f.swept,
         looking: false,
-        cards: p.cards,
-        seen: seen,
-        air: a,
-        tick: p.tick,
-        path: w,
-        remembers: p.remembers,
+        air: crate::air::silence(),
+        path: f.path,
+        ..p
     }
 }
 
 // The next card of a pass in which the cards take a frame.
-pub fn onward(p: Progress, a: Air) -> Progress
+pub fn onward(p: Progress, air: Air) -> Progress
     requires { 0 < p.at }
-    ensures { result ≡ onward p a }
+    ensures { result ≡ onward p air }
 {
-    let s = p.swept;
-    let seen = p.seen;
-    let w = p.path;
     Progress {
-        going: p.going,
         at: p.at - 1,
-        swept: s,
-        looking: p.looking,
-        cards: p.cards,
-        seen: seen,
-        air: a,
-        tick: p.tick,
-        path: w,
-        remembers: p.remembers,
+        air,
+        ..p
     }
 }
 
@@ -109,20 +78,10 @@ fn back(p: Progress, seen: Seen) -> Progress
     requires { 0 < p.at }
     ensures { result ≡ back p seen }
 {
-    let s = p.swept;
-    let a = p.air;
-    let w = p.path;
     Progress {
-        going: p.going,
         at: p.at - 1,
-        swept: s,
-        looking: p.looking,
-        cards: p.cards,
-        seen: seen,
-        air: a,
-        tick: p.tick,
-        path: w,
-        remembers: p.remembers,
+        seen,
+        ..p
     }
 }
 
@@ -132,10 +91,10 @@ fn decide(p: Progress, s: Seen) -> Progress
     ensures { result ≡ decided p s }
 {
     if s.fits {
-        return again(p, crate::begin::first());
+        again(p, crate::begin::first())
+    } else {
+        stopped(p.swept)
     }
-    let r = p.swept;
-    stopped(r)
 }
 
 // A card of the first pass is looked at.
@@ -144,10 +103,6 @@ pub fn look(p: Progress, c: Card) -> Progress
     ensures value { result ≡ looked p c }
     ensures typed { (seen_with p.seen p.at p.cards c).fits ≡ true → Typed c }
 {
-    let seen = p.seen;
-    let s = crate::seen::see_card(seen, p.at, p.cards, c);
-    if p.at == 0 {
-        return decide(p, s);
-    }
-    back(p, s)
+    let s = crate::seen::see_card(p.seen, p.at, p.cards, c);
+    if p.at == 0 { decide(p, s) } else { back(p, s) }
 }

@@ -1,5 +1,5 @@
 // Is the row a field that a sweep takes? Its cards are looked at one by one, the last first; of each only the UID is kept.
-ghost use Rattle.std.specs.Prelude.{◌≡◌, true, not, ◌+◌, ◌≤◌, ◌<◌, take, drop};
+ghost use Rattle.std.specs.Prelude.{◌≡◌, true, not, ◌≤◌, ◌<◌};
 ghost use Rattle.limits.specs.Limits.{most_cards};
 ghost use Rattle.rows.specs.Rows.{any, same};
 ghost use Rattle.uid.specs.Uid.{uid_bytes};
@@ -21,13 +21,9 @@ pub struct Seen {
 pub fn none() -> Seen
     ensures { result ≡ none_seen }
 {
-    let u = Uid {
-        size: UidSize::Single,
-        bytes: [0u8; 10],
-    };
     Seen {
         fits: true,
-        uids: [u; MOST_CARDS],
+        uids: [uid::within::sized(UidSize::Single, &[]); MOST_CARDS],
     }
 }
 
@@ -36,21 +32,14 @@ fn card_fits(c: Card) -> bool
     ensures value { result ≡ card_fits c }
     ensures typed { result ≡ true → Typed c }
 {
-    sweep_steps::within::is_within([c; MOST_CARDS], 1)
+    sweep_steps::within::is_within(&[c])
 }
 
-// Is the UID none of those from one place to another?
-fn is_alone(u: Uid, uids: [Uid; MOST_CARDS], start: usize, n: usize) -> bool
-    requires { (start ≤ n) × (n ≤ most_cards) }
-    ensures { result ≡ not (any (λ v. same (uid_bytes u) (uid_bytes v)) (drop start (take n uids))) }
+// Is the UID none of these?
+fn is_alone(u: Uid, uids: &[Uid]) -> bool
+    ensures { result ≡ not (any (λ v. same (uid_bytes u) (uid_bytes v)) uids.now) }
 {
-    for i in start..n {
-        let v = uids[i];
-        if uid::same_uid(u, v) {
-            return false;
-        }
-    }
-    true
+    !uids.iter().any(|v| uid::same_uid(u, *v))
 }
 
 fn fits_too(s: Seen, at: usize, n: usize, c: Card) -> bool
@@ -58,15 +47,7 @@ fn fits_too(s: Seen, at: usize, n: usize, c: Card) -> bool
     ensures value { result ≡ (seen_with s at n c).fits }
     ensures typed { result ≡ true → Typed c }
 {
-    if !s.fits {
-        return false;
-    }
-    if !card_fits(c) {
-        return false;
-    }
-    let u = c.uid;
-    let uids = s.uids;
-    is_alone(u, uids, at + 1, n)
+    s.fits && card_fits(c) && is_alone(c.uid, &s.uids[at + 1..n])
 }
 
 // The card at a place is seen, after those behind it.
@@ -77,10 +58,6 @@ pub fn see_card(s: Seen, at: usize, n: usize, c: Card) -> Seen
 {
     let fits = fits_too(s, at, n, c);
     let mut uids = s.uids;
-    let u = c.uid;
-    uids[at] = u;
-    Seen {
-        fits: fits,
-        uids: uids,
-    }
+    uids[at] = c.uid;
+    Seen { fits, uids }
 }

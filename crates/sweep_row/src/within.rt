@@ -1,11 +1,11 @@
 // The sweep over a lent row, plain or one that remembers (T-14), card by card: all that branches is on values. And the plain sweep of our own crates
 // that have their cards in an array. Called by our own crates only.
-ghost use Rattle.std.specs.Prelude.{◌≡◌, ◌≤◌};
+ghost use Rattle.std.specs.Prelude.{◌≡◌, ◌≤◌, length};
 ghost use Rattle.limits.specs.Limits.{most_cards};
 ghost use Rattle.sweep.specs.Sweep.{call, sweep_of};
 ghost use Rattle.sweep.specs.Promise.{Sweeps};
 ghost use Rattle.sweep_row.specs.Row.{swept_row, Ready, Turns};
-ghost use Rattle.sweep_row.specs.Under.{Opened};
+ghost use Rattle.sweep_row.specs.Under.{Called, Opened};
 
 use crate::RowSwept;
 use crate::air::Air;
@@ -13,12 +13,13 @@ use crate::seen::Seen;
 use card::Card;
 use limits::MOST_CARDS;
 use memory::Path;
+use memory::within::Hears;
 use refusal::Refusal;
 use sweep::{Start, Swept};
 
 // going: the card at a place is asked for; at: its place. In a pass over the row its cards come one by one, the last first. The first pass
 // looks whether the row is a field that a sweep takes; in each pass after it the cards take the frame that the reader has out. tick: that of the
-// log's first record. remembers: the reader has a path (T-14), path: what it knows; the plain reader's is empty.
+// log's first record. path: what a reader that remembers knows (T-14); the plain reader's is empty.
 #[derive(Clone, Copy)]
 pub struct Progress {
     pub going: bool,
@@ -30,7 +31,6 @@ pub struct Progress {
     pub air: Air,
     pub tick: u32,
     pub path: Path,
-    pub remembers: bool,
 }
 
 // A card after its turn, and how far the sweep is.
@@ -41,36 +41,36 @@ pub struct Turned {
 }
 
 // One card's turn: it is looked at, or takes the frame; after the last of a pass the exchange is over.
-pub fn turn(p: Progress, c: Card, log: &mut [u8], list: &mut [u8]) -> Turned
-    requires { Ready p c log.old list.old }
-    ensures { Turns p c log.old list.old result log.new list.new }
+fn turn<H: Hears>(p: Progress, c: Card, log: &mut [u8], list: &mut [u8]) -> Turned
+    requires { Ready H.remembers p c log.old list.old }
+    ensures { Turns H.remembers p c log.old list.old result log.new list.new }
 {
     if p.looking {
-        let q = crate::pass::look(p, c);
-        return Turned { card: c, next: q };
+        return Turned {
+            card: c,
+            next: crate::pass::look(p, c),
+        };
     }
-    let s = p.swept;
-    let r = s.reader;
-    let a = p.air;
-    let h = crate::air::hear_card(a, r, c);
-    let k = h.card;
-    let b = h.air;
+    let h = crate::air::hear_card(p.air, p.swept.reader, c);
     if p.at == 0 {
-        let f = crate::finish::finish(p, b, log, list);
-        let q = crate::pass::again(p, f);
-        return Turned { card: k, next: q };
+        let f = crate::finish::finish::<H>(p, h.air, log, list);
+        return Turned {
+            card: h.card,
+            next: crate::pass::again(p, f),
+        };
     }
-    let q = crate::pass::onward(p, b);
-    Turned { card: k, next: q }
+    Turned {
+        card: h.card,
+        next: crate::pass::onward(p, h.air),
+    }
 }
 
 // The sweep's tests, in their order; then the first pass. An empty row is swept at once.
-pub fn opening(remembers: bool, start: Start, n: usize, log: &mut [u8], list: &mut [u8]) -> Progress
-    ensures { Opened remembers start n log.old list.old result log.new list.new }
+fn opening<H: Hears>(start: Start, n: usize, log: &mut [u8], list: &mut [u8]) -> Progress
+    ensures { Opened H.remembers start n log.old list.old result log.new list.new }
 {
     let r = start.reader;
-    let phase = r.phase;
-    if !reader::within::is_new(phase) {
+    if !reader::within::is_new(r.phase) {
         return crate::pass::stopped(crate::begin::refused(r, Refusal::NotDue));
     }
     if log.len() < limits::LOG_ROOM {
@@ -83,10 +83,22 @@ pub fn opening(remembers: bool, start: Start, n: usize, log: &mut [u8], list: &m
         return crate::pass::stopped(crate::begin::refused(r, Refusal::Argument));
     }
     if n == 0 {
-        let s = crate::begin::empty(remembers, start.tick, log, list);
-        return crate::pass::stopped(s);
+        return crate::pass::stopped(crate::begin::empty::<H>(start.tick, log, list));
     }
-    crate::pass::looks(remembers, start, n)
+    crate::pass::looks(start, n)
+}
+
+// The sweep over a lent row, of the reader that hears as H does.
+pub fn over<H: Hears>(start: Start, cards: &mut [Card], log: &mut [u8], list: &mut [u8]) -> RowSwept
+    ensures { Called H.remembers start cards.old (length cards.old) log.old list.old (swept_row result cards.new) log.new list.new }
+{
+    let mut p = opening::<H>(start, cards.len(), log, list);
+    while p.going {
+        let t = turn::<H>(p, cards[p.at], log, list);
+        cards[p.at] = t.card;
+        p = t.next;
+    }
+    p.swept
 }
 
 // The array after the sweep, and what the sweep over the lent row gave.
@@ -94,6 +106,23 @@ pub fn opening(remembers: bool, start: Start, n: usize, log: &mut [u8], list: &m
 pub struct ArraySwept {
     pub cards: [Card; MOST_CARDS],
     pub swept: RowSwept,
+}
+
+impl ArraySwept {
+    // The same as the sweep over the array gives it.
+    pub fn whole(self) -> Swept
+        ensures { result ≡ swept_row self.swept self.cards }
+    {
+        let cards = self.cards;
+        Swept {
+            reader: self.swept.reader,
+            answer: self.swept.answer,
+            cards,
+            frames: self.swept.frames,
+            logged: self.swept.logged,
+            found: self.swept.found,
+        }
+    }
 }
 
 // The first n cards of the array are lent as the row; the others are unchanged.
@@ -107,11 +136,8 @@ pub fn sweep_array(
     requires { n ≤ most_cards }
     ensures { (call (swept_row result.swept result.cards) log.new list.new ≡ sweep_of start cards n log.old list.old) × Sweeps start cards n log.old list.old (swept_row result.swept result.cards) log.new list.new }
 {
-    let s = crate::sweep_row(start, &mut cards[..n], log, list);
-    ArraySwept {
-        cards: cards,
-        swept: s,
-    }
+    let swept = crate::sweep_row(start, &mut cards[..n], log, list);
+    ArraySwept { cards, swept }
 }
 
 // The plain sweep's answer, by the lent row. An array holds no row of more cards than the limit, which the plain sweep declines.
@@ -128,17 +154,5 @@ pub fn sweep_by_row(
     if n > MOST_CARDS {
         return sweep::sweep(start, cards, n, log, list);
     }
-    let a = sweep_array(start, cards, n, log, list);
-    let s = a.swept;
-    let last = s.reader;
-    let answer = s.answer;
-    let after = a.cards;
-    Swept {
-        reader: last,
-        answer: answer,
-        cards: after,
-        frames: s.frames,
-        logged: s.logged,
-        found: s.found,
-    }
+    sweep_array(start, cards, n, log, list).whole()
 }

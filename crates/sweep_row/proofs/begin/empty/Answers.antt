@@ -1,8 +1,6 @@
-use mathlib.Core.Path.{ap}
 use native.Mathlib.Omega.{arith}
-use borrow.Author.Rules.{rules}
 use Rattle.sweep_row.proofs.begin.empty.Goals as goal
 
 pub run-p-requires : goal.run-p-requires
-run-p-requires c = let p = c.requires in
+run-p-requires g c = let p = c.requires in
     (omega arith, p.0, p.1)

@@ -1,12 +1,11 @@
 use borrow.Author.Tests.{lt-ltb, le-ltb}
 use Rattle.sweep_row.specs.Row.{goes_on}
-use borrow.Author.Rules.{rules}
 use Rattle.sweep_row.proofs.finish.goes_on.Goals as goal
 
 pub returns-then-s-lt-MOST_FRAMES : goal.returns-then-s-lt-MOST_FRAMES
 unfolding goes_on
 returns-then-s-lt-MOST_FRAMES c = rw (lt-ltb _ _ c.if-s-lt-MOST_FRAMES.true) c.goes.ensures
 
-pub returns : goal.returns
+pub returns-else-s-lt-MOST_FRAMES : goal.returns-else-s-lt-MOST_FRAMES
 unfolding goes_on
-returns c = rw (le-ltb _ _ c.if-s-lt-MOST_FRAMES.false)
+returns-else-s-lt-MOST_FRAMES c = rw (le-ltb _ _ c.if-s-lt-MOST_FRAMES.false)

@@ -1,5 +1,7 @@
-use borrow.Author.Rules.{rules}
+use Rattle.rows.specs.Rows.{fill}
+use Rattle.memory.specs.Stored.{stored}
 use Rattle.sweep_row.proofs.pass.stopped.Goals as goal
 
 pub returns : goal.returns
-returns c = rw (c.no_path-w.ensures, c.silence-a.ensures, c.none-n.ensures)
+unfolding stored fill
+returns c = rw (c.empty.ensures, c.silence.ensures, c.none.ensures)

@@ -1,6 +1,5 @@
 use Rattle.sweep_row.specs.SeenLaws.{alone_fits, alone_typed}
 use mathlib.Core.Path.{◌∙◌}
-use borrow.Author.Rules.{rules}
 use Rattle.sweep_row.proofs.seen.card_fits.Goals as goal
 
 pub returns : goal.returns

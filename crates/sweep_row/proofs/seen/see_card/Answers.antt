@@ -1,5 +1,4 @@
 use Rattle.sweep_row.specs.Row.{seen_with}
-use borrow.Author.Rules.{rules}
 use Rattle.sweep_row.proofs.seen.see_card.Goals as goal
 
 pub returns : goal.returns

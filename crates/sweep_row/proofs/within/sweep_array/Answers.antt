@@ -8,6 +8,6 @@ use Rattle.sweep_row.proofs.within.sweep_array.Goals as goal
 pub returns : goal.returns
 returns c =
     let a = c.args in
-    let s = c.sweep_row-s in
+    let s = c.sweep_row-swept in
     let l : length a.cards ≡ most_cards = search rules in
     array_promised a.start a.cards a.n a.log.now a.list.now (length-take-le a.n a.cards (omega arith)) s.result s.new.cards s.new.log s.new.list (s.ensures.list_after, s.ensures.sweeps)
