@@ -2,7 +2,7 @@
 use Rattle.std.specs.Prelude.{◌≡◌, ℕ, ◌≤◌, true, not, ◌||◌, List, take, ltb}
 use Rattle.limits.specs.Limits.{most_cards}
 use Rattle.refusal.specs.Refusal.{Said, decline_if}
-use Rattle.uid.specs.Calls.{new_uid, valid_bytes, uid_of}
+use Rattle.uid.specs.Calls.{valid_bytes, uid_of}
 use Rattle.reader.specs.Reader.{is_new}
 use Rattle.reader.specs.Calls.{answer_says, turn_says}
 use Rattle.sweep_rules.specs.Terms.{within}

@@ -1,7 +1,7 @@
 -- T-03: the call over an array of cards, of which the first n are the field. What the run is stands in crate wake_rules.
 use Rattle.std.specs.Prelude.{ℕ, not, cond, ◌||◌, List, ◌++◌, length, take, drop, ltb}
 use Rattle.limits.specs.Limits.{most_cards}
-use Rattle.uid.specs.Calls.{new_uid, valid_bytes, uid_of}
+use Rattle.uid.specs.Calls.{valid_bytes, uid_of}
 use Rattle.reader.specs.Reader.{is_new}
 use Rattle.sweep_rules.specs.Run.{Out}
 use Rattle.sweep_rules.specs.Terms.{within}

@@ -29,7 +29,7 @@ fn refused(r: Reader, cards: [Card; MOST_CARDS], e: Refusal) -> Woken
     Woken {
         reader: r,
         answer: Answer::Declines(e),
-        cards: cards,
+        cards,
         frames: 0,
     }
 }
@@ -41,18 +41,16 @@ pub fn wake(r: Reader, bytes: &[u8], cards: [Card; MOST_CARDS], n: usize) -> Wok
     ensures value { result ≡ wake_of r bytes.now cards n }
     ensures wakens { Wakens r bytes.now cards n result }
 {
-    let phase = r.phase;
-    if !reader::within::is_new(phase) {
+    if !reader::within::is_new(r.phase) {
         return refused(r, cards, Refusal::NotDue);
     }
-    let u = match uid::new_uid(bytes) {
-        Ok(u) => u,
-        Err(_) => return refused(r, cards, Refusal::Argument),
+    let Ok(u) = uid::new_uid(bytes) else {
+        return refused(r, cards, Refusal::Argument);
     };
     if n > MOST_CARDS {
         return refused(r, cards, Refusal::Argument);
     }
-    if !sweep_steps::within::is_within(cards, n) {
+    if !sweep_steps::within::is_within(&cards[..n]) {
         return refused(r, cards, Refusal::Argument);
     }
     within::run(u, cards, n)

@@ -17,12 +17,10 @@ fn starts(u: Uid, cards: [Card; MOST_CARDS]) -> Woken
     ensures typed { Typed u }
 {
     let t = reader::known::wakes(u);
-    let r = t.reader;
-    let a = t.answer;
     Woken {
-        reader: r,
-        answer: a,
-        cards: cards,
+        reader: t.reader,
+        answer: t.answer,
+        cards,
         frames: 0,
     }
 }
@@ -32,22 +30,17 @@ fn step(w: Woken, n: usize) -> Woken
     requires { (n ≤ most_cards) × (w.frames < 4) }
     ensures { result ≡ stepped w n }
 {
-    let r = w.reader;
-    let cards = w.cards;
     let mut frame = [0u8; 81];
-    reader::within::put_frame(r, &mut frame);
-    let bits = reader::within::frame_bits(r);
+    reader::within::put_frame(w.reader, &mut frame);
+    let bits = reader::within::frame_bits(w.reader);
     let mut heard = [0u8; 45];
-    let t = field::within::take_all(cards, n, &frame[..bits], &mut heard);
-    let m = t.bits;
-    let next = reader::within::hear_rules(r, &heard[..m]);
-    let after = t.cards;
-    let last = next.reader;
-    let answer = next.answer;
+    let t = field::within::take_all(w.cards, n, &frame[..bits], &mut heard);
+    let next = reader::within::hear_rules(w.reader, &heard[..t.bits]);
+    let cards = t.cards;
     Woken {
-        reader: last,
-        answer: answer,
-        cards: after,
+        reader: next.reader,
+        answer: next.answer,
+        cards,
         frames: w.frames + 1,
     }
 }
@@ -56,11 +49,7 @@ fn step(w: Woken, n: usize) -> Woken
 fn goes_on(w: Woken, most: usize) -> bool
     ensures { result ≡ goes_on w most }
 {
-    if w.frames < most {
-        let a = w.answer;
-        return sweep_steps::within::goes(a);
-    }
-    false
+    w.frames < most && sweep_steps::within::goes(w.answer)
 }
 
 // The whole run over the first n cards: a frame more than the UID has levels.
@@ -69,8 +58,7 @@ pub fn run(u: Uid, cards: [Card; MOST_CARDS], n: usize) -> Woken
     ensures value { result ≡ done cards n (wake u (take n cards)) }
     ensures typed { Typed u }
 {
-    let z = u.size;
-    let most = uid::level_count(z) + 1;
+    let most = uid::level_count(u.size) + 1;
     let mut w = starts(u, cards);
     while goes_on(w, most) {
         w = step(w, n);

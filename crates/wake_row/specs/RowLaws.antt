@@ -1,20 +1,17 @@
 -- A row whose cards are the first of an array: what the call over the array says of them, it says of the row. Assumes nothing.
-use Rattle.std.specs.Prelude.{◌≡◌, ℕ, zero, suc, ◌+◌, ◌≤◌, ◌<◌, Bool, ◌||◌, List, [], ◌++◌, take, drop, get_or}
+use Rattle.std.specs.Prelude.{◌≡◌, ℕ, ◌<◌, Bool, ◌||◌, List, [], ◌++◌, take, drop}
 use Rattle.std.proofs.Math.Path.{refl, ap}
-use Rattle.std.proofs.Common.{sym, subst, ◌∙◌, arith, true≢false, append-nil, length-append, take-append-drop, drop_of_length-le, take_at}
+use Rattle.std.proofs.Common.{sym, subst, ◌∙◌, arith, append-nil, length-append, take-append-drop, drop_of_length-le, take_at}
 use Rattle.std.proofs.Math.Bool.{true, false, cond, not}
 use Rattle.std.proofs.Math.ListN.{length}
-use Rattle.std.proofs.lemmas.List.{length-map}
 use Rattle.std.proofs.Math.Seq.{take-length}
 use Rattle.std.proofs.Math.Dec.{ltb}
 use borrow.Author.Tests.{lt-ltb, le-ltb}
 use Rattle.limits.specs.Limits.{most_cards}
-use Rattle.uid.specs.Uid.{uid_bytes}
-use Rattle.uid.specs.Calls.{new_uid, valid_bytes, uid_of}
+use Rattle.uid.specs.Calls.{valid_bytes, uid_of}
 use Rattle.reader.specs.Calls.{turn_says}
-use Rattle.reader.specs.Reader.{is_new, frame, hear, wakes}
-use Rattle.field.specs.Field.{all_take, heard_from}
-use Rattle.refusal.specs.Refusal.{Said, decline_if}
+use Rattle.reader.specs.Reader.{is_new, wakes}
+use Rattle.refusal.specs.Refusal.{decline_if}
 use Rattle.sweep_rules.specs.Run.{Out, plain, run}
 use Rattle.sweep_rules.specs.RunLaws.{run_cards}
 use Rattle.sweep_rules.specs.Terms.{within}
@@ -25,14 +22,11 @@ use Rattle.wake.specs.Promise.{Terms, woken_says, wake_says, Wakens}
 use Rattle.wake.specs.Wake.{refused, done, wake_of}
 use Rattle.wake.specs.declared.Woken.{Woken}
 use Rattle.card.specs.declared.Card.{Card}
-use Rattle.reader.specs.declared.Answer.{Answer}
-use Rattle.reader.specs.declared.Answer.TheVariants.{Sends, Finds, Selects, Finishes, Declines}
 use Rattle.reader.specs.declared.Reader.{Reader}
-use Rattle.reader.specs.declared.Turn.{Turn}
 use Rattle.refusal.specs.declared.Refusal.TheVariants.{Argument, NotDue}
 use Rattle.uid.specs.declared.Uid.{Uid}
-use Rattle.wake_row.specs.declared.pass.Progress.{Progress}
-use Rattle.wake_row.specs.Row.{woken_row, row_of, blank_card, no_cards, stopped, fetches, held_with, fetched_one, woken_in, fetched_all, stored_one, turn_of, Turns, Opened}
+use Rattle.wake_row.specs.Row.{woken_row, row_of}
+use Rattle.wake_row.specs.declared.RowWoken.{RowWoken}
 
 wake_cards : (u : Uid) (cs : List Card) → length (wake u cs).cards ≡ length cs
 unfolding wake run
@@ -118,45 +112,10 @@ module _ (r : Reader) (l : List ℕ) (h ys : List Card) (n : ℕ) (long : length
         (k.says ∙ ap (λ x. decline_if (not (is_new r.phase)) 11 (decline_if (not (valid_bytes l) || ltb most_cards n || not (within x)) 6 (turn_says (wake (uid_of l) x).last))) (sym one))
         (λ t. subst (λ x. Wakes x (uid_of l) (wake (uid_of l) x)) (sym one) (k.claim (terms_too t)))
 
--- ---- what a turn says, branch by branch
+-- what the call made of the row, where w is the call over the array
+module _ (r : Reader) (l : List ℕ) (h ys : List Card) (n : ℕ) (long : length ys ≡ n) (w : Woken) (e : w ≡ wake_of r l h n) (k : Wakens r l h n w) (s : RowWoken) (d : s ≡ row_of w) where
+  pub row_declined : most_cards < n → Promised r l ys n (woken_row s ys)
+  row_declined many = rw (d, e) (too_many r l h ys n long many (rw e at k))
 
-module _ (p : Progress) (c : Card) where
-  pub turns_fetch : p.fetching ≡ true → p.at + 1 < p.cards → (q : Progress) → q ≡ fetched_one p c → Turns p c (record { card = c; next = q })
-  unfolding turn_of
-  turns_fetch f l q e =
-      record {
-        is = rw (e, f, lt-ltb (p.at + 1) p.cards l) refl;
-        woken = λ g h. absurd (true≢false (sym (lt-ltb (p.at + 1) p.cards l) ∙ h));
-        long = λ g h. absurd (true≢false (sym (lt-ltb (p.at + 1) p.cards l) ∙ h));
-      }
-
-  pub turns_call : p.fetching ≡ true → p.cards ≤ p.at + 1 → (q : Progress) → q ≡ fetched_all p c
-      → Wakens p.reader (uid_bytes p.uid) (held_with p c) p.cards (woken_in p c) → length (woken_in p c).cards ≡ most_cards → Turns p c (record { card = c; next = q })
-  unfolding turn_of
-  turns_call f l q e k long = record { is = rw (e, f, le-ltb (p.at + 1) p.cards l) refl; woken = λ g h. k; long = λ g h. long }
-
-  pub turns_store : p.fetching ≡ false → p.at + 1 < p.cards → (k : Card) → k ≡ get_or p.held p.at blank_card → (q : Progress) → q ≡ stored_one p → Turns p c (record { card = k; next = q })
-  unfolding turn_of
-  turns_store f l k d q e =
-      record {
-        is = rw (d, e, f, lt-ltb (p.at + 1) p.cards l) refl;
-        woken = λ g h. absurd (true≢false (sym g ∙ f));
-        long = λ g h. absurd (true≢false (sym g ∙ f));
-      }
-
-  pub turns_stop : p.fetching ≡ false → p.cards ≤ p.at + 1 → (k : Card) → k ≡ get_or p.held p.at blank_card → (q : Progress) → q ≡ stopped p.reader p.uid p.woken
-      → Turns p c (record { card = k; next = q })
-  unfolding turn_of
-  turns_stop f l k d q e =
-      record {
-        is = rw (d, e, f, le-ltb (p.at + 1) p.cards l) refl;
-        woken = λ g h. absurd (true≢false (sym g ∙ f));
-        long = λ g h. absurd (true≢false (sym g ∙ f));
-      }
-
-pub opens_none : (r : Reader) (u : Uid) (n : ℕ) (p : Progress) → (n ≤ most_cards → 0 < n → ⊥) → p ≡ stopped r u (row_of (wake_of r (uid_bytes u) no_cards n))
-    → Wakens r (uid_bytes u) no_cards n (wake_of r (uid_bytes u) no_cards n) → Opened r u n p
-opens_none r u n p never e k = record { none = λ h. e; woken = λ h. k; some = λ a b. absurd (never a b) }
-
-pub opens_some : (r : Reader) (u : Uid) (n : ℕ) (p : Progress) → n ≤ most_cards → 0 < n → p ≡ fetches r u n → Opened r u n p
-opens_some r u n p a b e = record { none = λ h. absurd (omega (arith, h a)); woken = λ h. absurd (omega (arith, h a)); some = λ x y. e }
+  pub row_woken : take n h ≡ ys → (after : List Card) → after ≡ take n w.cards → Promised r l ys n (woken_row s after)
+  row_woken first after a = rw (d, a, e) (carried r l h ys n long first (rw e at k))

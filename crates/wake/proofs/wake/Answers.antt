@@ -1,7 +1,6 @@
 -- `wake::wake` meets its contract: its tests in their order, then the run, of which T-03's claim holds. Assumes nothing.
 use mathlib.Core.Path.{◌≡◌, sym, ap, ◌∙◌}
 use mathlib.Core.Bool.{true}
-use borrow.Author.Tests.{not-true, not-false}
 use lib.ListN.{take}
 use Rattle.rows.specs.Rows.{All}
 use Rattle.uid.specs.Calls.{new_uid, uid_of}
@@ -19,11 +18,11 @@ use Rattle.wake.proofs.wake.Goals as goal
 pub returns-then-not-is_new : goal.returns-then-not-is_new
 returns-then-not-is_new c = let a = c.args in let both = not_due a.r a.bytes.now a.cards a.n c.refused.result c.refused.ensures (sym c.is_new.ensures ∙ c.if-not-is_new.true) in record { value = both.0; wakens = both.1 }
 
-pub returns-in-Err : goal.returns-in-Err
-returns-in-Err c = let a = c.args in
+pub returns-in_default : goal.returns-in_default
+returns-in_default c = let a = c.args in
     let l = a.bytes.now in
     let due : is_new a.r.phase ≡ true = sym c.is_new.ensures ∙ c.if-not-is_new.false in
-    let u = c.new_uid in let both = no_uid a.r l a.cards a.n due c.refused-in-Err.result c.refused-in-Err.ensures (valid_not l _ (sym u.ensures.value ∙ c.in-Err.is)) in record { value = both.0; wakens = both.1 }
+    let u = c.new_uid in let both = no_uid a.r l a.cards a.n due c.refused-in_default.result c.refused-in_default.ensures (valid_not l _ (sym u.ensures.value ∙ c.in_default.is)) in record { value = both.0; wakens = both.1 }
 
 pub returns-then-n-gt-MOST_CARDS : goal.returns-then-n-gt-MOST_CARDS
 returns-then-n-gt-MOST_CARDS c = let a = c.args in

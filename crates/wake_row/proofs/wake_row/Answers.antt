@@ -1,23 +1,18 @@
-use Rattle.std.proofs.Common.{refl, ◌∙◌}
-use Rattle.std.proofs.Math.ListN.{length-set}
-use Rattle.wake_row.proofs.Turning as law
+-- `wake_row::wake_row` meets its contract: the row is the first cards of an array, over which the call is made as values. Assumes nothing.
+use mathlib.Core.Path.{◌≡◌, refl, ap, ◌∙◌}
+use lib.Seq.{take_at}
+use lib.ListN.{length}
+use Rattle.uid.specs.Uid.{uid_bytes}
+use Rattle.wake_row.specs.RowLaws.{row_declined, row_woken}
 use Rattle.wake_row.proofs.wake_row.Goals as goal
 
-pub loop-p-init : goal.loop-p-init
-loop-p-init c = record {
-  under = law.opened c.args.r c.args.u c.args.cards.now c.opening-p.result c.opening-p.ensures;
-  rows = refl;
-}
+pub returns-then-n-gt-MOST_CARDS : goal.returns-then-n-gt-MOST_CARDS
+returns-then-n-gt-MOST_CARDS c = let a = c.args in
+    row_declined a.r (uid_bytes a.u) _ a.cards.now (length a.cards.now) refl c.woken.result c.woken.ensures.value c.woken.ensures.wakens c.from.result c.from.ensures c.if-n-gt-MOST_CARDS.true
 
-pub loop-p-smaller : goal.loop-p-smaller
-loop-p-smaller c =
-    let l = c.loop-p in
-    law.fewer c.args.r c.args.u c.args.cards.now l.p l.cards l.invariant.under c.loop-p-test.true c.turn-t.result c.turn-t.ensures
-
-pub loop-p-preserved : goal.loop-p-preserved
-loop-p-preserved c =
-    let l = c.loop-p in
-    record {
-      under = law.after c.args.r c.args.u c.args.cards.now l.p l.cards l.invariant.under c.loop-p-test.true c.turn-t.result c.turn-t.ensures;
-      rows = length-set l.cards l.p.at c.turn-t.result.card ∙ l.invariant.rows;
-    }
+pub returns : goal.returns
+returns c = let a = c.args in
+    let w = c.woken-w in
+    let held : c.copy_from_slice.new.self ≡ a.cards.now = c.copy_from_slice.ensures.after in
+    row_woken a.r (uid_bytes a.u) _ a.cards.now (length a.cards.now) refl w.result w.ensures.value w.ensures.wakens c.from-2.result c.from-2.ensures
+    (take_at c.copy_from_slice.new.self _ (length a.cards.now) (ap length held) ∙ held) _ c.copy_from_slice-2.ensures.after

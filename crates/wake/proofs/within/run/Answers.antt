@@ -1,14 +1,11 @@
 use mathlib.Core.Path.{◌≡◌, sym, ◌∙◌}
 use mathlib.Core.Bool.{true, false}
-use Prim.Native.Nat.{◌≤◌, ◌-◌}
 use native.Mathlib.Omega.{arith}
-use lib.ListN.{length, take}
+use lib.ListN.{length}
 use Rattle.limits.specs.Limits.{most_cards}
 use Rattle.reader.specs.KnownLaws.{count_levels, count_most}
-use Rattle.sweep_rules.specs.Run.{plain}
-use Rattle.sweep_steps.specs.RunLaws.{rest}
-use Rattle.wake.specs.StepLaws.{Under, under_none, under_fewer, under_turn, under_ends, fewer_left, wake_rest}
-use Rattle.wake.specs.Steps.{turn_in, goes_on}
+use Rattle.wake.specs.StepLaws.{under_none, under_fewer, under_turn, under_ends, fewer_left, wake_rest}
+use Rattle.wake.specs.Steps.{goes_on}
 use borrow.Author.Rules.{rules}
 use Rattle.wake.proofs.within.run.Goals as goal
 

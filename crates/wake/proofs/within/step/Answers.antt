@@ -7,7 +7,6 @@ use Rattle.field.specs.Calls.{cards_after}
 use Rattle.field.specs.Field.{heard_from}
 use Rattle.sweep_steps.specs.ExchangeLaws.{Front, front_of_law, heard_front}
 use Rattle.wake.specs.Steps.{stepped}
-use borrow.Author.Rules.{rules}
 use Rattle.wake.proofs.within.step.Goals as goal
 
 pub slice_bounds-frame-end : goal.slice_bounds-frame-end

@@ -1,5 +1,0 @@
-use borrow.Author.Rules.{rules}
-use Rattle.wake_row.proofs.pass.fetches.Goals as goal
-
-pub returns : goal.returns
-returns c = rw c.no_cards-held.ensures
