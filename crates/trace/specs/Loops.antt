@@ -1,5 +1,7 @@
 -- The two loops of the trace checker: over the records, and over the frames of the sweep over the listed cards (T-12).
-use Rattle.std.specs.Prelude.{ℕ, ◌+◌, Bool, true, false, cond, ◌&&◌, List, length, take, leb, ltb}
+use Rattle.trace_rules.specs.Verdict.{Compared, Verdict, fault}
+use Rattle.trace_rules.specs.declared.Differs.TheVariants.{First, Second}
+use Rattle.std.specs.Prelude.{ℕ, ◌+◌, Bool, true, false, cond, ◌&&◌, List, length, take, leb, ltb, Err, Ok}
 use Rattle.limits.specs.Limits.{most_frames}
 use Rattle.reader.specs.Reader.{frame, hear}
 use Rattle.field.specs.Field.{heard_from}
@@ -12,13 +14,9 @@ use Rattle.card.specs.declared.Card.{Card}
 use Rattle.reader.specs.declared.Turn.{Turn}
 use Rattle.refusal.specs.declared.Refusal.TheVariants.{Length, Forbidden}
 use Rattle.trace_rules.specs.declared.Checked.{Checked}
-use Rattle.trace_rules.specs.declared.Compared.{Compared}
-use Rattle.trace_rules.specs.declared.Compared.TheVariants.{Same, First, Second}
 use Rattle.trace_rules.specs.declared.Says.{Says}
 use Rattle.trace_rules.specs.declared.Says.TheVariants.{Goes, Content, Faults}
 use Rattle.trace_rules.specs.declared.Stepped.{Stepped}
-use Rattle.trace_rules.specs.declared.Verdict.{Verdict}
-use Rattle.trace_rules.specs.declared.Verdict.TheVariants.{Clean, Fault}
 use Rattle.trace.specs.declared.replay.Played.{Played}
 
 -- ---- over the records
@@ -34,7 +32,7 @@ goes_on s turn most = ltb turn most && is_going s.says
 
 -- the last turn, before which there are i records
 abbrev pub last_of : ℕ → Stepped → Checked
-last_of i s = follow i s.place (checked (Fault (i + 2) Length) s.place) s.says
+last_of i s = follow i s.place (checked (fault (i + 2) Length) s.place) s.says
 
 -- ---- over the sweep's frames
 
@@ -49,14 +47,14 @@ played w l at t cards n =
 
 -- the place of the records that come next; 0 where none do
 abbrev pub next_place : Compared → ℕ
-next_place (Same at) = at
-next_place First = 0
-next_place Second = 0
+next_place (Ok at) = at
+next_place (Err First) = 0
+next_place (Err Second) = 0
 
 abbrev pub is_same : Compared → Bool
-is_same (Same at) = true
-is_same First = false
-is_same Second = false
+is_same (Ok at) = true
+is_same (Err First) = false
+is_same (Err Second) = false
 
 -- after so many frames
 unfoldable pub plays_on : Played → ℕ → Bool
@@ -64,4 +62,4 @@ plays_on p frames = ltb frames most_frames && is_same p.compared && goes p.turn.
 
 -- the last frame, before whose records there are i, in a log of so many bytes
 abbrev pub finish : ℕ → ℕ → Played → Verdict
-finish i size p = compared_then i (λ at. cond (leb size at) Clean (Fault (i + 2) Forbidden)) p.compared
+finish i size p = compared_then i (λ at. cond (leb size at) (Ok tt) (fault (i + 2) Forbidden)) p.compared

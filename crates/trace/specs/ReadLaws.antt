@@ -1,5 +1,5 @@
 -- Laws of rows that are read from a log. Assumes nothing.
-use Rattle.std.specs.Prelude.{◌≡◌, refl, ℕ, zero, suc, ◌+◌, ◌-◌, ◌*◌, ◌/◌, ◌≤◌, ◌<◌, Bool, true, false, cond, List, [], ◌∷◌, length, take, drop, get_or, set, eqb}
+use Rattle.std.specs.Prelude.{◌≡◌, refl, ℕ, zero, suc, ◌+◌, ◌-◌, ◌*◌, ◌/◌, ◌≤◌, ◌<◌, Bool, true, false, cond, List, [], ◌∷◌, length, take, drop, get_or, set, eqb, Result, Ok, Err}
 use Rattle.std.proofs.Common.{sym, ap, ap₂, ◌∙◌, not-suc-le-zero, zero-add, arith, length-take, length-drop, length-take-le, get_or-take, take_all, Fits}
 use Rattle.std.specs.Int.{w8}
 use Rattle.rows.specs.Rows.{overlay}
@@ -7,9 +7,14 @@ use Rattle.rows.proofs.RowLaws.{overlay_copy}
 use Rattle.air_log.specs.Calls.{most_bits, row_size}
 use Rattle.air_log.specs.Reading.{bits_from, row_at, bit_count, record_at}
 use Rattle.air_log.specs.UnpackLaws.{bits_enough}
-use Rattle.air_log.specs.declared.Record.TheVariants.{Sent, Clean, Collided}
-use Rattle.trace_rules.specs.Trace.{stamp_size, marked}
+use Rattle.air_log.specs.declared.Record.{Record}
+use Rattle.air_log.specs.declared.Record.TheVariants.{Sent, Clean, Collided, Silence, End, Cut, Malformed}
+use Rattle.trace_rules.specs.Trace.{stamp_size, marked, heard_row, sent_passed}
 use Rattle.trace_rules.specs.WholeLaws.{OneRow, TwoRows, Headed, whole}
+use Rattle.refusal.specs.declared.Refusal.{Refusal}
+use Rattle.refusal.specs.declared.Refusal.TheVariants.{Forbidden}
+use Rattle.trace.specs.Reads.{heard_bits, heard_of}
+use Rattle.trace.specs.declared.reading.Heard.{Heard}
 
 -- a row that the log has
 pub enough : (l : List ℕ) (at n : ℕ) → at + row_size n ≤ length l → n ≤ length (bits_from l at)
@@ -69,6 +74,37 @@ module _ (w : ℕ) (l : List ℕ) (at start bits next : ℕ) (g : (i : ℕ) → 
       let h : n ≤ most_bits = small_count l at g in
       rw (r.is_start, r.is_bits, r.is_marks)
       ((enough l (at + 2 + w) n (omega (arith, r.inside)), h), (enough l (at + 2 + w + row_size n) n (omega (arith, r.inside)), h))
+
+-- ---- a record that is out of turn
+
+pub sent_else : (l f : List ℕ) (x : Record) → ((a b c : ℕ) → x ≡ Sent a b c → ⊥) → (x ≡ End → ⊥) → (x ≡ Cut → ⊥) → Err Forbidden ≡ sent_passed l f x
+sent_else l f (Sent a b c) h i j = absurd (h a b c refl)
+sent_else l f (Clean a b c) h i j = refl
+sent_else l f (Collided a b c d) h i j = refl
+sent_else l f (Silence a) h i j = refl
+sent_else l f End h i j = absurd (i refl)
+sent_else l f Cut h i j = absurd (j refl)
+sent_else l f Malformed h i j = refl
+
+pub heard_else : (l : List ℕ) (x : Record) → ((a b c : ℕ) → x ≡ Clean a b c → ⊥) → ((a b c d : ℕ) → x ≡ Collided a b c d → ⊥) → ((a : ℕ) → x ≡ Silence a → ⊥) → (x ≡ End → ⊥) → (x ≡ Cut → ⊥)
+    → (Err Forbidden ≡ heard_of l x) × (heard_row l x ≡ [])
+heard_else l (Sent a b c) h i j k m = (refl, refl)
+heard_else l (Clean a b c) h i j k m = absurd (h a b c refl)
+heard_else l (Collided a b c d) h i j k m = absurd (i a b c d refl)
+heard_else l (Silence a) h i j k m = absurd (j a refl)
+heard_else l End h i j k m = absurd (k refl)
+heard_else l Cut h i j k m = absurd (m refl)
+heard_else l Malformed h i j k m = (refl, refl)
+
+-- ---- what was heard, and the place behind it
+
+pub heard_ok : (n : ℕ) (q : Result ℕ Refusal) (h : Heard) → Ok h ≡ heard_bits n q → (q ≡ Ok h.next) × (h.bits ≡ n)
+heard_ok n (Ok at) h e = let z : h ≡ record { bits = n; next = at } = cc in (ap (λ k. Ok k.next) (sym z), ap (λ k. k.bits) z)
+heard_ok n (Err x) h e = let z : ◌≡◌ {A = ℕ} 0 1 = cc in absurd (omega arith)
+
+pub heard_err : (n : ℕ) (q : Result ℕ Refusal) (x : Refusal) → Err x ≡ heard_bits n q → q ≡ Err x
+heard_err n (Ok at) x e = let z : ◌≡◌ {A = ℕ} 0 1 = cc in absurd (omega arith)
+heard_err n (Err y) x e = let z : x ≡ y = cc in ap (λ k. Err k) (sym z)
 
 -- ---- the input
 

@@ -1,5 +1,7 @@
 -- Laws of the loop over the frames of the sweep over the listed cards: what is left to compare after a frame. Assumes nothing.
-use Rattle.std.specs.Prelude.{◌≡◌, Bool, cond, ◌&&◌, List, [], ◌∷◌, length, take, leb}
+use Rattle.trace_rules.specs.Verdict.{Compared, Verdict}
+use Rattle.trace_rules.specs.declared.Differs.TheVariants.{First, Second}
+use Rattle.std.specs.Prelude.{◌≡◌, Bool, cond, ◌&&◌, List, [], ◌∷◌, length, take, leb, Err, Ok}
 use Rattle.std.proofs.Math.Path.{refl, sym}
 use Rattle.std.proofs.Common.{ap, ◌∙◌, arith, length-append, length-drop, ltb-true, ltb-false}
 use Prim.Native.Nat.{ℕ, zero, suc, ◌+◌, ◌-◌, ◌*◌, ◌≤◌, ◌<◌}
@@ -22,9 +24,6 @@ use Rattle.card.specs.declared.Card.{Card}
 use Rattle.reader.specs.declared.Phase.TheVariants.{ReqaSent}
 use Rattle.reader.specs.declared.Turn.{Turn}
 use Rattle.refusal.specs.declared.Refusal.TheVariants.{Forbidden}
-use Rattle.trace_rules.specs.declared.Compared.{Compared}
-use Rattle.trace_rules.specs.declared.Compared.TheVariants.{Same, First, Second}
-use Rattle.trace_rules.specs.declared.Verdict.{Verdict}
 use Rattle.trace.specs.Loops.{played, next_place, is_same, plays_on, finish}
 use Rattle.trace.specs.declared.replay.Played.{Played}
 
@@ -75,10 +74,10 @@ module _ (w : ℕ) (l : List ℕ) (n : ℕ) where
   unfolding sends
   left_first cards h = sym (ap (λ es. differs w l 0 es 0) (sweep_ahead (take n cards)) ∙ one_more (most_frames - 1) 0 0 first cards h refl)
 
-  is_same_law : (c : Compared) → is_same c ≡ true → c ≡ Same (next_place c)
-  is_same_law (Same at) e = refl
-  is_same_law First e = absurd (false≢true e)
-  is_same_law Second e = absurd (false≢true e)
+  is_same_law : (c : Compared) → is_same c ≡ true → c ≡ Ok (next_place c)
+  is_same_law (Ok at) e = refl
+  is_same_law (Err First) e = absurd (false≢true e)
+  is_same_law (Err Second) e = absurd (false≢true e)
 
   pub plays_says : (p : Played) (frames : ℕ) → plays_on p frames ≡ true → (frames < most_frames) × (is_same p.compared ≡ true) × (goes p.turn.answer ≡ true)
   unfolding plays_on
@@ -118,6 +117,6 @@ module _ (w : ℕ) (l : List ℕ) (n : ℕ) where
 
       go : (c : Compared) → (ltb frames most_frames && is_same c && goes p.turn.answer) ≡ false
           → compared_then i (differs w l (i + 2) es) c ≡ compared_then i (differs w l (i + 2) []) c
-      go First h = refl
-      go Second h = refl
-      go (Same at) h = ap (λ s. differs w l (i + 2) s at) (none (ltb frames most_frames) refl (goes p.turn.answer) refl h)
+      go (Err First) h = refl
+      go (Err Second) h = refl
+      go (Ok at) h = ap (λ s. differs w l (i + 2) s at) (none (ltb frames most_frames) refl (goes p.turn.answer) refl h)

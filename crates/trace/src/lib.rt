@@ -6,26 +6,19 @@ mod reading;
 mod replay;
 mod walk;
 
-ghost use Rattle.std.specs.Prelude.{◌≡◌, ◌≤◌, length};
+ghost use Rattle.std.specs.Prelude.{◌≡◌, ◌≤◌, length, Ok};
 ghost use Rattle.limits.specs.Limits.{most_cards, log_room};
-ghost use Rattle.trace_rules.specs.declared.Verdict.TheVariants.{Clean};
 ghost use Rattle.trace_rules.specs.Check.{check, refused, check_log, judged, checked_says, check_says};
 ghost use Rattle.trace_rules.specs.Promise.{Faithful};
 
 use refusal::Refusal;
-pub use trace_rules::{Checked, Verdict};
+pub use trace_rules::{Checked, Fault, Verdict};
 
 // Refused before a record is read.
 fn refused(e: Refusal) -> Checked
     ensures { result ≡ refused e }
 {
-    walk::checked(
-        Verdict::Fault {
-            record: 0,
-            refusal: e,
-        },
-        walk::start(),
-    )
+    walk::checked(walk::fault(0, e), walk::start())
 }
 
 // The tests of the input, and then of the log.
@@ -35,7 +28,7 @@ fn check_input(input: &[u8]) -> Checked
     if input.len() > limits::LOG_ROOM + 1 {
         return refused(Refusal::Room);
     }
-    if input.len() == 0 {
+    if input.is_empty() {
         return refused(Refusal::Argument);
     }
     let mode = input[0];
@@ -61,26 +54,19 @@ fn check_log(log: &[u8], stamp: usize) -> Checked
     ensures { result ≡ check_log stamp log.now }
 {
     let c = walk::walk(log, stamp);
-    let v = c.verdict;
-    match v {
-        Verdict::Clean => judged(log, stamp, c),
-        Verdict::Fault {
-            record: _,
-            refusal: _,
-        } => c,
+    match c.verdict {
+        Ok(()) => judged(log, stamp, c),
+        Err(_) => c,
     }
 }
 
 // The reader is content throughout: what the plain sweep over the listed cards says.
 fn judged(log: &[u8], stamp: usize, c: Checked) -> Checked
     requires { c.found ≤ most_cards }
-    ensures { result ≡ judged stamp log.now c Clean }
+    ensures { result ≡ judged stamp log.now c (Ok tt) }
 {
-    let cards = c.cards;
-    let v = replay::replay(log, stamp, cards, c.found);
     Checked {
-        verdict: v,
-        cards: cards,
-        found: c.found,
+        verdict: replay::replay(log, stamp, c.cards, c.found),
+        ..c
     }
 }

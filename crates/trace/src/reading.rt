@@ -4,7 +4,7 @@ ghost use Rattle.rows.specs.Rows.{overlay, same};
 ghost use Rattle.air_log.specs.Calls.{most_bits};
 ghost use Rattle.air_log.specs.Reading.{bits_from, row_at, record_at};
 ghost use Rattle.trace_rules.specs.Trace.{marked, heard_row, sent_passed};
-ghost use Rattle.trace.specs.Reads.{heard_bits, heard_of};
+ghost use Rattle.trace.specs.Reads.{heard_of};
 
 use air_log::Record;
 use refusal::Refusal;
@@ -16,7 +16,7 @@ const MOST_BITS: usize = 8191;
 #[derive(Clone, Copy)]
 pub struct Heard {
     pub bits: usize,
-    pub passed: Result<usize, Refusal>,
+    pub next: usize,
 }
 
 // The bits of a row that starts at a byte of the log, at the front of out.
@@ -24,6 +24,7 @@ fn put_bits(log: &[u8], start: usize, n: usize, out: &mut [u8])
     requires { (n ≤ length (bits_from log.now start)) × (n ≤ length out.old) }
     ensures { out.new ≡ overlay out.old 0 (row_at log.now start n) }
 {
+    // Kept: tried `iter_mut`, of which a proof knows no element afterwards.
     for i in 0..n {
         out[i] = air_log::bit_at(log, start, i);
     }
@@ -33,10 +34,7 @@ fn put_bits(log: &[u8], start: usize, n: usize, out: &mut [u8])
 fn heard_bit(x: u8, mark: u8) -> u8
     ensures { result ≡ cond (eqb mark 0) x 2 }
 {
-    if mark == 0 {
-        return x;
-    }
-    2
+    if mark == 0 { x } else { 2 }
 }
 
 // The same with collided bits where the row of marks has a 1.
@@ -66,78 +64,43 @@ fn holds(log: &[u8], start: usize, n: usize, row: &[u8]) -> bool
 pub fn sent_at(log: &[u8], stamp: usize, at: usize, frame: &[u8]) -> Result<usize, Refusal>
     ensures { result ≡ sent_passed log.now frame.now (record_at stamp log.now at) }
 {
-    let x = trace_reader::read_at(log, stamp, at);
-    match x {
-        Record::Sent {
-            start: start,
-            bits: bits,
-            next: next,
-        } => {
+    match trace_reader::read_at(log, stamp, at) {
+        Record::Sent { start, bits, next } => {
             if holds(log, start, bits, frame) {
-                return Ok(next);
+                Ok(next)
+            } else {
+                Err(Refusal::Forbidden)
             }
-            Err(Refusal::Forbidden)
         }
-        Record::Clean {
-            start: _,
-            bits: _,
-            next: _,
-        } => Err(Refusal::Forbidden),
-        Record::Collided {
-            start: _,
-            marks: _,
-            bits: _,
-            next: _,
-        } => Err(Refusal::Forbidden),
-        Record::Silence { next: _ } => Err(Refusal::Forbidden),
         Record::End => Err(Refusal::Length),
         Record::Cut => Err(Refusal::Length),
-        Record::Malformed => Err(Refusal::Forbidden),
-    }
-}
-
-fn heard_of(bits: usize, passed: Result<usize, Refusal>) -> Heard
-    ensures { result ≡ heard_bits bits passed }
-{
-    Heard {
-        bits: bits,
-        passed: passed,
+        _ => Err(Refusal::Forbidden),
     }
 }
 
 // The record of what was heard is due.
-pub fn heard_at(log: &[u8], stamp: usize, at: usize, row: &mut [u8]) -> Heard
+pub fn heard_at(log: &[u8], stamp: usize, at: usize, row: &mut [u8]) -> Result<Heard, Refusal>
     requires { most_bits ≤ length row.old }
     ensures value { result ≡ heard_of log.now (record_at stamp log.now at) }
     ensures row_after { row.new ≡ overlay row.old 0 (heard_row log.now (record_at stamp log.now at)) }
 {
-    let x = trace_reader::read_at(log, stamp, at);
-    match x {
-        Record::Sent {
-            start: _,
-            bits: _,
-            next: _,
-        } => heard_of(0, Err(Refusal::Forbidden)),
-        Record::Clean {
-            start: start,
-            bits: bits,
-            next: next,
-        } => {
+    match trace_reader::read_at(log, stamp, at) {
+        Record::Clean { start, bits, next } => {
             put_bits(log, start, bits, row);
-            heard_of(bits, Ok(next))
+            Ok(Heard { bits, next })
         }
         Record::Collided {
-            start: start,
-            marks: marks,
-            bits: bits,
-            next: next,
+            start,
+            marks,
+            bits,
+            next,
         } => {
             put_marked(log, start, marks, bits, row);
-            heard_of(bits, Ok(next))
+            Ok(Heard { bits, next })
         }
-        Record::Silence { next: next } => heard_of(0, Ok(next)),
-        Record::End => heard_of(0, Err(Refusal::Length)),
-        Record::Cut => heard_of(0, Err(Refusal::Length)),
-        Record::Malformed => heard_of(0, Err(Refusal::Forbidden)),
+        Record::Silence { next } => Ok(Heard { bits: 0, next }),
+        Record::End => Err(Refusal::Length),
+        Record::Cut => Err(Refusal::Length),
+        _ => Err(Refusal::Forbidden),
     }
 }

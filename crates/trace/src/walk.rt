@@ -1,43 +1,26 @@
 // A log record by record, against the reader's rules. Some functions have a condition, and their callers' proofs show that they meet it.
-ghost use Rattle.std.specs.Prelude.{◌≡◌, suc, ◌≤◌, ◌<◌, ◌^◌, length, take};
+ghost use Rattle.std.specs.Prelude.{◌≡◌, suc, ◌≤◌, ◌<◌, ◌^◌, length};
 ghost use Rattle.limits.specs.Limits.{most_cards, log_room};
 ghost use Rattle.air_log.specs.Reading.{record_at};
-ghost use Rattle.trace_rules.specs.Trace.{no_card, start, goes, faults, onward, listed, with_card, is_listed, lists, ends, turned, heard_then, heard_passed, step, checked, walk};
-ghost use Rattle.trace.specs.Loops.{goes_on, last_of};
+ghost use Rattle.trace_rules.specs.Trace.{start, goes, faults, onward, listed, with_card, is_listed, lists, ends, turned, heard_then, heard_passed, step, checked, walk};
+ghost use Rattle.trace_rules.specs.Verdict.{fault};
+ghost use Rattle.trace.specs.Loops.{is_going, goes_on, last_of};
 
 use card::{Card, CardState};
 use limits::MOST_CARDS;
 use reader::{Answer, Phase, Reader, Turn};
 use refusal::Refusal;
-use trace_rules::{Checked, Place, Says, Stepped, Verdict};
-use uid::{Uid, UidSize};
-
-fn no_card() -> Card
-    ensures { result ≡ no_card }
-{
-    let u = Uid {
-        size: UidSize::Single,
-        bytes: [0u8; 10],
-    };
-    Card {
-        uid: u,
-        blocks: false,
-        index: 0,
-        state: CardState::Off,
-    }
-}
+use trace_rules::{Checked, Fault, Place, Says, Stepped, Verdict};
+use uid::Uid;
 
 // Before the first record: REQA is due, and no card was found.
 pub fn start() -> Place
     ensures { result ≡ start }
 {
-    let r = reader::within::blank(Phase::ReqaSent, true);
-    let c = no_card();
-    let cards = [c; MOST_CARDS];
     Place {
         at: 0,
-        reader: r,
-        cards: cards,
+        reader: reader::within::blank(Phase::ReqaSent, true),
+        cards: [sweep_steps::within::no_card(); MOST_CARDS],
         found: 0,
     }
 }
@@ -57,77 +40,57 @@ fn faults(p: Place, on: u8, e: Refusal) -> Stepped
 {
     Stepped {
         place: p,
-        says: Says::Faults { on: on, refusal: e },
+        says: Says::Faults { on, refusal: e },
     }
 }
 
-fn onward(p: Place, at: usize, r: Reader) -> Place
-    ensures { result ≡ onward p at r }
+fn onward(p: Place, at: usize, reader: Reader) -> Place
+    ensures { result ≡ onward p at reader }
 {
-    let cards = p.cards;
-    Place {
-        at: at,
-        reader: r,
-        cards: cards,
-        found: p.found,
-    }
+    Place { at, reader, ..p }
 }
 
 // A card of the list.
 fn listed(r: Reader) -> Card
     ensures { result ≡ listed r }
 {
-    let u = r.uid;
     Card {
-        uid: u,
+        uid: r.uid,
         blocks: r.sak == 0x20,
         index: 8,
         state: CardState::Idle,
     }
 }
 
-fn with_card(p: Place, at: usize, r: Reader) -> Place
+fn with_card(p: Place, at: usize, reader: Reader) -> Place
     requires { p.found < most_cards }
-    ensures { result ≡ with_card p at r }
+    ensures { result ≡ with_card p at reader }
 {
     let mut cards = p.cards;
-    let n = p.found;
-    let c = listed(r);
-    cards[n] = c;
+    cards[p.found] = listed(reader);
     Place {
-        at: at,
-        reader: r,
-        cards: cards,
-        found: n + 1,
+        at,
+        reader,
+        cards,
+        found: p.found + 1,
     }
 }
 
-// Has one of the first n cards this UID?
-fn is_listed(u: Uid, cards: [Card; MOST_CARDS], n: usize) -> bool
-    requires { n ≤ most_cards }
-    ensures { result ≡ is_listed u (take n cards) }
+// Has one of the cards this UID?
+fn is_listed(u: Uid, cards: &[Card]) -> bool
+    ensures { result ≡ is_listed u cards.now }
 {
-    for i in 0..n {
-        let c = cards[i];
-        let v = c.uid;
-        if uid::same_uid(u, v) {
-            return true;
-        }
-    }
-    false
+    cards.iter().any(|c| uid::same_uid(u, c.uid))
 }
 
 // The reader has found a card.
 fn lists(p: Place, at: usize, r: Reader) -> Stepped
     ensures { result ≡ lists p at r }
 {
-    let n = p.found;
-    if n >= MOST_CARDS {
+    if p.found >= MOST_CARDS {
         return faults(p, 1, Refusal::Argument);
     }
-    let u = r.uid;
-    let cards = p.cards;
-    if is_listed(u, cards, n) {
+    if is_listed(r.uid, &p.cards[..p.found]) {
         return faults(p, 1, Refusal::Argument);
     }
     goes(with_card(p, at, r))
@@ -150,13 +113,11 @@ fn ends(log: &[u8], p: Place, at: usize, r: Reader) -> Stepped
 fn turned(log: &[u8], p: Place, at: usize, t: Turn) -> Stepped
     ensures { result ≡ turned log.now p at t }
 {
-    let a = t.answer;
-    let r = t.reader;
-    match a {
-        Answer::Sends(_) => goes(onward(p, at, r)),
-        Answer::Finds(_) => lists(p, at, r),
+    match t.answer {
+        Answer::Sends(_) => goes(onward(p, at, t.reader)),
+        Answer::Finds(_) => lists(p, at, t.reader),
         Answer::Selects => faults(p, 1, Refusal::Forbidden),
-        Answer::Finishes => ends(log, p, at, r),
+        Answer::Finishes => ends(log, p, at, t.reader),
         Answer::Declines(e) => faults(p, 1, e),
     }
 }
@@ -166,12 +127,11 @@ fn heard_step(log: &[u8], stamp: usize, at: usize, p: Place) -> Stepped
     ensures { result ≡ heard_then log.now p (record_at stamp log.now at) (heard_passed (record_at stamp log.now at)) }
 {
     let mut row = [0u8; 8191];
-    let h = crate::reading::heard_at(log, stamp, at, &mut row);
-    let n = h.bits;
-    let passed = h.passed;
-    let r = p.reader;
-    match passed {
-        Ok(next) => turned(log, p, next, reader::within::hear_rules(r, &row[..n])),
+    match crate::reading::heard_at(log, stamp, at, &mut row) {
+        Ok(h) => {
+            let t = reader::within::hear_rules(p.reader, &row[..h.bits]);
+            turned(log, p, h.next, t)
+        }
         Err(e) => faults(p, 1, e),
     }
 }
@@ -180,41 +140,44 @@ fn heard_step(log: &[u8], stamp: usize, at: usize, p: Place) -> Stepped
 fn step(log: &[u8], stamp: usize, p: Place) -> Stepped
     ensures { result ≡ step stamp log.now p }
 {
-    let r = p.reader;
     let mut frame = [0u8; 81];
-    reader::within::put_frame(r, &mut frame);
-    let bits = reader::within::frame_bits(r);
-    let passed = crate::reading::sent_at(log, stamp, p.at, &frame[..bits]);
-    match passed {
+    reader::within::put_frame(p.reader, &mut frame);
+    let bits = reader::within::frame_bits(p.reader);
+    match crate::reading::sent_at(log, stamp, p.at, &frame[..bits]) {
         Ok(at) => heard_step(log, stamp, at, p),
         Err(e) => faults(p, 0, e),
     }
 }
 
-pub fn checked(v: Verdict, p: Place) -> Checked
-    ensures { result ≡ checked v p }
+// The record with this index is at fault.
+pub fn fault(index: usize, refusal: Refusal) -> Verdict
+    ensures { result ≡ fault index refusal }
+{
+    Err(Fault { index, refusal })
+}
+
+pub fn checked(verdict: Verdict, p: Place) -> Checked
+    ensures { result ≡ checked verdict p }
 {
     let cards = p.cards;
     Checked {
-        verdict: v,
-        cards: cards,
+        verdict,
+        cards,
         found: p.found,
     }
+}
+
+fn is_going(s: Says) -> bool
+    ensures { result ≡ is_going s }
+{
+    matches!(s, Says::Goes)
 }
 
 // Does the check go on, after so many turns of at most that many?
 fn goes_on(s: Stepped, turn: usize, most: usize) -> bool
     ensures { result ≡ goes_on s turn most }
 {
-    let says = s.says;
-    if turn < most {
-        return match says {
-            Says::Goes => true,
-            Says::Content => false,
-            Says::Faults { on: _, refusal: _ } => false,
-        };
-    }
-    false
+    turn < most && is_going(s.says)
 }
 
 // What the last turn says, before which there are i records.
@@ -222,24 +185,10 @@ fn verdict(i: usize, s: Stepped) -> Checked
     requires { i < 2 ^ 32 }
     ensures { result ≡ last_of i s }
 {
-    let says = s.says;
-    let p = s.place;
-    match says {
-        Says::Goes => checked(
-            Verdict::Fault {
-                record: i + 2,
-                refusal: Refusal::Length,
-            },
-            p,
-        ),
-        Says::Content => checked(Verdict::Clean, p),
-        Says::Faults { on: on, refusal: e } => checked(
-            Verdict::Fault {
-                record: i + (on as usize),
-                refusal: e,
-            },
-            p,
-        ),
+    match s.says {
+        Says::Goes => checked(fault(i + 2, Refusal::Length), s.place),
+        Says::Content => checked(Ok(()), s.place),
+        Says::Faults { on, refusal } => checked(fault(i + on as usize, refusal), s.place),
     }
 }
 
@@ -251,8 +200,7 @@ pub fn walk(log: &[u8], stamp: usize) -> Checked
     let mut s = step(log, stamp, start());
     let mut turn: usize = 0;
     while goes_on(s, turn, log.len()) {
-        let p = s.place;
-        s = step(log, stamp, p);
+        s = step(log, stamp, s.place);
         turn += 1;
     }
     verdict(2 * turn, s)

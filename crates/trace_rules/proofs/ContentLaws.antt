@@ -1,5 +1,5 @@
 -- The reader is content with a log that the plain sweep wrote, and the list is that sweep's. Assumes nothing.
-use Rattle.std.specs.Prelude.{◌≡◌, ◌≢◌, Bool, true, false, ◌||◌, length, drop}
+use Rattle.std.specs.Prelude.{◌≡◌, ◌≢◌, Bool, true, false, ◌||◌, length, drop, Ok}
 use Rattle.std.proofs.Math.Path.{refl}
 use Rattle.std.proofs.Common.{sym, ap, ◌∙◌, arith, length-append, length-drop, length-set, length-take-le, le-leb, le-ltb}
 use Prim.Native.Nat.{ℕ, zero, suc, ◌+◌, ◌-◌, ◌≤◌, ◌<◌}
@@ -29,14 +29,13 @@ use Rattle.trace_rules.proofs.FollowLaws.{Readable, beyond, beyond_has, same_the
 use Rattle.trace_rules.specs.Promise.{Begins, LogOf}
 use Rattle.trace_rules.specs.declared.Checked.{Checked}
 use Rattle.trace_rules.specs.declared.Place.{Place}
-use Rattle.trace_rules.specs.declared.Verdict.TheVariants.{Clean}
 
 -- ---- a log of some exchanges does not differ from them
 
 nothing_left : (l : List ℕ) (at : ℕ) → drop at l ≡ [] → length l ≤ at
 nothing_left l at e = let k : length l - at ≡ 0 = sym (length-drop at l) ∙ ap length e in omega arith
 
-pub no_difference : (w : ℕ) (l : List ℕ) (i : ℕ) (es : List Exchange) (at : ℕ) → All Readable es → LogOf w es (drop at l) → differs w l i es at ≡ Clean
+pub no_difference : (w : ℕ) (l : List ℕ) (i : ℕ) (es : List Exchange) (at : ℕ) → All Readable es → LogOf w es (drop at l) → differs w l i es at ≡ Ok tt
 unfolding differs
 no_difference w l i [] at g b = rw (le-leb (length l) at (nothing_left l at b))
 no_difference w l i (e ∷ es) at (g, gs) b =
@@ -106,7 +105,7 @@ module _ (w : ℕ) (l : List ℕ) (total : List (List ℕ)) (apart : Distinct to
 
   -- how the check comes out
   pub record Comes (k : ℕ) (t : Turn) (cs : List Card) (p : Place) (c : Checked) : Type 0 where
-    pub clean : c.verdict ≡ Clean
+    pub clean : c.verdict ≡ Ok tt
     pub cards : cards_of c ≡ cards_in p ++ listing k t cs
 
   pub follows : (k : ℕ) (t : Turn) (cs : List Card) (K i : ℕ) (p : Place) → At k t cs p → length (run k t cs).exchanges ≤ K → Comes k t cs p (walk K w l i p)

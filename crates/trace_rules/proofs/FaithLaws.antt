@@ -1,5 +1,6 @@
 -- The check of an input of bytes is faithful: what it calls clean is the log of a sweep, and what a sweep wrote comes out clean. Assumes nothing.
-use Rattle.std.specs.Prelude.{◌≡◌, refl, ℕ, suc, Bool, true, false, cond, ◌||◌, List, [], ◌∷◌, ltb, length, drop, get_or}
+use Rattle.trace_rules.specs.Verdict.{Verdict}
+use Rattle.std.specs.Prelude.{◌≡◌, refl, ℕ, suc, Bool, true, false, cond, ◌||◌, List, [], ◌∷◌, ltb, length, drop, get_or, Err, Ok}
 use Rattle.std.proofs.Common.{arith, ltb-false}
 use Rattle.rows.specs.Rows.{All, Bytes, is_nil}
 use Rattle.limits.specs.Limits.{log_room}
@@ -15,40 +16,38 @@ use Rattle.trace_rules.proofs.SweepCleanLaws.{input_log, comes_clean, listed_uid
 use Rattle.trace_rules.proofs.FieldLaws.{Field, walk_field, start_listing, start_sweeping}
 use Rattle.card.specs.declared.Card.{Card}
 use Rattle.trace_rules.specs.declared.Checked.{Checked}
-use Rattle.trace_rules.specs.declared.Verdict.{Verdict}
-use Rattle.trace_rules.specs.declared.Verdict.TheVariants.{Clean, Fault}
 
 -- what is known of a log that is called clean
 record Sound (w : ℕ) (l : List ℕ) (c : Checked) : Type 0 where
   log : LogOf w (sweep (cards_of c)).exchanges l
   field : Field c
 
-log_sound : (w : ℕ) (l : List ℕ) → Bytes l → (check_log w l).verdict ≡ Clean → Sound w l (check_log w l)
+log_sound : (w : ℕ) (l : List ℕ) → Bytes l → (check_log w l).verdict ≡ Ok tt → Sound w l (check_log w l)
 unfolding check_log
 log_sound w l b h = go (walk (suc (length l)) w l 0 start) (walk_field (suc (length l)) w l 0 start start_sweeping start_listing) h
   where
-    go : (c : Checked) → (c.verdict ≡ Clean → Field c) → (judged w l c c.verdict).verdict ≡ Clean → Sound w l (judged w l c c.verdict)
+    go : (c : Checked) → (c.verdict ≡ Ok tt → Field c) → (judged w l c c.verdict).verdict ≡ Ok tt → Sound w l (judged w l c c.verdict)
     go c f h = go₂ c.verdict refl h
       where
-        go₂ : (v : Verdict) → c.verdict ≡ v → (judged w l c v).verdict ≡ Clean → Sound w l (judged w l c v)
-        go₂ Clean e h = record { log = log_of w l b 0 (sweep (cards_of c)).exchanges 0 h; field = let q = f e in record { field = q.field; idle = q.idle } }
-        go₂ (Fault i x) e h = let z : ◌≡◌ {A = ℕ} 0 1 = cc in absurd (omega arith)
+        go₂ : (v : Verdict) → c.verdict ≡ v → (judged w l c v).verdict ≡ Ok tt → Sound w l (judged w l c v)
+        go₂ (Ok u) e h = record { log = log_of w l b 0 (sweep (cards_of c)).exchanges 0 h; field = let q = f e in record { field = q.field; idle = q.idle } }
+        go₂ (Err x) e h = let z : ◌≡◌ {A = ℕ} 0 1 = cc in absurd (omega arith)
 
 -- what is known of an input that is called clean
 record Known (s : List ℕ) (c : Checked) : Type 0 where
   input : InputOf (sweep (cards_of c)).exchanges s
   field : Field c
 
-known : (s : List ℕ) → Bytes s → (check s).verdict ≡ Clean → Known s (check s)
+known : (s : List ℕ) → Bytes s → (check s).verdict ≡ Ok tt → Known s (check s)
 unfolding check refused is_nil
 known [] b h = go (ltb (suc log_room) 0) h
   where
-    go : (t : Bool) → (cond t (refused Room) (refused Argument)).verdict ≡ Clean → Known [] (cond t (refused Room) (refused Argument))
+    go : (t : Bool) → (cond t (refused Room) (refused Argument)).verdict ≡ Ok tt → Known [] (cond t (refused Room) (refused Argument))
     go true h = let z : ◌≡◌ {A = ℕ} 0 1 = cc in absurd (omega arith)
     go false h = let z : ◌≡◌ {A = ℕ} 0 1 = cc in absurd (omega arith)
 known (m ∷ l) b h = go (ltb (suc log_room) (length (m ∷ l))) (ltb 1 m) refl h
   where
-    go : (t u : Bool) → ltb 1 m ≡ u → (cond t (refused Room) (cond u (refused Argument) (check_log (stamp_size m) l))).verdict ≡ Clean
+    go : (t u : Bool) → ltb 1 m ≡ u → (cond t (refused Room) (cond u (refused Argument) (check_log (stamp_size m) l))).verdict ≡ Ok tt
         → Known (m ∷ l) (cond t (refused Room) (cond u (refused Argument) (check_log (stamp_size m) l)))
     go true u e h = let z : ◌≡◌ {A = ℕ} 0 1 = cc in absurd (omega arith)
     go false true e h = let z : ◌≡◌ {A = ℕ} 0 1 = cc in absurd (omega arith)

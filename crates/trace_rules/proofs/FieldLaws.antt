@@ -25,7 +25,6 @@ use Rattle.trace_rules.specs.declared.Place.{Place}
 use Rattle.trace_rules.specs.declared.Says.{Says}
 use Rattle.trace_rules.specs.declared.Says.TheVariants.{Goes, Content, Faults}
 use Rattle.trace_rules.specs.declared.Stepped.{Stepped}
-use Rattle.trace_rules.specs.declared.Verdict.TheVariants.{Clean}
 use Rattle.refusal.specs.declared.Refusal.{Refusal}
 
 -- ---- one card more
@@ -164,7 +163,7 @@ listing_field p c e f q =
     let k : length (cards_in p) ≡ p.found = length-take-le p.found p.cards (omega (arith, q.full, q.few)) in
     rw (e, f) (record { field = rw (k, le-leb p.found most_cards q.few, q.fit, q.differ); idle = q.idle })
 
-pub walk_field : (k w : ℕ) (l : List ℕ) (i : ℕ) (p : Place) → Sweeping p.reader → Listing p → (walk k w l i p).verdict ≡ Clean → Field (walk k w l i p)
+pub walk_field : (k w : ℕ) (l : List ℕ) (i : ℕ) (p : Place) → Sweeping p.reader → Listing p → (walk k w l i p).verdict ≡ Ok tt → Field (walk k w l i p)
 unfolding walk
 walk_field zero w l i p s q h = let z : ◌≡◌ {A = ℕ} 0 1 = cc in absurd (omega arith)
 walk_field (suc k) w l i p s q h = go (step w l p).says (left_step w l p s q) h (λ a b. walk_field k w l (i + 2) (step w l p).place a b)
@@ -175,7 +174,7 @@ walk_field (suc k) w l i p s q h = go (step w l p).says (left_step w l p s q) h 
     rest : Checked
     rest = walk k w l (i + 2) x
 
-    go : (y : Says) → Leaves x y → (follow i x rest y).verdict ≡ Clean → (Sweeping x.reader → Listing x → rest.verdict ≡ Clean → Field rest) → Field (follow i x rest y)
+    go : (y : Says) → Leaves x y → (follow i x rest y).verdict ≡ Ok tt → (Sweeping x.reader → Listing x → rest.verdict ≡ Ok tt → Field rest) → Field (follow i x rest y)
     go Goes v h more = more v.0 v.1 h
     go Content v h more = listing_field x _ refl refl v
     go (Faults on e) v h more = let z : ◌≡◌ {A = ℕ} 0 1 = cc in absurd (omega arith)

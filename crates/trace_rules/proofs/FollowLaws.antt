@@ -13,7 +13,6 @@ use Rattle.trace_rules.specs.Trace.{heard_row, sent_passed, heard_passed, turned
 use Rattle.trace_rules.specs.Check.{compared}
 use Rattle.trace_rules.specs.HeardLaws.{Three, marked_back}
 use Rattle.trace_rules.specs.Promise.{Begins}
-use Rattle.trace_rules.specs.declared.Compared.TheVariants.{Same}
 use Rattle.trace_rules.specs.declared.Place.{Place}
 
 -- an exchange whose records can be read
@@ -95,7 +94,7 @@ module _ (w : ℕ) (l : List ℕ) (at : ℕ) (e : Exchange) (F : List ℕ → Ty
   beyond_has = rw both.heard.behind b.behind
 
   -- held to this exchange they are the same
-  pub same_there : compared w l e at ≡ Same beyond
+  pub same_there : compared w l e at ≡ Ok beyond
   unfolding compared beyond
   same_there =
       let h = both.heard in

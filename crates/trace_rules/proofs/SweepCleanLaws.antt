@@ -1,5 +1,5 @@
 -- The log of a sweep over cards of one kind comes out clean, with that sweep's list. Assumes nothing.
-use Rattle.std.specs.Prelude.{◌≡◌, ◌≢◌, ℕ, zero, suc, ◌+◌, ◌≤◌, Bool, true, false, cond, ◌&&◌, ◌||◌, eqb, leb, length, take, drop}
+use Rattle.std.specs.Prelude.{◌≡◌, ◌≢◌, ℕ, zero, suc, ◌+◌, ◌≤◌, Bool, true, false, cond, ◌&&◌, ◌||◌, eqb, leb, length, take, drop, Ok}
 use Rattle.std.proofs.Math.Path.{refl, ap}
 use Rattle.std.proofs.Common.{sym, ◌∙◌, arith, length-append, zero-add, length-take-le, take-take, leb-true, le-ltb}
 use Rattle.std.proofs.lemmas.Bool.{false≢true}
@@ -50,7 +50,6 @@ use Rattle.trace_rules.specs.Promise.{LogOf, InputOf}
 use Rattle.trace_rules.proofs.ReadableLaws.{run_readable}
 use Rattle.trace_rules.proofs.SweptLaws.{Sweeping, Stays, hear_stays, begin_sweeping}
 use Rattle.trace_rules.specs.declared.Checked.{Checked}
-use Rattle.trace_rules.specs.declared.Verdict.TheVariants.{Clean}
 
 -- ---- a UID's bytes tell its levels
 
@@ -260,7 +259,7 @@ module _ (cs : List Card) (typed : All Typed cs) (terms : within cs ≡ true) wh
       unfolding sweep
       same_sweep = rw cards_are (sym (mirror_run most_frames first cs G first_sweeping m))
 
-      clean_log : (check_log w l).verdict ≡ Clean
+      clean_log : (check_log w l).verdict ≡ Ok tt
       unfolding check_log out
       clean_log = rw (comes.clean, same_sweep) (no_difference w l 0 (sweep cs).exchanges 0 readable log)
 
@@ -320,7 +319,7 @@ module _ (cs : List Card) (typed : All Typed cs) (terms : within cs ≡ true) wh
       → All (λ d. All (λ g. is_idle d.state ≡ true → uid_bytes d.uid ≡ uid_bytes g.uid → d.blocks ≡ g.blocks) (cards_of (check_log w l))) cs
   listed_kinds w l log = rw (cards_log w l log) (all_weaken cs (λ d h. all_weaken G (λ g q e u. (q e u).blocks_same) h) pairs)
 
-  pub comes_clean : (w : ℕ) (l : List ℕ) → LogOf w (sweep cs).exchanges l → (check_log w l).verdict ≡ Clean
+  pub comes_clean : (w : ℕ) (l : List ℕ) → LogOf w (sweep cs).exchanges l → (check_log w l).verdict ≡ Ok tt
   comes_clean w l log = clean_log w l log mirrored
 
 -- ---- the input

@@ -1,4 +1,6 @@
 -- A log that is called clean is the log of the sweep over its cards. Assumes nothing.
+use Rattle.trace_rules.specs.Verdict.{Compared, fault}
+use Rattle.trace_rules.specs.declared.Differs.TheVariants.{First, Second}
 use Rattle.std.proofs.Math.Path.{◌≡◌, refl, ap}
 use Rattle.std.proofs.Common.{◌∙◌, arith, leb-true}
 use Prim.Native.Nat.{ℕ, zero, suc, ◌+◌, ◌<◌}
@@ -19,9 +21,6 @@ use Rattle.trace_rules.specs.Check.{heard_as, heard_compared, sent_compared, com
 use Rattle.trace_rules.specs.Promise.{Begins, LogOf}
 use Rattle.trace_rules.specs.BytesBackLaws.{stamp, stamp_wide, sent_again, clean_again, collided_again, silent_again}
 use Rattle.trace_rules.specs.WholeLaws.{Whole, whole}
-use Rattle.trace_rules.specs.declared.Compared.{Compared}
-use Rattle.trace_rules.specs.declared.Compared.TheVariants.{Same, First, Second}
-use Rattle.trace_rules.specs.declared.Verdict.TheVariants.{Clean, Fault}
 use Rattle.refusal.specs.declared.Refusal.{Refusal}
 
 -- a byte of a log; 0 past its end
@@ -100,32 +99,32 @@ record Both (w : ℕ) (l : List ℕ) (at next : ℕ) (e : Exchange) : Type 0 whe
   heard : Read w l middle next (λ s. heard_record s e.heard)
 
 module _ (w : ℕ) (l : List ℕ) (b : Bytes l) where
-  compared_says : (at next : ℕ) (e : Exchange) → compared w l e at ≡ Same next → Both w l at next e
+  compared_says : (at next : ℕ) (e : Exchange) → compared w l e at ≡ Ok next → Both w l at next e
   unfolding compared
   compared_says at next e h = go (sent_passed l e.sent (record_at w l at)) refl h
     where
-      go₂ : (m : ℕ) → sent_passed l e.sent (record_at w l at) ≡ Ok m → (p : Result ℕ Refusal) → heard_as l e.heard (record_at w l m) ≡ p → heard_compared p ≡ Same next → Both w l at next e
+      go₂ : (m : ℕ) → sent_passed l e.sent (record_at w l at) ≡ Ok m → (p : Result ℕ Refusal) → heard_as l e.heard (record_at w l m) ≡ p → heard_compared p ≡ Ok next → Both w l at next e
       go₂ m q (Ok n) r h =
           let k : n ≡ next = cc in
           record { middle = m; sent = sent_read w l b at e.sent m (record_at w l at) (whole w l at (byte_at l at b)) q; heard = heard_as_law w l b m e.heard next (rw (← k) r) }
       go₂ m q (Err x) r h = let z : ◌≡◌ {A = ℕ} 0 1 = cc in absurd (omega arith)
 
-      go : (p : Result ℕ Refusal) → sent_passed l e.sent (record_at w l at) ≡ p → sent_compared w l e.heard p ≡ Same next → Both w l at next e
+      go : (p : Result ℕ Refusal) → sent_passed l e.sent (record_at w l at) ≡ p → sent_compared w l e.heard p ≡ Ok next → Both w l at next e
       go (Ok m) q h = go₂ m q (heard_as l e.heard (record_at w l m)) refl h
       go (Err x) q h = let z : ◌≡◌ {A = ℕ} 0 1 = cc in absurd (omega arith)
 
   -- a log that does not differ from some exchanges has just their records
-  pub log_of : (i : ℕ) (es : List Exchange) (at : ℕ) → differs w l i es at ≡ Clean → LogOf w es (drop at l)
+  pub log_of : (i : ℕ) (es : List Exchange) (at : ℕ) → differs w l i es at ≡ Ok tt → LogOf w es (drop at l)
   unfolding differs
   log_of i [] at h = go (leb (length l) at) refl h
     where
-      go : (t : Bool) → leb (length l) at ≡ t → cond t Clean (Fault i Forbidden) ≡ Clean → drop at l ≡ []
+      go : (t : Bool) → leb (length l) at ≡ t → cond t (Ok tt) (fault i Forbidden) ≡ Ok tt → drop at l ≡ []
       go true e h = drop_of_length-le l (leb-true (length l) at e)
       go false e h = let z : ◌≡◌ {A = ℕ} 0 1 = cc in absurd (omega arith)
   log_of i (e ∷ es) at h = go (compared w l e at) refl h (λ n. log_of (i + 2) es n)
     where
-      go : (c : Compared) → compared w l e at ≡ c → compared_then i (differs w l (i + 2) es) c ≡ Clean → ((n : ℕ) → differs w l (i + 2) es n ≡ Clean → LogOf w es (drop n l)) → Begins w (LogOf w es) e (drop at l)
-      go (Same n) q h rest =
+      go : (c : Compared) → compared w l e at ≡ c → compared_then i (differs w l (i + 2) es) c ≡ Ok tt → ((n : ℕ) → differs w l (i + 2) es n ≡ Ok tt → LogOf w es (drop n l)) → Begins w (LogOf w es) e (drop at l)
+      go (Ok n) q h rest =
           let p : Both w l at n e = compared_says at n e q in
           let s : List ℕ = sent_record p.sent.stamp_is e.sent in
           record {
@@ -137,5 +136,5 @@ module _ (w : ℕ) (l : List ℕ) (b : Bytes l) where
             bytes = p.sent.bytes ∙ ap (λ q. s ++ q) p.heard.bytes;
             behind = rest n h;
           }
-      go First q h rest = let z : ◌≡◌ {A = ℕ} 0 1 = cc in absurd (omega arith)
-      go Second q h rest = let z : ◌≡◌ {A = ℕ} 0 1 = cc in absurd (omega arith)
+      go (Err First) q h rest = let z : ◌≡◌ {A = ℕ} 0 1 = cc in absurd (omega arith)
+      go (Err Second) q h rest = let z : ◌≡◌ {A = ℕ} 0 1 = cc in absurd (omega arith)

@@ -1,3 +1,4 @@
+pub mod Verdict
 pub mod Trace
 pub mod Check
 pub mod Promise

@@ -1,7 +1,7 @@
 -- What the check promises of logs and sweeps. T-12: "A log that the plain sweep wrote must come out clean with that sweep's list; a log called clean must be,
 -- ticks apart, the one that the plain sweep writes over the printed cards, idle, valid and within the limit." Stated over the rules of the sweep, crate
 -- sweep_rules, and not over its code.
-use Rattle.std.specs.Prelude.{◌≡◌, ℕ, ◌≤◌, true, List, [], ◌∷◌, ◌++◌, map, length}
+use Rattle.std.specs.Prelude.{◌≡◌, ℕ, ◌≤◌, true, List, [], ◌∷◌, ◌++◌, map, length, Ok}
 use Rattle.rows.specs.Rows.{All}
 use Rattle.uid.specs.Uid.{uid_bytes}
 use Rattle.air_log.specs.Log.{Exchange, sent_record, heard_record}
@@ -12,7 +12,6 @@ use Rattle.card.specs.declared.Card.{Card}
 use Rattle.trace_rules.specs.Check.{cards_of}
 use Rattle.trace_rules.specs.Trace.{stamp_size}
 use Rattle.trace_rules.specs.declared.Checked.{Checked}
-use Rattle.trace_rules.specs.declared.Verdict.TheVariants.{Clean}
 
 -- ---- the log of some exchanges, "ticks apart"
 
@@ -42,7 +41,7 @@ pub record InputOf (es : List Exchange) (s : List ℕ) : Type 0 where
 
 -- it comes out clean, with the list of the sweep over cs; a card listed speaks blocks if the idle one with its UID does
 pub record ComesOut (cs : List Card) (c : Checked) : Type 0 where
-  pub clean : c.verdict ≡ Clean
+  pub clean : c.verdict ≡ Ok tt
   pub list : map (λ d. uid_bytes d.uid) (cards_of c) ≡ (sweep cs).found
   pub saks : All (λ d. All (λ g. is_idle d.state ≡ true → uid_bytes d.uid ≡ uid_bytes g.uid → d.blocks ≡ g.blocks) (cards_of c)) cs
 
@@ -51,6 +50,6 @@ pub record Faithful (s : List ℕ) (c : Checked) : Type 0 where
   pub from_sweep : (cs : List Card) → All Typed cs → within cs ≡ true → InputOf (sweep cs).exchanges s → ComesOut cs c
   -- "a log called clean must be, ticks apart, the one that the plain sweep writes over the printed cards, idle, valid and within the limit": and
   -- different
-  pub is_sweep : c.verdict ≡ Clean → InputOf (sweep (cards_of c)).exchanges s
-  pub is_field : c.verdict ≡ Clean → within (cards_of c) ≡ true
-  pub are_idle : c.verdict ≡ Clean → All (λ d. is_idle d.state ≡ true) (cards_of c)
+  pub is_sweep : c.verdict ≡ Ok tt → InputOf (sweep (cards_of c)).exchanges s
+  pub is_field : c.verdict ≡ Ok tt → within (cards_of c) ≡ true
+  pub are_idle : c.verdict ≡ Ok tt → All (λ d. is_idle d.state ≡ true) (cards_of c)

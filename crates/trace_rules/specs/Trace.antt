@@ -2,6 +2,7 @@
 -- reader declines, with its number; a reader frame that ours would not have sent, or a record malformed or out of turn, is 9 ahead of the reader's tests,
 -- a card that is repeated or past the limit is 6 at its last SAK, and bytes after the end, cut or not, are 11." "A cut record, ahead of its other faults, or a
 -- log that stops before the sweep's end, is 2 at that index."
+use Rattle.trace_rules.specs.Verdict.{Verdict, fault}
 use Rattle.std.specs.Prelude.{ℕ, zero, suc, ◌+◌, Bool, true, false, cond, ◌||◌, List, [], ◌∷◌, length, take, replicate, set, eqb, leb, ltb, Result, Ok, Err}
 use Rattle.rows.specs.Rows.{any, same}
 use Rattle.limits.specs.Limits.{most_cards}
@@ -22,8 +23,6 @@ use Rattle.refusal.specs.declared.Refusal.{Refusal}
 use Rattle.refusal.specs.declared.Refusal.TheVariants.{Length, Argument, Forbidden, NotDue}
 use Rattle.uid.specs.declared.Uid.{Uid}
 use Rattle.uid.specs.declared.UidSize.TheVariants.{Single}
-use Rattle.trace_rules.specs.declared.Verdict.{Verdict}
-use Rattle.trace_rules.specs.declared.Verdict.TheVariants.{Clean as Good, Fault}
 use Rattle.trace_rules.specs.declared.Checked.{Checked}
 use Rattle.trace_rules.specs.declared.Place.{Place}
 use Rattle.trace_rules.specs.declared.Says.{Says}
@@ -151,10 +150,10 @@ checked v p = record { verdict = v; cards = p.cards; found = p.found }
 -- i records are before the two that say so
 abbrev pub follow : ℕ → Place → Checked → Says → Checked
 follow i p rest Goes = rest
-follow i p rest Content = checked Good p
-follow i p rest (Faults on e) = checked (Fault (i + on) e) p
+follow i p rest Content = checked (Ok tt) p
+follow i p rest (Faults on e) = checked (fault (i + on) e) p
 
 -- from a place on, i records being before it, in at most so many turns. Each turn passes two records, and no record is without a byte
 unfoldable pub walk : ℕ → ℕ → List ℕ → ℕ → Place → Checked
-walk zero w l i p = checked (Fault i Length) p
+walk zero w l i p = checked (fault i Length) p
 walk (suc most) w l i p = follow i (step w l p).place (walk most w l (i + 2) (step w l p).place) (step w l p).says

@@ -7,13 +7,15 @@ use limits::MOST_CARDS;
 use reader::Reader;
 use refusal::Refusal;
 
-// What the check says of a log. Clean: it is the one that the plain sweep writes over the cards found, ticks apart. Fault: the record at fault,
-// counted from 0, reader's records and heard ones together, and the refusal.
+// The record at fault, counted from 0, reader's records and heard ones together, and the refusal.
 #[derive(Clone, Copy)]
-pub enum Verdict {
-    Clean,
-    Fault { record: usize, refusal: Refusal },
+pub struct Fault {
+    pub index: usize,
+    pub refusal: Refusal,
 }
+
+// What the check says of a log. Ok: it is the one that the plain sweep writes over the cards found, ticks apart.
+pub type Verdict = Result<(), Fault>;
 
 // A checked log: the cards that were found in it, up to the fault if there is one, as many as found says, in the order found, each idle, and
 // speaking blocks where its last SAK was 20.
@@ -47,11 +49,9 @@ pub struct Stepped {
     pub says: Says,
 }
 
-// Two records of the sweep over the listed cards, held to those of the log: both are there, with the place behind them, or the first of the two
-// is not, or the second.
+// Two records of the sweep over the listed cards are held to those of the log, and the first of the two is not there, or the second.
 #[derive(Clone, Copy)]
-pub enum Compared {
-    Same(usize),
+pub enum Differs {
     First,
     Second,
 }

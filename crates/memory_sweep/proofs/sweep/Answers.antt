@@ -1,6 +1,5 @@
 use mathlib.Core.Path.{◌∙◌}
 use mathlib.Core.Bool.{true}
-use borrow.Author.Rules.{rules}
 use lib.ListN.{take}
 use Rattle.memory_rules.specs.Run.{recalled}
 use Rattle.sweep_steps.specs.Loop.{swept_if}

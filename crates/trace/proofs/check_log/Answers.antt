@@ -8,10 +8,10 @@ use Rattle.trace.proofs.check_log.Goals as goal
 pub judged-requires : goal.judged-requires
 judged-requires c = rw c.walk-c.ensures (few_found _ _ _)
 
-pub returns-in-Clean : goal.returns-in-Clean
+pub returns-in-Ok : goal.returns-in-Ok
 unfolding check_log
-returns-in-Clean c = rw (← c.walk-c.ensures, c.in-Clean.is) c.judged.ensures
+returns-in-Ok c = rw (← c.walk-c.ensures, c.in-Ok.is) c.judged.ensures
 
-pub returns-in-Fault : goal.returns-in-Fault
+pub returns-in-Err : goal.returns-in-Err
 unfolding check_log
-returns-in-Fault c = rw (← c.walk-c.ensures, c.in-Fault.is)
+returns-in-Err c = rw (← c.walk-c.ensures, c.in-Err.is)

@@ -2,4 +2,4 @@ use borrow.Author.Rules.{rules}
 use Rattle.trace.proofs.judged.Goals as goal
 
 pub returns : goal.returns
-returns c = rw c.replay-v.ensures
+returns c = rw c.replay.ensures

@@ -1,10 +1,8 @@
-use mathlib.Core.Path.{ap, ◌∙◌}
+use mathlib.Core.Path.{ap₂, ◌∙◌}
 use Rattle.trace_rules.specs.Trace.{checked}
-use Rattle.trace_rules.specs.declared.Verdict.TheVariants.{Fault}
 use Rattle.trace_rules.specs.Check.{refused}
-use borrow.Author.Rules.{rules}
 use Rattle.trace.proofs.refused.Goals as goal
 
 pub returns : goal.returns
 unfolding refused
-returns c = c.checked.ensures ∙ ap (checked (Fault 0 c.args.e)) c.start.ensures
+returns c = c.checked.ensures ∙ ap₂ checked c.fault.ensures c.start.ensures

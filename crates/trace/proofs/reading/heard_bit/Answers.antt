@@ -4,5 +4,5 @@ use Rattle.trace.proofs.reading.heard_bit.Goals as goal
 pub returns-then-mark-eq0 : goal.returns-then-mark-eq0
 returns-then-mark-eq0 c = simp (eq-eqb _ _ c.if-mark-eq0.true)
 
-pub returns : goal.returns
-returns c = simp (ne_eqb _ _ c.if-mark-eq0.false)
+pub returns-else-mark-eq0 : goal.returns-else-mark-eq0
+returns-else-mark-eq0 c = simp (ne_eqb _ _ c.if-mark-eq0.false)

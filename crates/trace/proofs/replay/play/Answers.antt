@@ -37,7 +37,7 @@ unfolding played
 returns c = let a = c.args in
     let u = front_of_law _ _ _ _ c.frame_bits-bits.ensures c.put_frame.ensures in
     let v = heard_front _ _ _ (front_of_law _ _ _ _ c.frame_bits-bits.ensures c.put_frame.ensures) _ _ _ c.take_all-x.ensures.value _ _ c.take_all-x.ensures.heard_after in
-    let turn = c.hear_rules-next.ensures ∙ ap (hear a.t.reader) v.bits in
+    let turn = c.hear_rules.ensures ∙ ap (hear a.t.reader) v.bits in
     let cards = ap (λ y. y.cards) c.take_all-x.ensures.value ∙ ap (cards_after a.cards a.n) u.bits in
-    let held = rw (u.bits, v.bits) at c.compare-c.ensures in
+    let held = rw (u.bits, v.bits) at c.compare.ensures in
     rw (turn, cards, held)

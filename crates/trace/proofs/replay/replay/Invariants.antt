@@ -10,8 +10,8 @@ use Rattle.trace.specs.Loops.{played}
 use Rattle.trace.specs.ReplayLaws.{first, left, played_full, left_first, left_turn, left_done, plays_says}
 use Rattle.trace.proofs.replay.replay.Given as goal
 
-abbrev pub invariant-loop-t : goal.invariant-loop-t
-invariant-loop-t l = (1 ≤ l.frames) × (l.frames ≤ most_frames) × (length l.p.cards ≡ most_cards) × (left (most_frames - l.frames) l.stamp l.log (2 * (l.frames - 1)) l.p l.n ≡ left (most_frames - 1) l.stamp l.log 0 l.initial.p l.n)
+abbrev pub invariant-loop-p : goal.invariant-loop-p
+invariant-loop-p l = (1 ≤ l.frames) × (l.frames ≤ most_frames) × (length l.p.cards ≡ most_cards) × (left (most_frames - l.frames) l.stamp l.log (2 * (l.frames - 1)) l.p l.n ≡ left (most_frames - 1) l.stamp l.log 0 l.initial.p l.n)
 
-abbrev pub decreases-loop-t : goal.decreases-loop-t
-decreases-loop-t l = most_frames - l.frames
+abbrev pub decreases-loop-p : goal.decreases-loop-p
+decreases-loop-p l = most_frames - l.frames

@@ -1,21 +1,11 @@
 use borrow.Author.Tests.{lt-ltb, le-ltb}
-use borrow.Author.Rules.{rules}
 use Rattle.trace.specs.Loops.{goes_on}
-use borrow.Author.Rules.{rules}
 use Rattle.trace.proofs.walk.goes_on.Goals as goal
 
-pub returns-in-Goes : goal.returns-in-Goes
+pub returns-then-turn-most : goal.returns-then-turn-most
 unfolding goes_on
-returns-in-Goes c = rw (lt-ltb _ _ c.if-turn-most.true, c.in-Goes.is)
+returns-then-turn-most c = rw (lt-ltb _ _ c.if-turn-most.true) c.is_going.ensures
 
-pub returns-in-Content : goal.returns-in-Content
+pub returns-else-turn-most : goal.returns-else-turn-most
 unfolding goes_on
-returns-in-Content c = rw (lt-ltb _ _ c.if-turn-most.true, c.in-Content.is)
-
-pub returns-in-Faults : goal.returns-in-Faults
-unfolding goes_on
-returns-in-Faults c = rw (lt-ltb _ _ c.if-turn-most.true, c.in-Faults.is)
-
-pub returns : goal.returns
-unfolding goes_on
-returns c = rw (le-ltb _ _ c.if-turn-most.false)
+returns-else-turn-most c = rw (le-ltb _ _ c.if-turn-most.false)

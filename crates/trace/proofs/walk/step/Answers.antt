@@ -15,9 +15,9 @@ slice_bounds-sent_at-end c = rw length-take (omega (arith, (front_of_law _ _ _ _
 pub returns-in-Ok : goal.returns-in-Ok
 unfolding step
 returns-in-Ok c = let u = front_of_law _ _ _ _ c.frame_bits-bits.ensures c.put_frame.ensures in
-    rw (rw u.bits at (sym c.sent_at-passed.ensures ∙ c.in-Ok.is)) c.heard_step.ensures
+    rw (rw u.bits at (sym c.sent_at.ensures ∙ c.in-Ok.is)) c.heard_step.ensures
 
 pub returns-in-Err : goal.returns-in-Err
 unfolding step
 returns-in-Err c = let u = front_of_law _ _ _ _ c.frame_bits-bits.ensures c.put_frame.ensures in
-    rw (rw u.bits at (sym c.sent_at-passed.ensures ∙ c.in-Err.is)) c.faults.ensures
+    rw (rw u.bits at (sym c.sent_at.ensures ∙ c.in-Err.is)) c.faults.ensures

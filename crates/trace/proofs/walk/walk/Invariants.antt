@@ -8,8 +8,8 @@ use Rattle.trace_rules.specs.Trace.{start, step}
 use Rattle.trace.specs.WalkLaws.{left, left_first, left_turn, left_done, goes_says}
 use Rattle.trace.proofs.walk.walk.Given as goal
 
-abbrev pub invariant-loop-p : goal.invariant-loop-p
-invariant-loop-p l = (l.turn ≤ length l.log) × (left (length l.log - l.turn) l.stamp l.log (2 * l.turn) l.s ≡ left (length l.log) l.stamp l.log 0 l.initial.s)
+abbrev pub invariant-loop-s : goal.invariant-loop-s
+invariant-loop-s l = (l.turn ≤ length l.log) × (left (length l.log - l.turn) l.stamp l.log (2 * l.turn) l.s ≡ left (length l.log) l.stamp l.log 0 l.initial.s)
 
-abbrev pub decreases-loop-p : goal.decreases-loop-p
-decreases-loop-p l = length l.log - l.turn
+abbrev pub decreases-loop-s : goal.decreases-loop-s
+decreases-loop-s l = length l.log - l.turn
