@@ -1,7 +1,7 @@
 -- The newest branch of a path, from the path's end. Assumes nothing.
 use Rattle.std.specs.Prelude.{◌≡◌, Bool, length, get_or, replicate, ltb}
 use Rattle.std.proofs.Math.Path.{refl, sym, ap, ap₂}
-use Rattle.std.proofs.Common.{◌∙◌, not-suc-le-zero, length-append, take-suc, lt-ltb, le-ltb, arith}
+use Rattle.std.proofs.Common.{◌∙◌, not-suc-le-zero, length-append, take-suc, lt-ltb, le-ltb, ltb-true, ltb-false, arith}
 use Prim.Native.Nat.{ℕ, zero, suc, ◌+◌, ◌-◌, ◌≤◌, ◌<◌}
 use Rattle.std.proofs.Math.Bool.{true, false, cond}
 use mathlib.Core.List.{List, [], ◌∷◌, ◌++◌, append_assoc}
@@ -9,6 +9,7 @@ use Rattle.std.proofs.Math.ListN.{take, length-take}
 use Rattle.std.proofs.Math.Seq.{take-length, take-take}
 use Rattle.rows.specs.ListLaws.{is_nil_law}
 use Rattle.rows.specs.Rows.{clean, fill, overlay}
+use Rattle.rows.proofs.RowLaws.{overlay_nil}
 use Rattle.uid.specs.FillLaws.{fill_zeros}
 use Rattle.memory.specs.Memory.{branch}
 use Rattle.memory.specs.Stored.{path_of, stored, Branched}
@@ -112,3 +113,14 @@ module _ (p : Path) (n : ℕ) (b : Branched p.row p.known n) where
   pub made_none : n ≡ 0 → ◌≡◌ {A = Path} (record { row = replicate 120 0; known = n }) (stored (branch (path_of p)))
   unfolding stored path_of fill
   made_none z = let e : branch (take p.known p.row) ≡ [] = is_nil_law (branch (take p.known p.row)) (omega (arith, b.long)) in rw (e, z)
+
+  pub made_kept : (out : List ℕ) → n ≤ 120 → out ≡ overlay (replicate 120 0) 0 (take (n - 1) p.row) → ◌≡◌ {A = Path} (record { row = out; known = n }) (stored (branch (path_of p)))
+  made_kept out k q = go (ltb 0 n) refl
+    where
+      go : (b : Bool) → ltb 0 n ≡ b → ◌≡◌ {A = Path} (record { row = out; known = n }) (stored (branch (path_of p)))
+      go true e = made_branch out (ltb-true 0 n e) k q
+      go false e =
+          let z : n ≡ 0 = omega (arith, ltb-false 0 n e) in
+          let y : n - 1 ≡ 0 = omega arith in
+          let o : out ≡ replicate 120 0 = q ∙ rw y (overlay_nil (replicate 120 0) 0) in
+          rw o (made_none z)

@@ -6,7 +6,7 @@ ghost use Rattle.memory.specs.Memory.{bits, enters};
 ghost use Rattle.memory.specs.Stored.{path_of};
 ghost use Rattle.reader.specs.declared.Phase.TheVariants.{AnticollisionSent, SelectSent};
 
-use crate::Path;
+use crate::paths::KeptPath;
 use reader::{Phase, Reader, Turn};
 use uid::Level;
 
@@ -25,11 +25,12 @@ fn level_known(n: usize, at: usize) -> usize
 }
 
 // Those bits, zeros behind.
-fn level_bits(p: Path, at: usize) -> [u8; 40]
-    requires { (p.known ≤ 120) × (at ≤ 120) }
-    ensures value { result ≡ fill 40 (take 40 (drop at (bits (path_of p)))) }
-    ensures row_len { length p.row ≡ 120 }
+fn level_bits(t: KeptPath, at: usize) -> [u8; 40]
+    requires { at ≤ 120 }
+    ensures value { result ≡ fill 40 (take 40 (drop at (bits (path_of t.path)))) }
+    ensures row_len { length t.path.row ≡ 120 }
 {
+    let p = t.path;
     let m = level_known(p.known, at);
     let mut e = [0u8; 40];
     for (i, x) in p.row[at..at + m].iter().enumerate() {
@@ -63,15 +64,14 @@ fn first_phase(l: Level, m: usize) -> Phase
 }
 
 // Level l comes next: its known bits are sent at once.
-pub fn enters(l: Level, r: Reader, p: Path) -> Turn
-    requires { p.known ≤ 120 }
-    ensures { result ≡ enters l r (path_of p) }
+pub fn enters(l: Level, r: Reader, t: KeptPath) -> Turn
+    ensures { result ≡ enters l r (path_of t.path) }
 {
     let at = 40 * selection::numbers::place(l);
-    let m = level_known(p.known, at);
+    let m = level_known(t.path.known, at);
     reader::within::sends(Reader {
         phase: first_phase(l, m),
-        five: five_bytes(level_bits(p, at)),
+        five: five_bytes(level_bits(t, at)),
         known: m as u8,
         sak: 0,
         ..r

@@ -2,12 +2,19 @@
 ghost use Rattle.std.specs.Prelude.{◌≡◌, ℕ, [], ◌++◌, ◌+◌, ◌*◌, ◌≤◌, ◌<◌, min, length, take, slice_index, None, IfSome};
 ghost use Rattle.uid.specs.Uid.{place};
 ghost use Rattle.memory.specs.Memory.{branch, learnt};
-ghost use Rattle.memory.specs.Stored.{path_of, stored, Branched, is_collided, Marked};
+ghost use Rattle.memory.specs.Stored.{path_of, stored, Branched, is_collided, Marked, Kept};
 
 use crate::Path;
 use reader::Reader;
 use selection::{Rest, RestSays};
 use uid::Level;
+
+// A path that fits its array, zeros behind it. What firmware hands in may be any other.
+#[derive(Clone, Copy)]
+pub struct KeptPath {
+    pub path: Path,
+    ghost kept: { Kept path },
+}
 
 // Nothing is remembered.
 pub fn empty() -> Path
@@ -20,14 +27,14 @@ pub fn empty() -> Path
 }
 
 // A path as it is kept: at most 120 bits, zeros behind them.
-pub fn tidy(p: Path) -> Path
-    ensures value { result ≡ stored (path_of p) }
-    ensures known_bound { result.known ≤ 120 }
+pub fn tidy(p: Path) -> KeptPath
+    ensures { result.path ≡ stored (path_of p) }
 {
     let known = p.known.min(120);
     let mut row = [0u8; 120];
     rows::within::put(&mut row, 0, &p.row[..known]);
-    Path { row, known }
+    let path = Path { row, known };
+    KeptPath { path }
 }
 
 // Where the last 2 of a path is.
@@ -49,33 +56,32 @@ fn branch_bits(path: &[u8]) -> usize
 }
 
 // The newest branch of a path.
-pub fn take_branch(p: Path) -> Path
-    requires { p.known ≤ 120 }
-    ensures value { result ≡ stored (branch (path_of p)) }
-    ensures known_bound { result.known ≤ 120 }
+pub fn take_branch(t: KeptPath) -> KeptPath
+    ensures { result.path ≡ stored (branch (path_of t.path)) }
 {
+    let p = t.path;
     let known = branch_bits(&p.row[..p.known]);
     let mut row = [0u8; 120];
-    if 0 < known {
-        rows::within::put(&mut row, 0, &p.row[..known - 1]);
-    }
-    Path { row, known }
+    rows::within::put(&mut row, 0, &p.row[..known.saturating_sub(1)]);
+    let path = Path { row, known };
+    KeptPath { path }
 }
 
 // The first n bits of a path, and a row behind them.
-fn joined(p: Path, n: usize, s: &[u8]) -> Path
-    requires { (p.known ≤ 120) × (min n p.known + length s.now ≤ 120) }
-    ensures value { result ≡ stored (take n (path_of p) ++ s.now) }
-    ensures known_bound { result.known ≤ 120 }
+fn joined(t: KeptPath, n: usize, s: &[u8]) -> KeptPath
+    requires { min n t.path.known + length s.now ≤ 120 }
+    ensures { result.path ≡ stored (take n (path_of t.path) ++ s.now) }
 {
+    let p = t.path;
     let m = n.min(p.known);
     let mut row = [0u8; 120];
     rows::within::put(&mut row, 0, &p.row[..m]);
     rows::within::put(&mut row, m, s);
-    Path {
+    let path = Path {
         row,
         known: m + s.len(),
-    }
+    };
+    KeptPath { path }
 }
 
 fn is_collided(s: RestSays) -> bool
@@ -98,14 +104,12 @@ fn marked_bits(x: Rest, top: usize) -> [u8; 40]
 }
 
 // The path after an answer to ANTICOLLISION of level l.
-pub fn learns(l: Level, r: Reader, x: Rest, p: Path) -> Path
-    requires { p.known ≤ 120 }
-    ensures value { result ≡ stored (take (40 * place l + r.known) (path_of p) ++ learnt r x) }
-    ensures known_bound { result.known ≤ 120 }
+pub fn learns(l: Level, r: Reader, x: Rest, t: KeptPath) -> KeptPath
+    ensures { result.path ≡ stored (take (40 * place l + r.known) (path_of t.path) ++ learnt r x) }
 {
     let k = r.known as usize;
     let n = 40 * selection::numbers::place(l) + k;
     let top = (x.known as usize).min(40);
     let d = marked_bits(x, top);
-    joined(p, n, &d[k.min(top)..top])
+    joined(t, n, &d[k.min(top)..top])
 }

@@ -5,11 +5,11 @@ ghost use Rattle.selection.specs.Heard.{read_rest};
 ghost use Rattle.reader.specs.Reader.{blank, sends};
 ghost use Rattle.reader.specs.declared.Phase.TheVariants.{ReqaSent};
 ghost use Rattle.memory.specs.Memory.{recall, learnt, enters_by, keeps, higher, comes, stays, hear, hear_if};
-ghost use Rattle.memory.specs.Stored.{path_of, stored, Kept, is_sends, is_on, memory_of};
+ghost use Rattle.memory.specs.Stored.{path_of, stored, is_sends, is_on, memory_of};
 
 use crate::level::enters;
 pub use crate::paths::empty;
-use crate::paths::{learns, take_branch, tidy};
+use crate::paths::{KeptPath, learns, take_branch, tidy};
 use crate::{Memory, Path};
 use reader::{Answer, Phase, Reader, Turn};
 use uid::Level;
@@ -39,17 +39,15 @@ fn is_on(a: Answer) -> bool
 }
 
 // The path after an answer: nothing is remembered where the sweep ends.
-fn keeps(a: Answer, p: Path) -> Path
-    requires { Kept p }
-    ensures { result ≡ stored (keeps a (path_of p)) }
+fn keeps(a: Answer, p: KeptPath) -> Path
+    ensures { result ≡ stored (keeps a (path_of p.path)) }
 {
-    if is_on(a) { p } else { empty() }
+    if is_on(a) { p.path } else { empty() }
 }
 
 // Level l comes next where the plain reader opens it.
-fn enters_by(a: Answer, l: Level, t: Turn, p: Path) -> Turn
-    requires { Kept p }
-    ensures { result ≡ enters_by a l t (path_of p) }
+fn enters_by(a: Answer, l: Level, t: Turn, p: KeptPath) -> Turn
+    ensures { result ≡ enters_by a l t (path_of p.path) }
 {
     if is_sending(a) {
         enters(l, t.reader, p)
@@ -68,9 +66,8 @@ fn higher(l: Level) -> Level
 }
 
 // The plain reader's turn, and the path.
-fn stays(t: Turn, p: Path) -> Memory
-    requires { Kept p }
-    ensures { result ≡ memory_of (stays t (path_of p)) }
+fn stays(t: Turn, p: KeptPath) -> Memory
+    ensures { result ≡ memory_of (stays t (path_of p.path)) }
 {
     Memory {
         turn: t,
@@ -79,9 +76,8 @@ fn stays(t: Turn, p: Path) -> Memory
 }
 
 // Level l comes next, if the sweep goes on.
-fn comes(l: Level, t: Turn, p: Path) -> Memory
-    requires { Kept p }
-    ensures { result ≡ memory_of (comes l t (path_of p)) }
+fn comes(l: Level, t: Turn, p: KeptPath) -> Memory
+    ensures { result ≡ memory_of (comes l t (path_of p.path)) }
 {
     Memory {
         turn: enters_by(t.answer, l, t, p),
@@ -90,26 +86,26 @@ fn comes(l: Level, t: Turn, p: Path) -> Memory
 }
 
 // No row is awaited of this reader in a sweep: the path stays.
-fn unchanged(t: Turn, p: Path) -> Memory
-    requires { Kept p }
-    ensures { result ≡ memory_of (recall t (path_of p)) }
+fn unchanged(t: Turn, p: KeptPath) -> Memory
+    ensures { result ≡ memory_of (recall t (path_of p.path)) }
 {
-    Memory { turn: t, path: p }
+    Memory {
+        turn: t,
+        path: p.path,
+    }
 }
 
 // The answer to ANTICOLLISION of level l, t being the plain reader's turn.
-fn hear_rest(l: Level, r: Reader, p: Path, t: Turn, row: &[u8]) -> Memory
-    requires { Kept p }
-    ensures { result ≡ memory_of (stays t (take (40 * place l + r.known) (path_of p) ++ learnt r (read_rest r.known r.five row.now))) }
+fn hear_rest(l: Level, r: Reader, p: KeptPath, t: Turn, row: &[u8]) -> Memory
+    ensures { result ≡ memory_of (stays t (take (40 * place l + r.known) (path_of p.path) ++ learnt r (read_rest r.known r.five row.now))) }
 {
     let x = selection::heard::read_rest(r.known, r.five, row);
     stays(t, learns(l, r, x, p))
 }
 
 // What the reader does with a row, by the frame that it sent last; the path is tidy.
-fn hear_kept(r: Reader, p: Path, row: &[u8]) -> Memory
-    requires { Kept p }
-    ensures { result ≡ memory_of (hear r (path_of p) row.now) }
+fn hear_kept(r: Reader, p: KeptPath, row: &[u8]) -> Memory
+    ensures { result ≡ memory_of (hear r (path_of p.path) row.now) }
 {
     let t = reader::within::hear_rules(r, row);
     match r.phase {

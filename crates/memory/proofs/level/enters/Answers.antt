@@ -13,10 +13,10 @@ pub overflow_mul-at : goal.overflow_mul-at
 overflow_mul-at c = omega (arith, c.place-at.ensures, place_most c.args.l)
 
 pub five_bytes-requires : goal.five_bytes-requires
-five_bytes-requires c = rw c.level_bits.ensures.value (level_clean (path_of c.args.p) (40 * c.place-at.result))
+five_bytes-requires c = rw c.level_bits.ensures.value (level_clean (path_of c.args.t.path) (40 * c.place-at.result))
 
 pub returns : goal.returns
 returns c = let a = c.args in
     c.sends.ensures
-    ∙ made_enters a.l a.r a.p (40 * c.place-at.result) c.level_known-m.result c.five_bytes.result c.first_phase.result c.level_bits.ensures.row_len (search rules) (omega (arith, c.place-at.ensures)) c.level_known-m.ensures
+    ∙ made_enters a.l a.r a.t.path (40 * c.place-at.result) c.level_known-m.result c.five_bytes.result c.first_phase.result c.level_bits.ensures.row_len a.t.kept.fits (omega (arith, c.place-at.ensures)) c.level_known-m.ensures
     (c.five_bytes.ensures ∙ ap (bytes_of 5) c.level_bits.ensures.value) c.first_phase.ensures

@@ -19,5 +19,5 @@ unfolding path_of
 returns-clause-value c = let l = c.loop-i in
     let a = c.args in
     let k = c.level_known-m in
-    let n : length a.p.row ≡ 120 = search rules in
-    part_done a.p.row a.p.known a.at k.result k.ensures n (omega arith) l.e _ _ l.i (omega arith) refl (omega arith) l.invariant.1
+    let n : length a.t.path.row ≡ 120 = search rules in
+    part_done a.t.path.row a.t.path.known a.at k.result k.ensures n (omega arith) l.e _ _ l.i (omega arith) refl (omega arith) l.invariant.1

@@ -15,11 +15,9 @@ overflow_add-n c = omega (arith, c.place.ensures, place_most c.args.l)
 
 pub joined-requires : goal.joined-requires
 joined-requires c = let a = c.args in
-    (search rules, rw (length-take, length-drop) (omega (arith, c.marked_bits-d.ensures.long, c.place.ensures, place_most a.l, c.min-top.ensures, c.min.ensures)))
+    rw (length-take, length-drop) (omega (arith, a.t.kept.fits, c.marked_bits-d.ensures.long, c.place.ensures, place_most a.l, c.min-top.ensures, c.min.ensures))
 
 pub returns : goal.returns
-returns c = let a = c.args in record {
-  value = made_learns a.l a.r a.x a.p _ (40 * c.place.result + a.r.known) c.min-top.result c.marked_bits-d.result (omega (arith, c.place.ensures)) c.min-top.ensures
-      c.marked_bits-d.ensures c.min.result c.min.ensures c.joined.ensures.value;
-  known_bound = c.joined.ensures.known_bound;
-}
+returns c = let a = c.args in
+    made_learns a.l a.r a.x a.t.path _ (40 * c.place.result + a.r.known) c.min-top.result c.marked_bits-d.result (omega (arith, c.place.ensures)) c.min-top.ensures
+    c.marked_bits-d.ensures c.min.result c.min.ensures c.joined.ensures

@@ -7,8 +7,8 @@ use Rattle.memory.proofs.within.enters_by.Goals as goal
 
 pub returns-then-is_sending : goal.returns-then-is_sending
 returns-then-is_sending c = let a = c.args in
-    c.enters.ensures ∙ sym (enters_on a.a a.l a.t (path_of a.p) true (sym c.is_sending.ensures ∙ c.if-is_sending.true))
+    c.enters.ensures ∙ sym (enters_on a.a a.l a.t (path_of a.p.path) true (sym c.is_sending.ensures ∙ c.if-is_sending.true))
 
 pub returns-else-is_sending : goal.returns-else-is_sending
 returns-else-is_sending c = let a = c.args in
-    sym (enters_on a.a a.l a.t (path_of a.p) false (sym c.is_sending.ensures ∙ c.if-is_sending.false))
+    sym (enters_on a.a a.l a.t (path_of a.p.path) false (sym c.is_sending.ensures ∙ c.if-is_sending.false))

@@ -7,8 +7,8 @@ use Rattle.memory.proofs.within.keeps.Goals as goal
 
 pub returns-then-is_on : goal.returns-then-is_on
 returns-then-is_on c = let a = c.args in
-    c.requires.zeros ∙ ap stored (sym (keeps_on a.a (path_of a.p) true (sym c.is_on.ensures ∙ c.if-is_on.true)))
+    c.args.p.kept.zeros ∙ ap stored (sym (keeps_on a.a (path_of a.p.path) true (sym c.is_on.ensures ∙ c.if-is_on.true)))
 
 pub returns-else-is_on : goal.returns-else-is_on
 returns-else-is_on c = let a = c.args in
-    c.empty.ensures ∙ ap stored (sym (keeps_on a.a (path_of a.p) false (sym c.is_on.ensures ∙ c.if-is_on.false)))
+    c.empty.ensures ∙ ap stored (sym (keeps_on a.a (path_of a.p.path) false (sym c.is_on.ensures ∙ c.if-is_on.false)))
