@@ -14,6 +14,7 @@ use reader::{Answer, Reader, Turn};
 use refusal::Refusal;
 
 // The path, in the first `known` places of the row; zeros stand behind it.
+// Kept: a row and its length, as C keeps it (crate kept_memory) and since the core has fixed memory.
 #[derive(Clone, Copy)]
 pub struct Path {
     pub row: [u8; 120],

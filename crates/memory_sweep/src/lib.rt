@@ -15,6 +15,7 @@ use sweep::{Start, Swept};
 // The reader finds every idle card of a field, the first n cards, and halts it, as the plain sweep does: the same list and the same cards. It keeps the
 // branches that it has not taken, and so sends fewer frames; the log records its own. Declined, with all unchanged: 11, the reader is not new; 1, log or
 // list is too short; 6, the field is not one that a sweep takes.
+// Kept: an array and how many of it, as README and docs name this call over values.
 pub fn sweep(
     start: Start,
     cards: [Card; MOST_CARDS],

@@ -35,6 +35,7 @@ pub struct Swept {
 // The reader finds every idle card of a field, the first n cards, and halts it. Each frame and what was heard after it goes into the lent log,
 // each UID into the lent list, from their fronts on. Declined, with all unchanged: 11, the reader is not new; 1, log or list is too short; 6,
 // the field is not one that a sweep takes.
+// Kept: an array and how many of it, as README and docs name this call over values.
 pub fn sweep(
     start: Start,
     cards: [Card; MOST_CARDS],

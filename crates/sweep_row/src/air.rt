@@ -6,6 +6,7 @@ use card::Card;
 use reader::Reader;
 
 // The bits heard, at the front of a row with room for the longest answer.
+// Kept: a row and its length, since the core has fixed memory.
 #[derive(Clone, Copy)]
 pub struct Air {
     pub heard: [u8; 45],

@@ -27,6 +27,7 @@ pub fn no_card() -> Card
     }
 }
 
+// Kept: a row and its length, since the core has fixed memory.
 // A frame was on the air: the cards after it, the bits heard, at the front of a row with room for the longest answer, and the bytes of log that both took.
 #[derive(Clone, Copy)]
 pub struct Aired {

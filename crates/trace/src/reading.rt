@@ -42,6 +42,7 @@ fn put_marked(log: &[u8], start: usize, marks: usize, n: usize, out: &mut [u8])
     requires { (n ≤ length (bits_from log.now start)) × (n ≤ length (bits_from log.now marks)) × (n ≤ length out.old) }
     ensures { out.new ≡ overlay out.old 0 (marked (row_at log.now start n) (row_at log.now marks n)) }
 {
+    // Kept: as in `put_bits`.
     for i in 0..n {
         out[i] = heard_bit(
             air_log::bit_at(log, start, i),

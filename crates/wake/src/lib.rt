@@ -37,6 +37,7 @@ fn refused(r: Reader, cards: [Card; MOST_CARDS], e: Refusal) -> Woken
 // The reader sends WUPA and selects the one card with this UID in a field, the first n cards. That card is then Active, or Active* if it was halted,
 // and every other is as it was. Declined, with all unchanged: 11, the reader is not new; 6, the bytes are no valid UID, or the field is not one that a
 // sweep takes. 7: the UID is not there, and all cards are as they were.
+// Kept: an array and how many of it, as README and docs name this call over values.
 pub fn wake(r: Reader, bytes: &[u8], cards: [Card; MOST_CARDS], n: usize) -> Woken
     ensures value { result ≡ wake_of r bytes.now cards n }
     ensures wakens { Wakens r bytes.now cards n result }

@@ -6,7 +6,6 @@ use Rattle.reader.specs.StepLaws.{place_most}
 use Rattle.frame.specs.Frame.{bytes_of}
 use Rattle.memory.specs.Stored.{path_of}
 use Rattle.memory.specs.EnterLaws.{level_clean, made_enters}
-use borrow.Author.Rules.{rules}
 use Rattle.memory.proofs.level.enters.Goals as goal
 
 pub overflow_mul-at : goal.overflow_mul-at

@@ -4,7 +4,6 @@ use native.Mathlib.Omega.{arith}
 use lib.ListN.{length-take, length-drop}
 use Rattle.reader.specs.StepLaws.{place_most}
 use Rattle.memory.proofs.LearnLaws.{made_learns}
-use borrow.Author.Rules.{rules}
 use Rattle.memory.proofs.paths.learns.Goals as goal
 
 pub overflow_mul-n : goal.overflow_mul-n
