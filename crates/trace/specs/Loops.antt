@@ -1,7 +1,7 @@
 -- The two loops of the trace checker: over the records, and over the frames of the sweep over the listed cards (T-12).
 use Rattle.trace_rules.specs.Verdict.{Compared, Verdict, fault}
 use Rattle.trace_rules.specs.declared.Differs.TheVariants.{First, Second}
-use Rattle.std.specs.Prelude.{ℕ, ◌+◌, Bool, true, false, cond, ◌&&◌, List, length, take, leb, ltb, Err, Ok}
+use Rattle.std.specs.Prelude.{ℕ, ◌+◌, Bool, true, false, cond, ◌&&◌, List, take, leb, ltb, Err, Ok}
 use Rattle.limits.specs.Limits.{most_frames}
 use Rattle.reader.specs.Reader.{frame, hear}
 use Rattle.field.specs.Field.{heard_from}

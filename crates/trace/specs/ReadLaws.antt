@@ -1,6 +1,6 @@
 -- Laws of rows that are read from a log. Assumes nothing.
-use Rattle.std.specs.Prelude.{◌≡◌, refl, ℕ, zero, suc, ◌+◌, ◌-◌, ◌*◌, ◌/◌, ◌≤◌, ◌<◌, Bool, true, false, cond, List, [], ◌∷◌, length, take, drop, get_or, set, eqb, Result, Ok, Err}
-use Rattle.std.proofs.Common.{sym, ap, ap₂, ◌∙◌, not-suc-le-zero, zero-add, arith, length-take, length-drop, length-take-le, get_or-take, take_all, Fits}
+use Rattle.std.specs.Prelude.{◌≡◌, refl, ℕ, zero, suc, ◌+◌, ◌-◌, ◌*◌, ◌≤◌, ◌<◌, cond, List, [], ◌∷◌, length, take, drop, get_or, set, eqb, Result, Ok, Err}
+use Rattle.std.proofs.Common.{sym, ap, ◌∙◌, not-suc-le-zero, zero-add, arith, length-drop, length-take-le, get_or-take, take_all, Fits}
 use Rattle.std.specs.Int.{w8}
 use Rattle.rows.specs.Rows.{overlay}
 use Rattle.rows.proofs.RowLaws.{overlay_copy}
@@ -10,7 +10,7 @@ use Rattle.air_log.specs.UnpackLaws.{bits_enough}
 use Rattle.air_log.specs.declared.Record.{Record}
 use Rattle.air_log.specs.declared.Record.TheVariants.{Sent, Clean, Collided, Silence, End, Cut, Malformed}
 use Rattle.trace_rules.specs.Trace.{stamp_size, marked, heard_row, sent_passed}
-use Rattle.trace_rules.specs.WholeLaws.{OneRow, TwoRows, Headed, whole}
+use Rattle.trace_rules.specs.WholeLaws.{OneRow, Headed, whole}
 use Rattle.refusal.specs.declared.Refusal.{Refusal}
 use Rattle.refusal.specs.declared.Refusal.TheVariants.{Forbidden}
 use Rattle.trace.specs.Reads.{heard_bits, heard_of}

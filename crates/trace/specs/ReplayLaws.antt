@@ -1,10 +1,10 @@
 -- Laws of the loop over the frames of the sweep over the listed cards: what is left to compare after a frame. Assumes nothing.
 use Rattle.trace_rules.specs.Verdict.{Compared, Verdict}
 use Rattle.trace_rules.specs.declared.Differs.TheVariants.{First, Second}
-use Rattle.std.specs.Prelude.{◌≡◌, Bool, cond, ◌&&◌, List, [], ◌∷◌, length, take, leb, Err, Ok}
+use Rattle.std.specs.Prelude.{◌≡◌, Bool, ◌&&◌, List, [], ◌∷◌, length, take, Err, Ok}
 use Rattle.std.proofs.Math.Path.{refl, sym}
 use Rattle.std.proofs.Common.{ap, ◌∙◌, arith, length-append, length-drop, ltb-true, ltb-false}
-use Prim.Native.Nat.{ℕ, zero, suc, ◌+◌, ◌-◌, ◌*◌, ◌≤◌, ◌<◌}
+use Prim.Native.Nat.{ℕ, suc, ◌+◌, ◌-◌, ◌*◌, ◌≤◌, ◌<◌}
 use Rattle.std.proofs.Math.Bool.{true, false}
 use Rattle.std.proofs.lemmas.Bool.{false≢true}
 use Rattle.std.proofs.Math.ListN.{length-map}
@@ -15,15 +15,14 @@ use Rattle.reader.specs.Reader.{blank, sends, frame, hear}
 use Rattle.field.specs.Field.{all_take, heard_from}
 use Rattle.field.specs.Calls.{cards_after}
 use Rattle.air_log.specs.Log.{Exchange, sent_heard}
-use Rattle.sweep_rules.specs.Run.{Out, before, ended, plain, run, sweep}
-use Rattle.sweep_steps.specs.Steps.{goes, found_by, exchange_of}
-use Rattle.sweep_steps.specs.LeftLaws.{onward_goes, with_found, take_after}
+use Rattle.sweep_rules.specs.Run.{before, ended, plain, run, sweep}
+use Rattle.sweep_steps.specs.Steps.{goes, exchange_of}
+use Rattle.sweep_steps.specs.LeftLaws.{with_found, take_after}
 use Rattle.sweep_steps.specs.RunLaws.{rest, after, rest_step, rest_stops, rest_spent}
-use Rattle.trace_rules.specs.Check.{compared, compared_then, differs}
+use Rattle.trace_rules.specs.Check.{compared_then, differs}
 use Rattle.card.specs.declared.Card.{Card}
 use Rattle.reader.specs.declared.Phase.TheVariants.{ReqaSent}
 use Rattle.reader.specs.declared.Turn.{Turn}
-use Rattle.refusal.specs.declared.Refusal.TheVariants.{Forbidden}
 use Rattle.trace.specs.Loops.{played, next_place, is_same, plays_on, finish}
 use Rattle.trace.specs.declared.replay.Played.{Played}
 

@@ -1,6 +1,6 @@
 -- Laws of the loop over the records: what is left of the check after a turn. Assumes nothing.
 use Rattle.std.specs.Prelude.{◌≡◌, refl, ℕ, zero, suc, ◌+◌, ◌-◌, ◌*◌, ◌≤◌, ◌<◌, Bool, true, false, cond, ◌&&◌, ◌||◌, List, length, leb, ltb, Result, Ok, Err}
-use Rattle.std.proofs.Common.{sym, ap, ◌∙◌, arith, leb-false, ltb-false}
+use Rattle.std.proofs.Common.{sym, arith, leb-false, ltb-false}
 use Rattle.std.proofs.lemmas.Bool.{false≢true}
 use Rattle.limits.specs.Limits.{most_cards}
 use Rattle.reader.specs.Reader.{frame, hear}
@@ -10,7 +10,6 @@ use Rattle.air_log.specs.declared.Record.{Record}
 use Rattle.reader.specs.declared.Answer.{Answer}
 use Rattle.reader.specs.declared.Answer.TheVariants.{Sends, Finds, Selects, Finishes, Declines}
 use Rattle.reader.specs.declared.Reader.{Reader}
-use Rattle.reader.specs.declared.Turn.{Turn}
 use Rattle.refusal.specs.declared.Refusal.TheVariants.{Argument, NotDue}
 use Rattle.trace_rules.specs.declared.Checked.{Checked}
 use Rattle.trace_rules.specs.declared.Place.{Place}

@@ -1,5 +1,5 @@
 -- The records of a sweep over a field within the terms can be read back. Assumes nothing.
-use Rattle.std.specs.Prelude.{◌≡◌, refl, ℕ, zero, suc, ◌+◌, ◌≤◌, Bool, true, false, List, [], length}
+use Rattle.std.specs.Prelude.{◌≡◌, refl, ℕ, zero, suc, ◌+◌, ◌≤◌, Bool, true, false, List, length}
 use Rattle.std.proofs.Common.{arith, length-append}
 use Rattle.rows.specs.Rows.{All, clean}
 use Rattle.reader.specs.FrameLaws.{frame_bits}

@@ -11,7 +11,7 @@ use Rattle.selection.specs.Heard.{read_atqa, read_rest, read_sak, not_rest, rest
 use Rattle.reader.specs.CollisionLaws.{grows}
 use Rattle.selection.specs.Selection.{cut}
 use Rattle.selection.specs.SelectionLaws.{length_reqa, length_hlta, length_anti, length_select}
-use Rattle.reader.specs.Reader.{frame_in, frame, uid, reader, blank, sends, finds, opens, longer, completes, after_atqa, hear_atqa, after_rest, hear_rest, after_sak, b3, contradicts, sak_heard, hear_sak, hear_silence, hear_in, hear}
+use Rattle.reader.specs.Reader.{frame_in, frame, uid, blank, sends, finds, opens, longer, completes, after_atqa, hear_atqa, after_rest, hear_rest, after_sak, b3, contradicts, sak_heard, hear_sak, hear_silence, hear_in, hear}
 use Rattle.refusal.specs.declared.Refusal.TheVariants.{Silence, Length, Parity, Check, Collision}
 use Rattle.selection.specs.declared.Rest.{Rest}
 use Rattle.selection.specs.declared.RestSays.{RestSays}

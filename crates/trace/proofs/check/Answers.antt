@@ -1,5 +1,4 @@
-use mathlib.Core.Path.{◌∙◌, ap, sym}
-use borrow.Author.Rules.{rules}
+use mathlib.Core.Path.{◌∙◌, ap}
 use Rattle.rows.specs.ListLaws.{bytes_at_law}
 use Rattle.trace_rules.specs.Check.{checked_says}
 use Rattle.trace_rules.proofs.FaithLaws.{faithful, says}

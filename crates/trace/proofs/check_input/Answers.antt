@@ -1,4 +1,4 @@
-use mathlib.Core.Path.{◌≡◌, refl, sym, ap, ap₂, ◌∙◌}
+use mathlib.Core.Path.{sym, ap₂, ◌∙◌}
 use native.Mathlib.Omega.{arith}
 use borrow.Author.Tests.{lt-ltb, le-ltb, eqb-true, eqb-false}
 use Rattle.rows.specs.Rows.{is_nil}
@@ -6,7 +6,6 @@ use Rattle.rows.specs.ListLaws.{is_nil_law}
 use Rattle.rows.specs.CleanLaws.{not_nil}
 use Rattle.trace_rules.specs.Check.{check, check_log}
 use Rattle.trace.specs.ReadLaws.{stamp_is, log_behind}
-use borrow.Author.Rules.{rules}
 use Rattle.trace.proofs.check_input.Goals as goal
 
 pub returns-then-input : goal.returns-then-input

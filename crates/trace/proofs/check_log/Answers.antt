@@ -1,8 +1,5 @@
-use mathlib.Core.Path.{◌≡◌, refl, sym, ap, ◌∙◌}
-use native.Mathlib.Omega.{arith}
 use Rattle.trace_rules.specs.Check.{check_log}
 use Rattle.trace.specs.WalkLaws.{few_found}
-use borrow.Author.Rules.{rules}
 use Rattle.trace.proofs.check_log.Goals as goal
 
 pub judged-requires : goal.judged-requires

@@ -1,4 +1,3 @@
-use borrow.Author.Rules.{rules}
 use Rattle.trace.proofs.judged.Goals as goal
 
 pub returns : goal.returns

@@ -1,11 +1,10 @@
 use Rattle.std.specs.Prelude.{Ok}
-use mathlib.Core.Path.{◌≡◌, sym, ap, ◌∙◌}
+use mathlib.Core.Path.{sym, ap, ◌∙◌}
 use native.Mathlib.Omega.{arith}
 use Rattle.rows.proofs.RowLaws.{overlay_nil}
 use Rattle.air_log.specs.Reading.{row_at}
 use Rattle.trace.specs.Reads.{heard_bits}
 use Rattle.trace.specs.ReadLaws.{clean_held, collided_held, heard_else, length_row, length_marked}
-use borrow.Author.Rules.{rules}
 use Rattle.trace.proofs.reading.heard_at.Goals as goal
 
 pub put_bits-requires : goal.put_bits-requires

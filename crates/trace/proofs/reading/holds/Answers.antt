@@ -5,8 +5,6 @@ use Rattle.sweep_steps.specs.ExchangeLaws.{front_of_law}
 use Rattle.trace.specs.ReadLaws.{length_row}
 use mathlib.Core.Path.{◌∙◌, sym, ap}
 use native.Mathlib.Omega.{arith}
-use borrow.Author.Rules.{rules}
-use borrow.Author.Rules.{rules}
 use Rattle.trace.proofs.reading.holds.Goals as goal
 
 pub slice_bounds-is_same-end : goal.slice_bounds-is_same-end

@@ -1,9 +1,6 @@
-use Prim.Native.Nat.{◌≤◌, ◌-◌}
-use mathlib.Core.Path.{◌≡◌, sym, ap, ◌∙◌}
+use mathlib.Core.Path.{◌≡◌, sym}
 use native.Mathlib.Omega.{arith}
-use borrow.Author.Rules.{rules}
-use lib.ListN.{length, take, length-set}
-use Rattle.rows.specs.Rows.{overlay}
+use lib.ListN.{length-set}
 use Rattle.rows.proofs.RowLaws.{overlay_nil}
 use Rattle.trace.specs.ReadLaws.{row_turn}
 use Rattle.air_log.specs.Reading.{bits_from}

@@ -1,12 +1,8 @@
 -- The loop's invariant: the first i bits are written.
 use Prim.Native.Nat.{◌≤◌, ◌-◌}
-use mathlib.Core.Path.{◌≡◌, sym, ap, ◌∙◌}
-use native.Mathlib.Omega.{arith}
-use borrow.Author.Rules.{rules}
-use lib.ListN.{length, take, length-set}
+use mathlib.Core.Path.{◌≡◌}
+use lib.ListN.{length, take}
 use Rattle.rows.specs.Rows.{overlay}
-use Rattle.rows.proofs.RowLaws.{overlay_nil}
-use Rattle.trace.specs.ReadLaws.{row_turn}
 use Rattle.air_log.specs.Reading.{bits_from}
 use Rattle.trace.proofs.reading.put_bits.Given as goal
 

@@ -1,8 +1,5 @@
 use Rattle.trace.specs.ReadLaws.{sent_held, sent_else}
-use mathlib.Core.Path.{◌∙◌, sym, ap}
-use native.Mathlib.Omega.{arith}
-use borrow.Author.Rules.{rules}
-use borrow.Author.Rules.{rules}
+use mathlib.Core.Path.{◌∙◌, sym}
 use Rattle.trace.proofs.reading.sent_at.Goals as goal
 
 pub holds-requires : goal.holds-requires

@@ -1,6 +1,5 @@
-use mathlib.Core.Path.{◌≡◌, refl, sym, ap, ◌∙◌}
+use mathlib.Core.Path.{sym, ◌∙◌}
 use Rattle.trace_rules.specs.Check.{compared}
-use borrow.Author.Rules.{rules}
 use Rattle.trace.proofs.replay.compare.Goals as goal
 
 pub returns-in-Ok : goal.returns-in-Ok

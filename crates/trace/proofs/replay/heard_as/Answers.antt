@@ -1,15 +1,14 @@
-use mathlib.Core.Path.{◌≡◌, refl, sym, ap, ◌∙◌}
+use mathlib.Core.Path.{◌≡◌, refl, sym, ◌∙◌}
 use mathlib.Core.Bool.{Bool, true, false, cond}
 use native.Mathlib.Omega.{arith}
 use lib.ListN.{length-take}
-use Rattle.std.specs.Prelude.{Ok, Err}
+use Rattle.std.specs.Prelude.{Err}
 use Rattle.refusal.specs.declared.Refusal.{Refusal}
 use Rattle.refusal.specs.declared.Refusal.TheVariants.{Forbidden}
 use Rattle.trace_rules.specs.declared.Differs.TheVariants.{Second}
 use Rattle.trace_rules.specs.Check.{heard_compared}
 use Rattle.sweep_steps.specs.ExchangeLaws.{front_of_law}
 use Rattle.trace.specs.ReadLaws.{heard_ok, heard_err}
-use borrow.Author.Rules.{rules}
 use Rattle.trace.proofs.replay.heard_as.Goals as goal
 
 not_heard : (b : Bool) (e : Refusal) → heard_compared (cond b (Err e) (Err Forbidden)) ≡ Err Second

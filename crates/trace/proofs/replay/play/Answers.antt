@@ -1,11 +1,10 @@
-use mathlib.Core.Path.{◌≡◌, refl, sym, ap, ◌∙◌}
+use mathlib.Core.Path.{ap, ◌∙◌}
 use native.Mathlib.Omega.{arith}
-use lib.ListN.{take, length-take}
+use lib.ListN.{length-take}
 use Rattle.reader.specs.Reader.{hear}
 use Rattle.field.specs.Calls.{cards_after}
 use Rattle.sweep_steps.specs.ExchangeLaws.{front_of_law, heard_front}
 use Rattle.trace.specs.Loops.{played}
-use borrow.Author.Rules.{rules}
 use Rattle.trace.proofs.replay.play.Goals as goal
 
 pub slice_bounds-frame-end : goal.slice_bounds-frame-end

@@ -1,13 +1,11 @@
-use borrow.Author.Rules.{rules}
 use mathlib.Core.Path.{◌≡◌, refl, sym, ap, ◌∙◌}
 use native.Mathlib.Omega.{arith}
-use Prim.Native.Nat.{suc, ◌*◌, ◌+◌, ◌-◌, ◌≤◌}
-use borrow.Author.Tests.{ltb-true}
+use Prim.Native.Nat.{◌*◌, ◌-◌}
 use lib.ListN.{length}
 use Rattle.limits.specs.Limits.{most_cards, most_frames}
 use Rattle.reader.specs.Reader.{sends}
 use Rattle.trace.specs.Loops.{played}
-use Rattle.trace.specs.ReplayLaws.{first, left, played_full, left_first, left_turn, left_done, plays_says}
+use Rattle.trace.specs.ReplayLaws.{left, played_full, left_first, left_turn, left_done, plays_says}
 use Rattle.trace.proofs.replay.replay.Goals as goal
 
 pub loop-p-init : goal.loop-p-init

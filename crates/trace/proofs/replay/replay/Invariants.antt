@@ -1,13 +1,8 @@
-use borrow.Author.Rules.{rules}
-use mathlib.Core.Path.{◌≡◌, refl, sym, ap, ◌∙◌}
-use native.Mathlib.Omega.{arith}
-use Prim.Native.Nat.{suc, ◌*◌, ◌+◌, ◌-◌, ◌≤◌}
-use borrow.Author.Tests.{ltb-true}
+use mathlib.Core.Path.{◌≡◌}
+use Prim.Native.Nat.{◌*◌, ◌-◌, ◌≤◌}
 use lib.ListN.{length}
 use Rattle.limits.specs.Limits.{most_cards, most_frames}
-use Rattle.reader.specs.Reader.{sends}
-use Rattle.trace.specs.Loops.{played}
-use Rattle.trace.specs.ReplayLaws.{first, left, played_full, left_first, left_turn, left_done, plays_says}
+use Rattle.trace.specs.ReplayLaws.{left}
 use Rattle.trace.proofs.replay.replay.Given as goal
 
 abbrev pub invariant-loop-p : goal.invariant-loop-p

@@ -1,8 +1,6 @@
 use borrow.Author.Tests.{lt-ltb, le-ltb}
-use borrow.Author.Rules.{rules}
 use Rattle.trace_rules.specs.Trace.{ends, content}
 use mathlib.Core.Path.{ap}
-use borrow.Author.Rules.{rules}
 use Rattle.trace.proofs.walk.ends.Goals as goal
 
 pub returns-then-at-log : goal.returns-then-at-log

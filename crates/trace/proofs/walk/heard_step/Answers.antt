@@ -5,7 +5,6 @@ use Rattle.sweep_steps.specs.ExchangeLaws.{front_of_law}
 use Rattle.reader.specs.Reader.{hear}
 use Rattle.trace_rules.specs.Trace.{turned}
 use Rattle.trace.specs.ReadLaws.{heard_ok, heard_err}
-use borrow.Author.Rules.{rules}
 use Rattle.trace.proofs.walk.heard_step.Goals as goal
 
 pub slice_bounds-row-end : goal.slice_bounds-row-end

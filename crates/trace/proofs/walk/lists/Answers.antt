@@ -1,7 +1,6 @@
-use mathlib.Core.Path.{◌≡◌, refl, sym, ap, ◌∙◌}
+use mathlib.Core.Path.{ap, ◌∙◌}
 use borrow.Author.Tests.{le-leb, lt-leb}
 use Rattle.trace_rules.specs.Trace.{goes, lists}
-use borrow.Author.Rules.{rules}
 use Rattle.trace.proofs.walk.lists.Goals as goal
 
 pub returns-then-p-ge-MOST_CARDS : goal.returns-then-p-ge-MOST_CARDS

@@ -1,9 +1,8 @@
-use mathlib.Core.Path.{◌≡◌, refl, sym, ap, ◌∙◌}
+use mathlib.Core.Path.{sym, ◌∙◌}
 use native.Mathlib.Omega.{arith}
 use lib.ListN.{length-take}
 use Rattle.sweep_steps.specs.ExchangeLaws.{front_of_law}
 use Rattle.trace_rules.specs.Trace.{step}
-use borrow.Author.Rules.{rules}
 use Rattle.trace.proofs.walk.step.Goals as goal
 
 pub slice_bounds-frame-end : goal.slice_bounds-frame-end

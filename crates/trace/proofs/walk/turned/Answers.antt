@@ -1,6 +1,5 @@
-use mathlib.Core.Path.{◌≡◌, refl, sym, ap, ◌∙◌}
+use mathlib.Core.Path.{ap, ◌∙◌}
 use Rattle.trace_rules.specs.Trace.{goes, turned}
-use borrow.Author.Rules.{rules}
 use Rattle.trace.proofs.walk.turned.Goals as goal
 
 pub returns-in-Sends : goal.returns-in-Sends

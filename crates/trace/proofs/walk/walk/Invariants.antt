@@ -1,11 +1,7 @@
-use borrow.Author.Rules.{rules}
-use mathlib.Core.Path.{◌≡◌, refl, sym, ap, ◌∙◌}
-use native.Mathlib.Omega.{arith}
-use Prim.Native.Nat.{suc, ◌*◌, ◌+◌, ◌-◌, ◌≤◌}
-use borrow.Author.Tests.{ltb-true}
+use mathlib.Core.Path.{◌≡◌}
+use Prim.Native.Nat.{◌*◌, ◌-◌, ◌≤◌}
 use lib.ListN.{length}
-use Rattle.trace_rules.specs.Trace.{start, step}
-use Rattle.trace.specs.WalkLaws.{left, left_first, left_turn, left_done, goes_says}
+use Rattle.trace.specs.WalkLaws.{left}
 use Rattle.trace.proofs.walk.walk.Given as goal
 
 abbrev pub invariant-loop-s : goal.invariant-loop-s
