@@ -92,7 +92,9 @@ pub fn kind(overlong: bool, text: &[u8]) -> LineKind
 }
 
 // The words, in order.
-pub fn words(alloc: Global, text: &[u8]) -> Result<Vec<&[u8]>, AllocError> {
+pub fn words(alloc: Global, text: &[u8]) -> Result<Vec<&[u8]>, AllocError>
+    ensures { IfOk result (λ v. map (λ w. w.now) v.items ≡ words_of text.now) }
+{
     text.split(|&b| b == b' ')
         .filter(|word| !word.is_empty())
         .collect(alloc)

@@ -3,33 +3,35 @@
 #![tactic(auto)]
 
 mod cards;
-mod directives;
-mod report;
+mod outcome;
+mod swept;
 mod woken;
 
-use bench_talk::Talk;
-use card::{Card, CardState};
+use bench_lines::{number_to, tick_word, uid_word};
+use bench_talk::{LineError, Program};
+use card::Card;
 use limits::MOST_CARDS;
-use std::io;
-use uid::{Uid, UidSize};
+pub use outcome::Outcome;
+use refusal::Refusal;
+use std::alloc::{AllocError, Global};
 
-// The cards so far, in the order given: their number, and as many of them as a sweep takes; whether a card was not to be made; how many bytes of
-// log and list are lent to the sweep; the tick of its first record; whether it remembers (T-14); and the UID to wake, so many bytes, none where the field is to be swept.
-#[derive(Clone, Copy)]
-pub struct Collected {
-    pub cards: [Card; MOST_CARDS],
-    pub count: usize,
-    pub is_refused: bool,
-    pub log: usize,
-    pub list: usize,
-    pub tick: u32,
-    pub is_remembering: bool,
-    pub uid: [u8; 10],
-    pub length: usize,
+// The field that the lines so far make, and how it is swept.
+#[derive(Drop)]
+pub struct Field {
+    // In the order given. The calls decline whatever has more cards than the limit, so one of those above it is enough.
+    cards: Vec<Card>,
+    // Why a card was not to be made.
+    refusal: Option<Refusal>,
+    // How many bytes of log and list are lent to the sweep.
+    log: usize,
+    list: usize,
+    // The tick of the log's first record.
+    tick: u32,
+    // Is it the sweep that remembers (T-14)?
+    remembers: bool,
+    // The UID to wake in place of a sweep.
+    wakes: Option<Vec<u8>>,
 }
-
-// The most bytes of a log or a list that a line can ask to be lent.
-const MOST_ROOM: usize = 65535;
 
 // How the cards are handed over: as values, or as a row that is lent and changed in place. The answer is the same.
 #[derive(Clone, Copy)]
@@ -38,78 +40,75 @@ pub enum Way {
     Row,
 }
 
-// No cards.
-pub fn none() -> Collected {
-    Collected {
-        cards: [no_card(); MOST_CARDS],
-        count: 0,
-        is_refused: false,
-        log: limits::LOG_ROOM,
-        list: limits::LIST_ROOM,
-        tick: 0,
-        is_remembering: false,
-        uid: [0; 10],
-        length: 0,
+// The most bytes of a log or a list that a line can ask to be lent.
+const MOST_ROOM: usize = 65535;
+
+impl Field {
+    // No cards.
+    pub fn new(alloc: Global) -> Self {
+        Field {
+            cards: Vec::new(alloc),
+            refusal: None,
+            log: limits::LOG_ROOM,
+            list: limits::LIST_ROOM,
+            tick: 0,
+            remembers: false,
+            wakes: None,
+        }
+    }
+
+    // Sweeps the cards, or wakes one of them, on a new reader. The field itself stays as it is.
+    pub fn play(&self, alloc: Global, way: Way) -> Result<Outcome, AllocError> {
+        if let Some(refusal) = self.refusal {
+            return Ok(Outcome::Refused(refusal));
+        }
+        match &self.wakes {
+            Some(uid) => woken::wake(alloc, self, uid.as_slice()),
+            None => swept::sweep(alloc, self, way),
+        }
+    }
+
+    // The cards at the front of as many places as a sweep takes.
+    fn places(&self) -> [Card; MOST_CARDS] {
+        let mut places = [cards::BLANK; MOST_CARDS];
+        for (place, card) in places.iter_mut().zip(self.cards.iter()) {
+            *place = *card;
+        }
+        places
+    }
+
+    // `room LOG LIST`
+    fn room(&mut self, log: &[u8], list: &[u8]) -> Result<(), LineError> {
+        let log = number_to(log, MOST_ROOM)?;
+        let list = number_to(list, MOST_ROOM)?;
+        self.log = log;
+        self.list = list;
+        Ok(())
+    }
+
+    // `UID [STATE [SAK [INDEX]]]`
+    fn card(&mut self, alloc: Global, words: &[&[u8]]) -> Result<(), LineError> {
+        match cards::card_line(alloc, words)? {
+            Ok(card) if self.cards.len() <= MOST_CARDS => {
+                self.cards.push(card).map_err(AllocError::from)?;
+            }
+            Ok(_) => {}
+            Err(refusal) => self.refusal = Some(refusal),
+        }
+        Ok(())
     }
 }
 
-// What stands where there is no card: four zeros, without power.
-fn no_card() -> Card {
-    Card {
-        uid: Uid {
-            size: UidSize::Single,
-            bytes: [0; 10],
-        },
-        blocks: false,
-        index: 0,
-        state: CardState::Off,
+// A line is a card, or says how the field is swept: of each kind of the latter the last one counts. One that is understood is answered by nothing.
+impl Program for Field {
+    fn answer(&mut self, alloc: Global, words: &[&[u8]]) -> Result<String, LineError> {
+        match words {
+            [b"room", log, list] => self.room(log, list)?,
+            [b"tick", tick] => self.tick = tick_word(tick)?,
+            [b"remember"] => self.remembers = true,
+            [b"wake", uid] => self.wakes = Some(uid_word(alloc, uid)?),
+            _ => self.card(alloc, words)?,
+        }
+        Ok(String::new(alloc))
     }
-}
-
-// The cards after a line, if it was understood.
-#[derive(Clone, Copy)]
-pub struct Collecting {
-    pub is_understood: bool,
-    pub collected: Collected,
-}
-
-// The cards after a line of words, which is a directive or a card's; a line that is not understood is answered.
-pub fn collect(rt: &impl Print, c: Collected, talk: Talk) -> io::Result<Collected> {
-    let line = talk.line;
-    let bytes = talk.bytes;
-    let l = line_taken(c, bench_talk::text(line, &bytes));
-    if !l.is_understood {
-        bench_talk::say(rt, talk, bench_talk::none())?;
-    }
-    Ok(l.collected)
-}
-
-// By the line's first word.
-fn line_taken(c: Collected, text: &[u8]) -> Collecting {
-    let k = bench_talk::which(b"room tick remember", 3, bench::word(text, 0));
-    match k {
-        0 => directives::room(c, text),
-        1 => directives::tick(c, text),
-        2 => directives::remember(c, text),
-        _ => cards::card_line(c, text),
-    }
-}
-
-// Sweeps the cards, or wakes one of them, on a new reader, and says what came of it, with or without the trace for people.
-pub fn answer(rt: &impl Print, c: Collected, way: Way, has_trace: bool) -> io::Result<()> {
-    if c.is_refused {
-        return bench_talk::put_line(rt, bench_talk::refused(6));
-    }
-    if c.length > 0 {
-        return woken::answer(rt, c);
-    }
-    let mut log = [0u8; MOST_ROOM];
-    let mut list = [0u8; MOST_ROOM];
-    let s = report::swept(
-        c,
-        way,
-        bench_talk::room(&mut log, c.log),
-        bench_talk::room(&mut list, c.list),
-    );
-    report::say(rt, s, c.count, has_trace, &log, &list)
 }

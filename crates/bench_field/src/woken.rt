@@ -1,99 +1,78 @@
-// T-03: one known card of the field woken, and what came of it as lines on standard output.
-use crate::{Collected, report};
-use bench_talk::Answer;
-use reader::Reader;
+// T-03: one known card of the field woken.
+use crate::cards::CardLine;
+use crate::{Field, Outcome};
+use bench_lines::Refused;
+use bench_text::{Hex, Row};
+use card::Card;
+use limits::ROW_ROOM;
+use reader::{Answer, Reader};
 use reader_link::{Link, LinkAnswer, LinkReader};
-use std::io;
+use refusal::Refusal;
+use std::alloc::{AllocError, Global};
+use std::fmt;
 
-// The words of the lines, by their numbers in the list of said.
-const SELECTED: usize = 0;
-
-const FRAMES: usize = 1;
-
-const RATS: usize = 2;
-
-const SEND: usize = 3;
-
-fn said(a: Answer, k: usize) -> Answer {
-    bench_talk::word(a, b"selected frames rats send refused", k)
+// The reader and its last answer, how many frames it sent, and the cards.
+#[derive(Drop)]
+pub struct Woken {
+    reader: Reader,
+    answer: Answer,
+    frames: usize,
+    cards: Vec<Card>,
 }
 
-// `refused 6` alone; else how it ended, what the reader answers to RATS now, and the cards.
-pub fn answer(rt: &impl Print, c: Collected) -> io::Result<()> {
-    let cards = c.cards;
-    let uid = c.uid;
-    let w = wake::wake(
-        reader::new_reader(),
-        bench::front(&uid, c.length),
-        cards,
-        c.count,
-    );
-    let r = w.reader;
-    let a = w.answer;
-    say_end(rt, r, a, w.frames)?;
-    if is_declined(a) {
-        return Ok(());
+// What a reader answers when RATS is asked of it: `send ROW` or `refused 11`. No card hears it.
+#[derive(Clone, Copy)]
+struct Rats(Reader);
+
+// `selected UID SAK` and `frames N`, or `refused 7`; then what the reader answers to RATS now, and the cards.
+impl fmt::Display for Woken {
+    fn fmt<W: fmt::Write>(&self, f: &mut fmt::Formatter<W>) -> fmt::Result {
+        match self.answer {
+            Answer::Declines(refusal) => write!(f, "{}", Refused(refusal))?,
+            _ => {
+                let uid = &self.reader.uid;
+                let bytes = Hex(bench::front(&uid.bytes, uid::byte_count(uid.size)));
+                write!(f, "selected {bytes} {:02X}", self.reader.sak)?;
+                write!(f, "\nframes {}", self.frames)?;
+            }
+        }
+        write!(f, "\nrats {}", Rats(self.reader))?;
+        for card in self.cards.iter() {
+            write!(f, "\n{}", CardLine(card))?;
+        }
+        Ok(())
     }
-    bench_talk::put_line(rt, rats(r))?;
-    let after = w.cards;
-    report::say_cards(rt, after, c.count)
 }
 
-// Declined before a frame was sent?
-fn is_declined(a: reader::Answer) -> bool {
-    let reader::Answer::Declines(e) = a else {
-        return false;
-    };
-    refusal::number(e) != 7
-}
-
-// `selected UID SAK` and `frames N`, or `refused N`.
-fn say_end(rt: &impl Print, r: Reader, a: reader::Answer, frames: usize) -> io::Result<()> {
-    let reader::Answer::Declines(e) = a else {
-        bench_talk::put_line(rt, selected(r))?;
-        return bench_talk::put_line(
-            rt,
-            bench_talk::number(said(bench_talk::none(), FRAMES), frames),
-        );
-    };
-    bench_talk::put_line(rt, bench_lines::refused(e))
-}
-
-fn selected(r: Reader) -> Answer {
-    let u = r.uid;
-    let size = u.size;
-    let b = u.bytes;
-    let a = bench_talk::hex(
-        said(bench_talk::none(), SELECTED),
-        bench::front(&b, uid::byte_count(size)),
-    );
-    bench_talk::hex(a, &[r.sak])
-}
-
-// What the reader, as the call left it, answers when RATS is asked of it: `rats send ROW` or `rats refused 11`. No card hears it.
-fn rats(r: Reader) -> Answer {
-    let x = LinkReader {
-        reader: r,
-        link: Link::NoLink,
-    };
-    let mut row = [0u8; 2304];
-    let t = reader_link::whole::rats(x, 8, &mut row);
-    let a = t.answer;
-    let line = said(bench_talk::none(), RATS);
-    let n = reader_link::whole::bits_of(a);
-    if n > 0 {
-        return bench_talk::row(said(line, SEND), bench::front(&row, n));
+impl fmt::Display for Rats {
+    fn fmt<W: fmt::Write>(&self, f: &mut fmt::Formatter<W>) -> fmt::Result {
+        let reader = LinkReader {
+            reader: self.0,
+            link: Link::NoLink,
+        };
+        let mut row = [0; ROW_ROOM];
+        match reader_link::whole::rats(reader, 8, &mut row).answer {
+            LinkAnswer::Selection(Answer::Declines(refusal)) => write!(f, "{}", Refused(refusal)),
+            answer => {
+                let bits = reader_link::whole::bits_of(answer);
+                write!(f, "send {}", Row(bench::front(&row, bits)))
+            }
+        }
     }
-    bench_talk::number(said(line, 4), declined(a))
 }
 
-// The number of a refusal.
-fn declined(a: LinkAnswer) -> usize {
-    let LinkAnswer::Selection(s) = a else {
-        return 0;
-    };
-    let reader::Answer::Declines(e) = s else {
-        return 0;
-    };
-    refusal::number(e) as usize
+pub fn wake(alloc: Global, field: &Field, uid: &[u8]) -> Result<Outcome, AllocError> {
+    let n = field.cards.len();
+    let woken = wake::wake(reader::new_reader(), uid, field.places(), n);
+    match woken.answer {
+        Answer::Declines(refusal) if !matches!(refusal, Refusal::Silence) => {
+            Ok(Outcome::Refused(refusal))
+        }
+        answer => Ok(Outcome::Woken(Woken {
+            reader: woken.reader,
+            answer,
+            frames: woken.frames,
+            cards: woken.cards.iter().take(n).copied().collect(alloc)?,
+        })),
+    }
 }

@@ -1,81 +1,67 @@
 // A row for people: groups, each behind a space.
-ghost use Rattle.std.specs.Prelude.{◌≤◌};
-
-use bench_talk::Answer;
-
-// n elements of a row from a place on, as far as it has them.
-pub fn part(row: &[u8], from: usize, n: usize) -> &[u8] {
-    if row.len() < from {
-        return bench::front(row, 0);
-    }
-    bench::front(&row[from..], n)
-}
-
-// The number of a row of at most eight bits, the lowest first.
-pub fn value(row: &[u8]) -> u8 {
-    let mut v: u8 = 0;
-    for i in 0..8usize {
-        v = v / 2 + 128 * bit(row, i);
-    }
-    v
-}
-
-// A bit of a row; 0 past its end and for a collided one.
-fn bit(row: &[u8], i: usize) -> u8
-    ensures { result ≤ 1 }
-{
-    if row.len() <= i {
-        return 0;
-    }
-    row[i] % 2
-}
+use bench_text::Row;
+use std::fmt;
 
 // A reader's frame: the byte of a short one, or whole bytes with parity and then left-over bits.
-pub fn put_sent(a: Answer, row: &[u8]) -> Answer {
-    if row.len() == 7 {
-        return bench_talk::hex(a, &[value(row)]);
-    }
-    put_groups(a, row)
+#[derive(Clone, Copy)]
+pub struct Sent<'a>(pub &'a [u8]);
+
+// What was heard after a frame with so many left-over bits. The rest of that byte, without its parity, comes first.
+#[derive(Clone, Copy)]
+pub struct Heard<'a> {
+    pub row: &'a [u8],
+    pub left: usize,
 }
 
-// What was heard after a frame that had sent so many bits of a broken byte: the rest of that byte, without its parity, comes first.
-pub fn put_heard(a: Answer, row: &[u8], left: usize) -> Answer {
-    if left == 0 {
-        return put_groups(a, row);
+// Whole bytes with parity, each in two capitals, or in its eight bits where one collided; then left-over bits.
+#[derive(Clone, Copy)]
+struct Groups<'a>(&'a [u8]);
+
+impl fmt::Display for Sent<'_> {
+    fn fmt<W: fmt::Write>(&self, f: &mut fmt::Formatter<W>) -> fmt::Result {
+        if self.0.len() == 7 {
+            write!(f, " {:02X}", value(self.0))
+        } else {
+            write!(f, "{}", Groups(self.0))
+        }
     }
-    let missing = rest_of(left);
-    put_groups(
-        bench_talk::row(a, part(row, 0, missing)),
-        part(row, missing + 1, row.len()),
-    )
 }
 
-// How many bits of a byte are missing where so many were sent.
-fn rest_of(left: usize) -> usize
-    ensures { result ≤ 8 }
-{
-    if left < 8 { 8 - left } else { 0 }
+impl fmt::Display for Heard<'_> {
+    fn fmt<W: fmt::Write>(&self, f: &mut fmt::Formatter<W>) -> fmt::Result {
+        if self.left == 0 {
+            return write!(f, "{}", Groups(self.row));
+        }
+        let missing = 8usize.saturating_sub(self.left);
+        let rest = self.row.get(missing + 1..).unwrap_or(&[]);
+        write!(
+            f,
+            " {}{}",
+            Row(bench::front(self.row, missing)),
+            Groups(rest)
+        )
+    }
 }
 
-// Whole bytes with parity, then left-over bits.
-fn put_groups(a: Answer, row: &[u8]) -> Answer {
-    let mut b = a;
-    let mut from = 0;
-    while from < row.len() {
-        b = put_group(b, part(row, from, 9));
-        from += 9;
+impl fmt::Display for Groups<'_> {
+    fn fmt<W: fmt::Write>(&self, f: &mut fmt::Formatter<W>) -> fmt::Result {
+        let (bytes, rest) = self.0.as_chunks::<9>();
+        for byte in bytes {
+            let bits = &byte[..8];
+            if rows::is_clean(bits) {
+                write!(f, " {:02X}", value(bits))?;
+            } else {
+                write!(f, " {}", Row(bits))?;
+            }
+        }
+        if !rest.is_empty() {
+            write!(f, " {}", Row(rest))?;
+        }
+        Ok(())
     }
-    b
 }
 
-// A whole byte in two capitals, or in its eight bits where one collided; left-over bits as they are.
-fn put_group(a: Answer, bits: &[u8]) -> Answer {
-    if bits.len() < 9 {
-        return bench_talk::row(a, bits);
-    }
-    let byte = bench::front(bits, 8);
-    if rows::is_clean(byte) {
-        return bench_talk::hex(a, &[value(byte)]);
-    }
-    bench_talk::row(a, byte)
+// The number of at most eight bits, the lowest first. A collided one counts as 0.
+pub fn value(bits: &[u8]) -> u8 {
+    bits.iter().rev().fold(0, |value, bit| value << 1 | bit % 2)
 }

@@ -1,125 +1,108 @@
-// The answers.
-use bench_talk::Answer;
+// What the answers show.
+use bench_text::Hex;
 use card_b::StateB;
 use field_b::Drawn;
-use reader_b::AnswerB;
 use selection_b::Held;
+use std::fmt;
 
-// The words of the answers, by their numbers in the list of plain.
-pub const OK: usize = 0;
+#[derive(Clone, Copy)]
+pub struct State(pub StateB);
 
-pub const NEW: usize = 1;
-
-pub const CLEAR: usize = 2;
-
-pub const ROOM: usize = 3;
-
-pub const LIST: usize = 4;
-
-pub const SILENT: usize = 5;
-
-pub const ANSWER: usize = 6;
-
-pub const SEND: usize = 7;
-
-pub const SLOT: usize = 8;
-
-pub const CARDS: usize = 9;
-
-pub const CARD: usize = 10;
-
-pub const ATTACHED: usize = 11;
-
-pub const HALTED: usize = 12;
-
-// An answer of one word.
-pub fn plain(k: usize) -> Answer {
-    more(bench_talk::none(), k)
-}
-
-// One word more.
-fn more(a: Answer, k: usize) -> Answer {
-    bench_talk::word(
-        a,
-        b"ok new clear room list silent answer send slot cards card attached halted",
-        k,
-    )
-}
-
-// A word and a number.
-pub fn numbered(k: usize, n: usize) -> Answer {
-    bench_talk::number(plain(k), n)
-}
-
-// A word and the bytes of a frame.
-pub fn framed(k: usize, row: &[u8]) -> Answer {
-    octets(plain(k), row)
-}
-
-fn octets(a: Answer, row: &[u8]) -> Answer {
-    let bytes = crate::frames::octets(row);
-    bench_talk::hex(a, bench::front(&bytes, row.len() / 8))
-}
-
-// A state's words behind an answer.
-pub fn state(a: Answer, s: StateB) -> Answer {
-    match s {
-        StateB::Off => stated(a, 0),
-        StateB::Idle => stated(a, 1),
-        StateB::Requested(n) => bench_talk::number(stated(a, 2), n as usize),
-        StateB::Declared => stated(a, 3),
-        StateB::Active => stated(a, 4),
-        StateB::Halt => stated(a, 5),
+impl fmt::Display for State {
+    fn fmt<W: fmt::Write>(&self, f: &mut fmt::Formatter<W>) -> fmt::Result {
+        match self.0 {
+            StateB::Off => f.write_str("off"),
+            StateB::Idle => f.write_str("idle"),
+            StateB::Requested(slot) => write!(f, "requested {slot}"),
+            StateB::Declared => f.write_str("declared"),
+            StateB::Active => f.write_str("active"),
+            StateB::Halt => f.write_str("halt"),
+        }
     }
 }
 
-fn stated(a: Answer, k: usize) -> Answer {
-    bench_talk::word(a, b"off idle requested declared active halt", k)
+// `card PUPI STATE` for each card, then `cards COUNT`.
+#[derive(Clone, Copy)]
+pub struct Cards<'a>(pub &'a [Drawn]);
+
+impl fmt::Display for Cards<'_> {
+    fn fmt<W: fmt::Write>(&self, f: &mut fmt::Formatter<W>) -> fmt::Result {
+        for drawn in self.0 {
+            let card = drawn.card;
+            writeln!(f, "card {} {}", Hex(&card.pupi), State(card.state))?;
+        }
+        write!(f, "cards {}", self.0.len())
+    }
 }
 
-// ` ; ` and the state, behind a result.
-pub fn with_state(a: Answer, d: Drawn) -> Answer {
-    let c = d.card;
-    let s = c.state;
-    state(bench_talk::word(a, b";", 0), s)
-}
+// A row of data bits as the bytes that it carries, the low bit of each first.
+#[derive(Clone, Copy)]
+pub struct Octets<'a>(pub &'a [u8]);
 
-// `card PUPI STATE`
-pub fn card(d: Drawn) -> Answer {
-    let c = d.card;
-    let pupi = c.pupi;
-    let s = c.state;
-    state(bench_talk::hex(plain(CARD), &pupi), s)
+impl fmt::Display for Octets<'_> {
+    fn fmt<W: fmt::Write>(&self, f: &mut fmt::Formatter<W>) -> fmt::Result {
+        let (octets, _) = self.0.as_chunks::<8>();
+        if octets.is_empty() {
+            return f.write_str("-");
+        }
+        for octet in octets {
+            let byte = octet
+                .iter()
+                .rev()
+                .fold(0u8, |byte, bit| byte << 1 | bit % 2);
+            write!(f, "{byte:02X}")?;
+        }
+        Ok(())
+    }
 }
 
 // `slot I none`, `slot I one ATQB`, `slot I more`
-pub fn slot(i: usize, k: usize, atqb: &[u8]) -> Answer {
-    let a = bench_talk::word(numbered(SLOT, i), b"none one more", k);
-    if k != 1 {
-        return a;
-    }
-    bench_talk::hex(a, atqb)
+#[derive(Clone, Copy)]
+pub struct Slot<'a> {
+    pub number: usize,
+    pub held: Held,
+    pub atqb: &'a [u8],
 }
 
-fn number(k: Held) -> usize {
-    match k {
-        Held::None => 0,
-        Held::One => 1,
-        Held::More => 2,
+impl fmt::Display for Slot<'_> {
+    fn fmt<W: fmt::Write>(&self, f: &mut fmt::Formatter<W>) -> fmt::Result {
+        write!(f, "slot {} ", self.number)?;
+        match self.held {
+            Held::None => f.write_str("none"),
+            Held::One => write!(f, "one {}", Hex(self.atqb)),
+            Held::More => f.write_str("more"),
+        }
     }
 }
 
-// What a turn of the reader says; i is the slot that it was in, frame what it sends.
-pub fn turned(a: AnswerB, i: usize, atqb: [u8; 12], frame: &[u8; 88]) -> Answer {
-    match a {
-        AnswerB::Sends(n) => framed(SEND, bench::front(frame, n)),
-        AnswerB::Marks(k) => octets(
-            more(slot(i, number(k), &atqb), SEND),
-            bench::front(frame, 24),
-        ),
-        AnswerB::Ends(k) => bench_talk::word(slot(i, number(k), &atqb), b"done", 0),
-        AnswerB::Attached(m) => numbered(ATTACHED, m as usize),
-        AnswerB::Halted => plain(HALTED),
-        AnswerB::Declines(e) => bench_lines::refused(e),
+// The first slots of a list, 13 bytes each: a line for each.
+#[derive(Clone, Copy)]
+pub struct Slots<'a> {
+    pub list: &'a [u8],
+    pub count: usize,
+}
+
+impl fmt::Display for Slots<'_> {
+    fn fmt<W: fmt::Write>(&self, f: &mut fmt::Formatter<W>) -> fmt::Result {
+        for (i, entry) in self.list.chunks_exact(13).take(self.count).enumerate() {
+            if let [held, atqb @ ..] = entry {
+                let slot = Slot {
+                    number: i + 1,
+                    held: held_of(*held),
+                    atqb,
+                };
+                writeln!(f, "{slot}")?;
+            }
+        }
+        Ok(())
+    }
+}
+
+// What a slot held, by its number in the list.
+fn held_of(number: u8) -> Held {
+    match number {
+        0 => Held::None,
+        1 => Held::One,
+        _ => Held::More,
     }
 }

@@ -1,50 +1,46 @@
 // The text of a checked log (T-12).
 #![tactic(auto)]
 
-use bench_talk::Answer;
+use bench_text::Hex;
 use card::Card;
-use refusal::Refusal;
-use trace::Verdict;
+use std::fmt;
+use trace::{Checked, Verdict};
 
-// `clean`; or the record at fault and the refusal's number, after 3 also T-07's byte.
-pub fn verdict(v: Verdict) -> Answer {
-    match v {
-        Verdict::Clean => bench_talk::word(bench_talk::none(), b"clean", 0),
-        Verdict::Fault {
-            record: i,
-            refusal: e,
-        } => fault(i, e),
-    }
-}
-
-fn fault(i: usize, e: Refusal) -> Answer {
-    let n = refusal::number(e);
-    let a = bench_talk::number(bench_talk::number(bench_talk::none(), i), n as usize);
-    if n == 3 {
-        return bench_talk::number(a, refusal::place(e) as usize);
-    }
-    a
-}
+// `clean`, and the cards in the order found, this character before each; or the record at fault and the refusal's number, after 3 also T-07's byte.
+#[derive(Clone, Copy)]
+pub struct Parted(pub char, pub Checked);
 
 // A card of the list: its UID and last SAK, unspaced.
-pub fn card(a: Answer, c: Card) -> Answer {
-    let u = c.uid;
-    let size = u.size;
-    let bytes = u.bytes;
-    let b = bench_talk::hex(a, bench::front(&bytes, uid::byte_count(size)));
-    if c.blocks {
-        return bench_talk::raw(b, b"20");
+#[derive(Clone, Copy)]
+struct Found(Card);
+
+impl fmt::Display for Parted {
+    fn fmt<W: fmt::Write>(&self, f: &mut fmt::Formatter<W>) -> fmt::Result {
+        let Parted(before, checked) = *self;
+        match checked.verdict {
+            Verdict::Clean => {
+                f.write_str("clean")?;
+                for card in bench::front(&checked.cards, checked.found) {
+                    write!(f, "{before}{}", Found(*card))?;
+                }
+            }
+            Verdict::Fault { record, refusal } => {
+                let n = refusal::number(refusal);
+                write!(f, "{record} {n}")?;
+                if n == 3 {
+                    write!(f, " {}", refusal::place(refusal))?;
+                }
+            }
+        }
+        Ok(())
     }
-    bench_talk::raw(b, b"00")
 }
 
-// Is it a clean log?
-pub fn is_clean(v: Verdict) -> bool {
-    match v {
-        Verdict::Clean => true,
-        Verdict::Fault {
-            record: _,
-            refusal: _,
-        } => false,
+impl fmt::Display for Found {
+    fn fmt<W: fmt::Write>(&self, f: &mut fmt::Formatter<W>) -> fmt::Result {
+        let Card { uid, blocks, .. } = &self.0;
+        let uid = Hex(bench::front(&uid.bytes, uid::byte_count(uid.size)));
+        let sak = if *blocks { "20" } else { "00" };
+        write!(f, "{uid}{sak}")
     }
 }

@@ -2,53 +2,35 @@
 // are kept.
 #![tactic(auto)]
 
-use bench_field::{Collected, Way};
-use bench_talk::Talk;
+use bench_field::{Field, Way};
+use bench_talk::{LineError, Program};
+use std::alloc::Global;
 use std::io;
 
-// Answers every line. A proved loop has to end, and nothing says that the input does: it counts its turns down from a number that no run
-// uses up.
+// The field that is put together.
+#[derive(Drop)]
+struct Vectors {
+    field: Field,
+}
+
+impl Program for Vectors {
+    fn answer(&mut self, alloc: Global, words: &[&[u8]]) -> Result<String, LineError> {
+        match words {
+            [b"row"] => {
+                let outcome = self.field.play(alloc, Way::Row)?;
+                Ok(format!(in alloc; "{outcome}")?)
+            }
+            [b"sweep"] => {
+                let outcome = self.field.play(alloc, Way::Values)?;
+                self.field = Field::new(alloc);
+                Ok(format!(in alloc; "{outcome}")?)
+            }
+            _ => self.field.answer(alloc, words),
+        }
+    }
+}
+
 fn main(rt: HostRuntime) -> io::Result<()> {
-    let mut field = bench_field::none();
-    let mut talk = bench_talk::start();
-    let mut turns = u64::MAX;
-    while turns > 0 {
-        turns -= 1;
-        talk = bench_talk::next(&rt, talk)?;
-        if !bench_talk::has_line(talk) {
-            return Ok(());
-        }
-        field = answer_line(&rt, field, talk)?;
-    }
-    Ok(())
-}
-
-// The cards after a line: a card's, `row` or `sweep`.
-fn answer_line(rt: &impl Print, field: Collected, talk: Talk) -> io::Result<Collected> {
-    if !bench_talk::is_script(rt, talk)? {
-        return Ok(field);
-    }
-    let k = command(talk);
-    match k {
-        0 => {
-            bench_field::answer(rt, field, Way::Row, false)?;
-            Ok(field)
-        }
-        1 => {
-            bench_field::answer(rt, field, Way::Values, false)?;
-            Ok(bench_field::none())
-        }
-        _ => bench_field::collect(rt, field, talk),
-    }
-}
-
-// 0 for the line `row`, 1 for `sweep`, 2 for any other.
-fn command(talk: Talk) -> usize {
-    let line = talk.line;
-    let bytes = talk.bytes;
-    let text = bench_talk::text(line, &bytes);
-    if bench::word(text, 1).len() != 0 {
-        return 2;
-    }
-    bench_talk::which(b"row sweep", 2, bench::word(text, 0))
+    let field = Field::new(rt.alloc());
+    bench_talk::talk(&rt, &mut Vectors { field })
 }
