@@ -4,7 +4,7 @@
 use bench_text::Hex;
 use card::Card;
 use std::fmt;
-use trace::{Checked, Verdict};
+use trace::{Checked, Fault};
 
 // `clean`, and the cards in the order found, this character before each; or the record at fault and the refusal's number, after 3 also T-07's byte.
 #[derive(Clone, Copy)]
@@ -18,15 +18,15 @@ impl fmt::Display for Parted {
     fn fmt<W: fmt::Write>(&self, f: &mut fmt::Formatter<W>) -> fmt::Result {
         let Parted(before, checked) = *self;
         match checked.verdict {
-            Verdict::Clean => {
+            Ok(()) => {
                 f.write_str("clean")?;
                 for card in bench::front(&checked.cards, checked.found) {
                     write!(f, "{before}{}", Found(*card))?;
                 }
             }
-            Verdict::Fault { record, refusal } => {
+            Err(Fault { index, refusal }) => {
                 let n = refusal::number(refusal);
-                write!(f, "{record} {n}")?;
+                write!(f, "{index} {n}")?;
                 if n == 3 {
                     write!(f, " {}", refusal::place(refusal))?;
                 }
