@@ -61,9 +61,7 @@ impl Played {
                 let row = Row(bench::front(self.places.as_slice(), n));
                 Ok(format!(in alloc; "row {row}")?)
             }
-            Err(_) => {
-                Ok(format!(in alloc; "refused {}", front::number(heard))?)
-            }
+            Err(_) => { Ok(format!(in alloc; "refused {}", front::number(heard))?) }
         }
     }
 }

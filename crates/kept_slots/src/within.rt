@@ -29,7 +29,11 @@ pub fn put_cards(cards: [Drawn; MOST_CARDS], n: usize, b: &mut [u8])
 {
     // Kept: tried as one function with kept_field (`kept_field::within::put_cards` says why not).
     for i in 0..kept::few(n) {
-        rows::within::put(b, kept::STATE_SIZE * i, &kept_b::card::card_bytes(cards[i].card));
+        rows::within::put(
+            b,
+            kept::STATE_SIZE * i,
+            &kept_b::card::card_bytes(cards[i].card),
+        );
     }
 }
 

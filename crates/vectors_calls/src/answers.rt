@@ -23,11 +23,7 @@ pub fn counted(
 }
 
 // `sent ROW`, or `refused N`
-pub fn sent(
-    alloc: Global,
-    refusal: Option<Refusal>,
-    row: &[u8],
-) -> Result<String, LineError> {
+pub fn sent(alloc: Global, refusal: Option<Refusal>, row: &[u8]) -> Result<String, LineError> {
     match refusal {
         Some(refusal) => Ok(format!(in alloc; "{}", Refused(refusal))?),
         None => Ok(format!(in alloc; "sent {}", Row(row))?),

@@ -33,7 +33,11 @@ pub fn read<R: Fn(&[u8], &mut [u8]) -> Result<usize, Refusal>>(
     requires { R.IsAlwaysCallable read }
 {
     let mut bytes = lent(alloc, 0, room, limits::MOST_BYTES)?;
-    counted(alloc, "bytes", read(&selection::sent::hlta(), bytes.as_mut_slice()))
+    counted(
+        alloc,
+        "bytes",
+        read(&selection::sent::hlta(), bytes.as_mut_slice()),
+    )
 }
 
 pub fn air_row(alloc: Global, room: usize) -> Result<String, LineError> {

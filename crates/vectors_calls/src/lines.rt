@@ -50,7 +50,12 @@ impl Ends {
                 readers::turn(alloc, a, b, |r, out| reader::hear(r, &readers::ATQA, out))
             }
             [b"reader_wake", ..] => {
-                readers::turn(alloc, a, b, |r, out| reader::wake(r, bench::front(&UID, c), out))
+                readers::turn(
+                    alloc,
+                    a,
+                    b,
+                    |r, out| reader::wake(r, bench::front(&UID, c), out),
+                )
             }
             // `sweep LOG LIST N OFF`, `sweep_row LOG LIST N OFF`, `wake_field BYTES FIRST N OFF`: the UID has so many bytes, FIRST and then 2, 3, 4 ..
             [b"sweep", ..] => sweeps::swept(alloc, a, b, c, Off::try_from(word)?, sweep::sweep),

@@ -98,7 +98,13 @@ pub fn swept<S: Fn(Start, [Card; MOST_CARDS], usize, &mut [u8], &mut [u8]) -> Sw
         reader: off.reader(),
         tick: 0,
     };
-    let swept = sweep(start, off.cards(), count, log.as_mut_slice(), list.as_mut_slice());
+    let swept = sweep(
+        start,
+        off.cards(),
+        count,
+        log.as_mut_slice(),
+        list.as_mut_slice(),
+    );
     frames(alloc, swept.answer, swept.frames)
 }
 

@@ -7,6 +7,7 @@ use std::alloc::Global;
 
 // The most bits of a row that is read, and the most bytes of a word. Both are more than a frame has.
 const MOST_BITS: usize = 4096;
+
 const MOST_BYTES: usize = 512;
 
 // Nothing stays from one line to the next.
@@ -82,11 +83,7 @@ fn written_short(alloc: Global, byte: &[u8]) -> Result<String, LineError> {
 }
 
 // What was written at the front of a row.
-fn said(
-    alloc: Global,
-    written: Result<usize, Refusal>,
-    row: &[u8],
-) -> Result<String, LineError> {
+fn said(alloc: Global, written: Result<usize, Refusal>, row: &[u8]) -> Result<String, LineError> {
     match written {
         Ok(n) => Ok(format!(in alloc; "row {}", Row(bench::front(row, n)))?),
         Err(refusal) => refused(alloc, refusal),

@@ -60,9 +60,7 @@ impl Chain {
                 let turn = reader::hear(self.reader, bench::front(row.as_slice(), n), &mut sent);
                 self.turned(alloc, turn, &sent)
             }
-            Err(_) => {
-                Ok(format!(in alloc; "refused {}", front::number(heard))?)
-            }
+            Err(_) => { Ok(format!(in alloc; "refused {}", front::number(heard))?) }
         }
     }
 }

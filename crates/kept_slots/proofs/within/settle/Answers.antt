@@ -13,13 +13,13 @@ returns c =
     let e = c.inquired_turn-t.ensures in
     let k = rw e at c.settle.ensures in
     elim c.if-not-stays.branch [
-      then-not-stays w ↦
-        (let p = w.put_cards.ensures in
-        let h = sym (ap (stays a.x) e) ∙ sym c.stays.ensures ∙ w.if-not-stays.true in
-        let both = row_kept a.x a.n a.s a.list.now a.cards.now _ h p.b_after p.b_after_2 p.cards_len in
-        record { value = c.inquired_number.ensures; state_after = k.state_after; state_after_2 = k.state_after_2; cards_after = rw w.cards-is both.0; says = rw w.cards-is both.1 })
-    | else-not-stays w ↦
-        (let h = sym (ap (stays a.x) e) ∙ sym c.stays.ensures ∙ w.if-not-stays.false in
-        let both = row_stays a.x a.n a.s a.list.now a.cards.now h in
-        record { value = c.inquired_number.ensures; state_after = k.state_after; state_after_2 = k.state_after_2; cards_after = rw w.cards-is both.0; says = rw w.cards-is both.1 })
+      | then-not-stays w ↦
+          (let p = w.put_cards.ensures in
+          let h = sym (ap (stays a.x) e) ∙ sym c.stays.ensures ∙ w.if-not-stays.true in
+          let both = row_kept a.x a.n a.s a.list.now a.cards.now _ h p.b_after p.b_after_2 p.cards_len in
+          record { value = c.inquired_number.ensures; state_after = k.state_after; state_after_2 = k.state_after_2; cards_after = rw w.cards-is both.0; says = rw w.cards-is both.1 })
+      | else-not-stays w ↦
+          (let h = sym (ap (stays a.x) e) ∙ sym c.stays.ensures ∙ w.if-not-stays.false in
+          let both = row_stays a.x a.n a.s a.list.now a.cards.now h in
+          record { value = c.inquired_number.ensures; state_after = k.state_after; state_after_2 = k.state_after_2; cards_after = rw w.cards-is both.0; says = rw w.cards-is both.1 })
     ]
