@@ -33,7 +33,7 @@ fn slot_in(row: &[u8]) -> SlotRead
         return nobody(Err(Refusal::Forbidden));
     }
     let mut atqb = [0u8; 12];
-    atqb.copy_from_slice(&held[..12]);
+    rows::within::put(&mut atqb, 0, &held[..12]);
     SlotRead {
         says: Ok(Held::One),
         atqb,

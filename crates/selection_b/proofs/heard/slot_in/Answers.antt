@@ -15,4 +15,4 @@ returns-then-held-ne80 c = let e = bytes_whole 14 _ _ c.bytes_of.ensures in
 pub returns : goal.returns
 returns c =
     let e = bytes_whole 14 _ _ c.bytes_of.ensures in
-    slot_one _ _ e (ap length e ∙ length_bytes 14 _) (sym c.is_good_b.ensures ∙ c.if-not-is_good_b.false) c.if-held-ne80.false _ c.copy_from_slice.ensures.after
+    slot_one _ _ e (ap length e ∙ length_bytes 14 _) (sym c.is_good_b.ensures ∙ c.if-not-is_good_b.false) c.if-held-ne80.false _ c.put.ensures
