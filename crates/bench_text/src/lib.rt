@@ -58,12 +58,12 @@ pub fn put(out: &mut [u8], at: usize, text: &[u8]) -> usize
 pub fn put_hex(out: &mut [u8], at: usize, bytes: &[u8]) -> usize
     ensures { Wrote out.old at (hex_text bytes.now) result out.new }
 {
-    if bytes.len() == 0 {
-        return put(out, at, &[45]);
+    if bytes.is_empty() {
+        return put(out, at, b"-");
     }
     let mut p = at;
-    for i in 0..bytes.len() {
-        p = within::put_byte(out, p, bytes[i]);
+    for byte in bytes {
+        p = within::put_byte(out, p, *byte);
     }
     p
 }
@@ -73,8 +73,8 @@ pub fn put_bits(out: &mut [u8], at: usize, row: &[u8]) -> usize
     ensures { Wrote out.old at (bits_text row.now) result out.new }
 {
     let mut p = at;
-    for i in 0..row.len() {
-        p = put(out, p, &[within::bit_char(row[i])]);
+    for bit in row {
+        p = put(out, p, &[within::bit_char(*bit)]);
     }
     p
 }
@@ -83,8 +83,8 @@ pub fn put_bits(out: &mut [u8], at: usize, row: &[u8]) -> usize
 pub fn put_row(out: &mut [u8], at: usize, row: &[u8]) -> usize
     ensures { Wrote out.old at (row_text row.now) result out.new }
 {
-    if row.len() == 0 {
-        return put(out, at, &[45]);
+    if row.is_empty() {
+        return put(out, at, b"-");
     }
     put_bits(out, at, row)
 }

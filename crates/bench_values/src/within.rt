@@ -108,8 +108,8 @@ pub fn write_row(word: &[u8], out: &mut [u8])
     requires { length word.now ≤ length out.old }
     ensures { out.new ≡ overlay out.old 0 (row_bits word.now) }
 {
-    for i in 0..word.len() {
-        out[i] = bit_value(word[i]);
+    for (i, c) in word.iter().enumerate() {
+        out[i] = bit_value(*c);
     }
 }
 
