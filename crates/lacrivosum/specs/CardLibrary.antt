@@ -6,7 +6,6 @@ use Rattle.rows.specs.Rows.{overlay}
 use Rattle.block.specs.declared.Told.TheVariants.{Quiet}
 use Rattle.block.specs.Out.{Out}
 use Rattle.card.specs.Calls.{new_card}
-use Rattle.card.specs.declared.Card.{Card}
 use Rattle.card_link.specs.declared.LinkCard.{LinkCard}
 use Rattle.card_link.specs.CardCalls.{without_link, declined, turn_of}
 use Rattle.kept.specs.Kept.{state_size, refused, told_number}

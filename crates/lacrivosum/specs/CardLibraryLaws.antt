@@ -6,11 +6,8 @@ use Rattle.refusal.specs.declared.Refusal.{Refusal}
 use Rattle.refusal.specs.declared.Refusal.TheVariants.{Room}
 use Rattle.rows.specs.Rows.{overlay}
 use Rattle.rows.proofs.RowLaws.{overlay_nil}
-use Rattle.block.specs.declared.Told.TheVariants.{Refused}
 use Rattle.block.specs.Out.{Out}
 use Rattle.card.specs.Calls.{new_card}
-use Rattle.card.specs.declared.Card.{Card}
-use Rattle.card_blocks.specs.declared.CardLink.{CardLink}
 use Rattle.card_link.specs.declared.LinkCard.{LinkCard}
 use Rattle.card_link.specs.declared.CardTurn.{CardTurn}
 use Rattle.card_link.specs.CardCalls.{without_link, turn_of}

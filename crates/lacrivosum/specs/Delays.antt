@@ -1,5 +1,5 @@
 -- The judge of delay for C: the difference, which may be below zero, or one number that no difference is (law `told_apart`).
-use Rattle.std.specs.Prelude.{ℕ, cond, eqb, ℤ, negsuc}
+use Rattle.std.specs.Prelude.{cond, eqb, ℤ, negsuc}
 use Rattle.delay.specs.Calls.{OffSaid}
 
 -- minus 2^63

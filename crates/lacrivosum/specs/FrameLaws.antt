@@ -1,6 +1,6 @@
 -- What a call of crate frame leaves, by what its answer says. Assumes nothing.
 use Rattle.std.specs.Prelude.{◌≡◌, refl, false, List, ℕ, eqb, Result, Ok, Err}
-use Rattle.std.proofs.Common.{sym, ap, ◌∙◌, arith, ne_eqb}
+use Rattle.std.proofs.Common.{ap, ◌∙◌, arith, ne_eqb}
 use Rattle.refusal.specs.Refusal.{Said, number_of, place_of, refusal_says, number_says}
 use Rattle.refusal.specs.declared.Refusal.{Refusal}
 use Rattle.frame.specs.Calls.{row_after, good_bytes, bytes_after}

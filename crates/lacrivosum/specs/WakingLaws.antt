@@ -6,7 +6,7 @@ use Rattle.std.proofs.Math.Bool.{true, false, false≢true}
 use borrow.Author.Tests.{lt-ltb, le-ltb}
 use Rattle.rows.specs.ListLaws.{both}
 use Rattle.refusal.specs.declared.Refusal.TheVariants.{Room}
-use Rattle.uid.specs.Calls.{new_uid, uid_of}
+use Rattle.uid.specs.Calls.{uid_of}
 use Rattle.uid.specs.declared.Uid.{Uid}
 use Rattle.card.specs.declared.Card.{Card}
 use Rattle.reader.specs.Reader.{is_new, blank}

@@ -1,6 +1,6 @@
 // T-03 for C, over a row of cards' states in lent bytes: the call of crate wake on the values that the bytes say.
 ghost use Rattle.std.specs.Prelude.{◌≡◌};
-ghost use Rattle.uid.specs.Calls.{new_uid};
+ghost use Rattle.uid.specs.Calls.{uid_of};
 ghost use Rattle.wake_rules.specs.Claim.{Wakes};
 ghost use Rattle.wake_rules.specs.Wake.{wake};
 ghost use Rattle.kept_field.specs.KeptField.{cards_in};
@@ -14,7 +14,7 @@ use refusal::Refusal;
 pub extern "C" fn lac_wake(state: &mut [u8], uid: &[u8], cards: &mut [u8], n: usize) -> usize
     ensures n_value { wake_left state.old cards.old n (wake_call state.old uid.now cards.old n) ≡ wake_done result state.new cards.new }
     ensures wake_unchanged { WakeUnchanged (wake_done 0 state.old cards.old) uid.now n (wake_done result state.new cards.new) }
-    ensures wake_says { WakeTerms state.old uid.now cards.old n → WakeSays (wake (new_uid uid.now).uid (cards_in n cards.old)) n (wake_done 0 state.old cards.old) (wake_done result state.new cards.new) × Wakes (cards_in n cards.old) (new_uid uid.now).uid (wake (new_uid uid.now).uid (cards_in n cards.old)) }
+    ensures wake_says { WakeTerms state.old uid.now cards.old n → WakeSays (wake (uid_of uid.now) (cards_in n cards.old)) n (wake_done 0 state.old cards.old) (wake_done result state.new cards.new) × Wakes (cards_in n cards.old) (uid_of uid.now) (wake (uid_of uid.now) (cards_in n cards.old)) }
 {
     if state.len() < kept::STATE_SIZE {
         return kept::refused(Refusal::Room);

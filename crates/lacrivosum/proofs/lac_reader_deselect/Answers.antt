@@ -4,7 +4,6 @@ use native.Mathlib.Omega.{arith}
 use Rattle.reader_link.specs.declared.LinkReader.{LinkReader}
 use Rattle.reader_link.specs.ReaderCalls.{Called, deselect_call}
 use Rattle.lacrivosum.specs.LibraryLaws.{reader_short, reader_called, reader_says}
-use borrow.Author.Rules.{rules}
 use Rattle.lacrivosum.proofs.lac_reader_deselect.Goals as goal
 
 pub returns-then-state-lt-STATE_SIZE : goal.returns-then-state-lt-STATE_SIZE

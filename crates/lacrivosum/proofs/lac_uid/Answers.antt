@@ -1,6 +1,5 @@
 -- `lacrivosum::lac_uid` meets its contract, by those of `uid_of` and `put_uid`. Assumes nothing.
 use Rattle.lacrivosum.specs.LibraryLaws.{uid_short, uid_no_room, uid_given_law}
-use borrow.Author.Rules.{rules}
 use Rattle.lacrivosum.proofs.lac_uid.Goals as goal
 
 pub returns-then-state-lt-STATE_SIZE : goal.returns-then-state-lt-STATE_SIZE

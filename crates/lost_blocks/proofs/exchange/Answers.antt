@@ -1,5 +1,4 @@
 -- `lost_blocks::exchange` meets its contract, by that of `exchange::lossy`. Assumes nothing.
-use borrow.Author.Rules.{rules}
 use Rattle.rows.specs.ListLaws.{bytes_at_law}
 use Rattle.lost_blocks.proofs.PromiseLaws.{survives}
 use Rattle.lost_blocks.proofs.exchange.Goals as goal

@@ -1,12 +1,10 @@
-use Prim.Native.Nat.{◌≤◌, ◌-◌}
 use mathlib.Core.Path.{◌≡◌, refl, ◌∙◌}
 use native.Mathlib.Omega.{arith}
 use borrow.Author.Rules.{rules}
-use lib.ListN.{length, take}
-use Rattle.rows.specs.Rows.{All}
+use lib.ListN.{length}
 use Rattle.kept.specs.States.{states_left}
 use Rattle.kept_field.specs.KeptField.{cards_left}
-use Rattle.kept_field.specs.FieldLaws.{Whole, put_turn, put_done}
+use Rattle.kept_field.specs.FieldLaws.{put_turn, put_done}
 use Rattle.kept_field.proofs.within.put_cards.Goals as goal
 
 pub loop-i-init : goal.loop-i-init

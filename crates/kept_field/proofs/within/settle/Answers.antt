@@ -1,7 +1,6 @@
 -- `kept_field::within::settle` meets its contract, by the laws `settled_refused` and `settled_swept`. Assumes nothing.
 use mathlib.Core.Path.{sym, ◌∙◌}
 use Rattle.kept_field.specs.SweptLaws.{settled_refused, settled_swept}
-use borrow.Author.Rules.{rules}
 use Rattle.kept_field.proofs.within.settle.Goals as goal
 
 pub returns-then-selection_refuses : goal.returns-then-selection_refuses

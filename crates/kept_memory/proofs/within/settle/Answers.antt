@@ -1,7 +1,7 @@
 -- `kept_memory::within::settle` meets its contract, by the laws `stayed` and `moved`. Assumes nothing.
 use mathlib.Core.Path.{◌≡◌, sym, ◌∙◌}
 use Rattle.kept_reader.specs.KeptReader.{selection_of}
-use Rattle.kept_memory.specs.KeptMemory.{path_in, memory_left, memory_in, memory_after}
+use Rattle.kept_memory.specs.KeptMemory.{path_in}
 use Rattle.kept_memory.specs.KeptMemoryLaws.{stayed, moved}
 use borrow.Author.Rules.{rules}
 use Rattle.kept_memory.proofs.within.settle.Goals.{then-not-stays, else-not-stays}

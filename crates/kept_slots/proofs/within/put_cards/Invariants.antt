@@ -1,13 +1,10 @@
 -- `kept_slots::within::put_cards` meets its contract. The loop's invariant: the cards before i are written. Assumes nothing.
 use Prim.Native.Nat.{◌≤◌, ◌-◌}
-use mathlib.Core.Path.{◌≡◌, refl, ◌∙◌}
-use native.Mathlib.Omega.{arith}
-use borrow.Author.Rules.{rules}
+use mathlib.Core.Path.{◌≡◌}
 use lib.ListN.{length, take}
 use Rattle.rows.specs.Rows.{All}
-use Rattle.kept.specs.States.{states_left}
 use Rattle.kept_slots.specs.KeptSlots.{cards_left}
-use Rattle.kept_slots.specs.SlotsLaws.{Whole, put_turn, put_done}
+use Rattle.kept_slots.specs.SlotsLaws.{Whole}
 use Rattle.kept_slots.proofs.within.put_cards.Given as goal
 
 abbrev pub invariant-loop-i : goal.invariant-loop-i

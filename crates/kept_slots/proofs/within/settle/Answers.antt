@@ -1,9 +1,7 @@
 -- `kept_slots::within::settle` meets its contract, by the laws `row_stays` and `row_kept`. Assumes nothing.
 use mathlib.Core.Path.{sym, ap, ◌∙◌}
 use Rattle.kept_b.specs.KeptReaderB.{stays}
-use Rattle.kept_slots.specs.KeptSlots.{row_left, Says}
 use Rattle.kept_slots.specs.SlotsLaws.{row_stays, row_kept}
-use borrow.Author.Rules.{rules}
 use Rattle.kept_slots.proofs.within.settle.Goals.{then-not-stays, else-not-stays}
 use Rattle.kept_slots.proofs.within.settle.Goals as goal
 

@@ -1,7 +1,6 @@
 -- `kept_wake::within::settle` meets its contract, by the laws `woken_refused` and `woken_kept`. Assumes nothing.
 use mathlib.Core.Path.{sym, ◌∙◌}
 use Rattle.kept_wake.specs.WakeLaws.{woken_refused, woken_kept}
-use borrow.Author.Rules.{rules}
 use Rattle.kept_wake.proofs.within.settle.Goals as goal
 
 pub returns-then-selection_refuses : goal.returns-then-selection_refuses

@@ -6,7 +6,6 @@ use Rattle.card_link.specs.declared.LinkCard.{LinkCard}
 use Rattle.card_link.specs.CardCalls.{ask_call}
 use Rattle.kept_card.specs.RefusedLaws.{refused_stays, ask_declines}
 use Rattle.lacrivosum.specs.CardLibraryLaws.{card_short, card_called, card_says_law}
-use borrow.Author.Rules.{rules}
 use Rattle.lacrivosum.proofs.card_calls.lac_card_ask.Goals as goal
 
 pub returns-then-state-lt-STATE_SIZE : goal.returns-then-state-lt-STATE_SIZE

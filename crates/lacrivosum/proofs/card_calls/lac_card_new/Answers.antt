@@ -6,7 +6,6 @@ use Rattle.card_link.specs.declared.LinkCard.{LinkCard}
 use Rattle.kept_card.specs.RefusedLaws.{refused_stays}
 use Rattle.lacrivosum.specs.CardLibrary.{new_call}
 use Rattle.lacrivosum.specs.CardLibraryLaws.{card_short, card_called, card_says_law, nothing_put, new_declines, new_sent}
-use borrow.Author.Rules.{rules}
 use Rattle.lacrivosum.proofs.card_calls.lac_card_new.Goals as goal
 
 pub returns-then-state-lt-STATE_SIZE : goal.returns-then-state-lt-STATE_SIZE

@@ -9,7 +9,6 @@ use Rattle.card_link.specs.CardCalls.{powered_on, turn_of}
 use Rattle.kept_card.specs.RefusedLaws.{refused_stays}
 use Rattle.lacrivosum.specs.CardLibrary.{quiet}
 use Rattle.lacrivosum.specs.CardLibraryLaws.{card_short, card_called, card_says_law, quiet_declines}
-use borrow.Author.Rules.{rules}
 use Rattle.lacrivosum.proofs.card_calls.lac_card_power_on.Goals as goal
 
 pub returns-then-state-lt-STATE_SIZE : goal.returns-then-state-lt-STATE_SIZE

@@ -1,5 +1,4 @@
 -- `lacrivosum::card_calls::lac_card_state` meets its contract, by those of its parts. Assumes nothing.
-use borrow.Author.Rules.{rules}
 use Rattle.lacrivosum.proofs.card_calls.lac_card_state.Goals as goal
 
 pub returns : goal.returns

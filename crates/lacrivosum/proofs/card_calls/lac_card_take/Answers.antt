@@ -7,7 +7,6 @@ use Rattle.card_link.specs.CardCalls.{take_call}
 use Rattle.kept_card.specs.RefusedLaws.{refused_stays, take_declines}
 use Rattle.lacrivosum.specs.LibraryLaws.{left_short}
 use Rattle.lacrivosum.specs.CardLibraryLaws.{card_short, card_called, card_says_law, card_left}
-use borrow.Author.Rules.{rules}
 use Rattle.lacrivosum.proofs.card_calls.lac_card_take.Goals as goal
 
 pub returns-then-state-lt-STATE_SIZE : goal.returns-then-state-lt-STATE_SIZE

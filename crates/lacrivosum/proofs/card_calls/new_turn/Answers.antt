@@ -1,6 +1,5 @@
 -- `lacrivosum::card_calls::new_turn` meets its contract, by the law `new_turn`. Assumes nothing.
 use Rattle.std.proofs.Common.{sym, ap, ◌∙◌}
-use Rattle.std.specs.Prelude.{Ok, Err}
 use Rattle.card_link.specs.CardCalls.{turn_of}
 use Rattle.lacrivosum.specs.CardLibrary.{new_by}
 use Rattle.lacrivosum.specs.CardLibraryLaws.{new_turn}

@@ -2,7 +2,6 @@
 use Rattle.limits.specs.Limits.{most_bytes}
 use Rattle.frame.specs.Frame.{read_frame}
 use Rattle.lacrivosum.specs.FrameLaws.{received_said}
-use borrow.Author.Rules.{rules}
 use Rattle.lacrivosum.proofs.frames.lac_frame_read.Goals as goal
 
 pub returns : goal.returns

@@ -1,6 +1,5 @@
 -- `lacrivosum::frames::lac_frame_write_short` meets its contract, by that of crate frame's call. Assumes nothing.
 use Rattle.lacrivosum.specs.FrameLaws.{written_said}
-use borrow.Author.Rules.{rules}
 use Rattle.lacrivosum.proofs.frames.lac_frame_write_short.Goals as goal
 
 pub returns : goal.returns

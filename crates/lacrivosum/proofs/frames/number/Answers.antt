@@ -1,7 +1,6 @@
 -- `lacrivosum::frames::number` meets its contract, case by case. Assumes nothing.
 use mathlib.Core.Path.{ap}
 use Rattle.lacrivosum.specs.FrameLaws.{refused_said}
-use borrow.Author.Rules.{rules}
 use Rattle.lacrivosum.proofs.frames.number.Goals as goal
 use Rattle.refusal.specs.Refusal.{number_says}
 

@@ -5,7 +5,6 @@ use Rattle.front.specs.declared.Gate.{Gate}
 use Rattle.front.specs.declared.Profile.{Profile}
 use Rattle.lacrivosum.specs.Fronts.{profile_of}
 use Rattle.lacrivosum.specs.FrontCallLaws.{no_gate, gated}
-use borrow.Author.Rules.{rules}
 use Rattle.lacrivosum.proofs.fronts.lac_front.Goals as goal
 
 pub returns-then-gate-gt2 : goal.returns-then-gate-gt2

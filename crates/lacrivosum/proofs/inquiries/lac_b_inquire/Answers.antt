@@ -4,7 +4,6 @@ use mathlib.Core.Bool.{false≢true}
 use native.Mathlib.Omega.{arith}
 use Rattle.lacrivosum.specs.Inquiries.{inquiry_done, asked}
 use Rattle.lacrivosum.specs.InquiryLaws.{no_state, no_row, refused_short, inquiry_made}
-use borrow.Author.Rules.{rules}
 use Rattle.lacrivosum.proofs.inquiries.lac_b_inquire.Goals as goal
 
 pub returns-then-state-lt-STATE_SIZE : goal.returns-then-state-lt-STATE_SIZE

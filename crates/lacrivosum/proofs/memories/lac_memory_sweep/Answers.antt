@@ -6,7 +6,6 @@ use Rattle.memory.specs.declared.Memory.{Memory}
 use Rattle.memory.specs.declared.Path.{Path}
 use Rattle.kept_memory.specs.KeptMemory.{start_on}
 use Rattle.lacrivosum.specs.MemoryCallLaws.{memory_short, memory_called}
-use borrow.Author.Rules.{rules}
 use Rattle.lacrivosum.proofs.memories.lac_memory_sweep.Goals as goal
 
 pub returns-then-state-lt-MEMORY_SIZE : goal.returns-then-state-lt-MEMORY_SIZE

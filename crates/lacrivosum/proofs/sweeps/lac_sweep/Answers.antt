@@ -2,7 +2,6 @@
 use mathlib.Core.Path.{refl}
 use native.Mathlib.Omega.{arith}
 use Rattle.lacrivosum.specs.FieldCallLaws.{short_state, short_row, plain_made}
-use borrow.Author.Rules.{rules}
 use Rattle.lacrivosum.proofs.sweeps.lac_sweep.Goals as goal
 
 pub returns-then-state-lt-STATE_SIZE : goal.returns-then-state-lt-STATE_SIZE

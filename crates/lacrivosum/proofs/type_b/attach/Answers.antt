@@ -1,6 +1,5 @@
 -- `lacrivosum::type_b::attach` meets its contract, by the laws `attach_unfit` and `attach_fit`. Assumes nothing.
 use Rattle.lacrivosum.specs.LibraryBLaws.{attach_unfit, attach_fit}
-use borrow.Author.Rules.{rules}
 use Rattle.lacrivosum.proofs.type_b.attach.Goals as goal
 
 pub returns-then-atqb-ne-ATQB_ROOM : goal.returns-then-atqb-ne-ATQB_ROOM

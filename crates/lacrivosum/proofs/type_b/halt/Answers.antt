@@ -1,6 +1,5 @@
 -- `lacrivosum::type_b::halt` meets its contract, by the laws `halt_unfit` and `halt_fit`. Assumes nothing.
 use Rattle.lacrivosum.specs.LibraryBLaws.{halt_unfit, halt_fit}
-use borrow.Author.Rules.{rules}
 use Rattle.lacrivosum.proofs.type_b.halt.Goals as goal
 
 pub returns-then-pupi-ne4 : goal.returns-then-pupi-ne4

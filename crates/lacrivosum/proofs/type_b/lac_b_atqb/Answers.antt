@@ -1,6 +1,5 @@
 -- `lacrivosum::type_b::lac_b_atqb` meets its contract, by that of `twelve`. Assumes nothing.
 use Rattle.lacrivosum.specs.LibraryBLaws.{atqb_short, atqb_no_room, atqb_given}
-use borrow.Author.Rules.{rules}
 use Rattle.lacrivosum.proofs.type_b.lac_b_atqb.Goals as goal
 
 pub returns-then-state-lt-STATE_SIZE : goal.returns-then-state-lt-STATE_SIZE

@@ -7,7 +7,6 @@ use Rattle.card_b.specs.declared.TakenB.{TakenB}
 use mathlib.Core.Path.{refl}
 use Rattle.lacrivosum.specs.LibraryB.{new_call}
 use Rattle.lacrivosum.specs.LibraryBLaws.{card_short, card_called, card_says_law, new_declined, refused_stays}
-use borrow.Author.Rules.{rules}
 use Rattle.lacrivosum.proofs.type_b.lac_b_card_new.Goals as goal
 
 pub returns-then-state-lt-STATE_SIZE : goal.returns-then-state-lt-STATE_SIZE

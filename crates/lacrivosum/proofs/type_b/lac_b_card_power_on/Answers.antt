@@ -8,7 +8,6 @@ use mathlib.Core.Path.{refl, ap, ◌∙◌}
 use Rattle.card_b.specs.CardB.{power_on}
 use Rattle.lacrivosum.specs.LibraryB.{silent}
 use Rattle.lacrivosum.specs.LibraryBLaws.{card_short, card_called, card_says_law, silent_declined, refused_stays}
-use borrow.Author.Rules.{rules}
 use Rattle.lacrivosum.proofs.type_b.lac_b_card_power_on.Goals as goal
 
 pub returns-then-state-lt-STATE_SIZE : goal.returns-then-state-lt-STATE_SIZE

@@ -7,7 +7,6 @@ use Rattle.card_b.specs.declared.CardB.{CardB}
 use Rattle.card_b.specs.declared.TakenB.{TakenB}
 use Rattle.card_b.specs.CallsB.{take_call, take_row}
 use Rattle.lacrivosum.specs.LibraryBLaws.{card_short, card_called, card_says_law, take_declined, refused_stays}
-use borrow.Author.Rules.{rules}
 use Rattle.lacrivosum.proofs.type_b.lac_b_card_take.Goals as goal
 
 pub returns-then-state-lt-STATE_SIZE : goal.returns-then-state-lt-STATE_SIZE

@@ -8,7 +8,6 @@ use Rattle.reader_b.specs.declared.TurnB.{TurnB}
 use Rattle.selection_b.specs.TypeB.{attrib_for}
 use Rattle.lacrivosum.specs.LibraryB.{attach_call}
 use Rattle.lacrivosum.specs.LibraryBLaws.{reader_short, reader_called, reader_says}
-use borrow.Author.Rules.{rules}
 use Rattle.lacrivosum.proofs.type_b.lac_b_reader_attach.Goals as goal
 
 pub returns-then-state-lt-STATE_SIZE : goal.returns-then-state-lt-STATE_SIZE

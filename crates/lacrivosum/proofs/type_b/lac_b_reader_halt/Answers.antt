@@ -8,7 +8,6 @@ use Rattle.reader_b.specs.declared.TurnB.{TurnB}
 use Rattle.selection_b.specs.TypeB.{hltb}
 use Rattle.lacrivosum.specs.LibraryB.{halt_call}
 use Rattle.lacrivosum.specs.LibraryBLaws.{reader_short, reader_called, reader_says}
-use borrow.Author.Rules.{rules}
 use Rattle.lacrivosum.proofs.type_b.lac_b_reader_halt.Goals as goal
 
 pub returns-then-state-lt-STATE_SIZE : goal.returns-then-state-lt-STATE_SIZE

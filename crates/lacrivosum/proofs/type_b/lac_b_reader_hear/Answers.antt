@@ -9,7 +9,6 @@ use Rattle.reader_b.specs.ReaderB.{next}
 use Rattle.lacrivosum.specs.LibraryB.{hear_call}
 use Rattle.lacrivosum.specs.LibraryBLaws.{hear_is}
 use Rattle.lacrivosum.specs.LibraryBLaws.{reader_short, reader_called, reader_says}
-use borrow.Author.Rules.{rules}
 use Rattle.lacrivosum.proofs.type_b.lac_b_reader_hear.Goals as goal
 
 pub returns-then-state-lt-STATE_SIZE : goal.returns-then-state-lt-STATE_SIZE

@@ -10,7 +10,6 @@ use Rattle.lacrivosum.specs.CardLibrary.{speaks}
 use Rattle.lacrivosum.specs.LibraryB.{request_call}
 use Rattle.lacrivosum.specs.LibraryBLaws.{request_is, request_row}
 use Rattle.lacrivosum.specs.LibraryBLaws.{reader_short, reader_called, reader_says}
-use borrow.Author.Rules.{rules}
 use Rattle.lacrivosum.proofs.type_b.lac_b_reader_request.Goals as goal
 
 pub returns-then-state-lt-STATE_SIZE : goal.returns-then-state-lt-STATE_SIZE

@@ -1,6 +1,5 @@
 -- `lacrivosum::type_b::new_card` meets its contract, by the laws `new_unmade` and `new_made`. Assumes nothing.
 use Rattle.lacrivosum.specs.LibraryBLaws.{no_pupi, no_application, no_protocol, new_unmade, new_made}
-use borrow.Author.Rules.{rules}
 use Rattle.lacrivosum.proofs.type_b.new_card.Goals as goal
 
 pub returns-then-pupi-ne4 : goal.returns-then-pupi-ne4

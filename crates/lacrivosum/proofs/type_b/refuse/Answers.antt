@@ -1,9 +1,7 @@
 -- `lacrivosum::type_b::refuse` meets its contract: the definition has the same tests, in the same order. Assumes nothing.
 use mathlib.Core.Path.{sym, ◌∙◌}
-use borrow.Author.Tests.{not-true, not-false}
 use Rattle.reader_b.specs.ReaderB.{is_ready}
 use Rattle.reader_b.specs.ReaderBLaws.{not_due, no_room, made}
-use borrow.Author.Rules.{rules}
 use Rattle.lacrivosum.proofs.type_b.refuse.Goals as goal
 
 pub returns-then-not-is_ready : goal.returns-then-not-is_ready

@@ -3,7 +3,6 @@ use mathlib.Core.Path.{refl, ap}
 use native.Mathlib.Omega.{arith}
 use Rattle.reader_link.specs.declared.LinkReader.{LinkReader}
 use Rattle.lacrivosum.specs.WakingLaws.{short_state, short_row, woken_made}
-use borrow.Author.Rules.{rules}
 use Rattle.lacrivosum.proofs.wakes.lac_wake.Goals as goal
 
 pub returns-then-state-lt-STATE_SIZE : goal.returns-then-state-lt-STATE_SIZE
