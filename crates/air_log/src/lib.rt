@@ -38,6 +38,7 @@ pub enum Kind {
 impl From<Kind> for u8 {
     ghost from_gives = { λ kind number. number ≡ kind_number kind };
 
+    // Kept: this is the conversion, by From.
     fn from(kind: Kind) -> u8 {
         match kind {
             Kind::Sent => 0,

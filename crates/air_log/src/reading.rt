@@ -58,6 +58,7 @@ pub fn is_apart(log: &[u8], start: usize, marks: usize, n: usize) -> bool
 }
 
 // Has a row bits, with zeros that fill its last byte?
+// Kept: the fact is of a lent row. A struct would have to hold the row and be built at each call, where the test stands once, in the caller.
 pub fn is_good_row(log: &[u8], start: usize, n: usize) -> bool
     requires { (n ≤ most_bits) × (start + row_size n ≤ length log.now) }
     ensures { result ≡ good_row log.now start n }
@@ -131,6 +132,7 @@ pub fn rows_size(kind: Kind, n: usize) -> usize
 }
 
 // The kind of a header whose first byte is a.
+// Kept: two bits of a byte are read, which are never another number: TryFrom would have an error that cannot come.
 fn kind_of(a: u8) -> Kind
     ensures { kind_number result ≡ kind_of a }
 {

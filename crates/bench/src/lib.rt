@@ -11,6 +11,7 @@ pub mod within;
 use std::alloc::{AllocError, Global};
 
 // A line that is being collected: its length so far, whether bytes had no room, and whether its line feed has come.
+// Kept: an overlong line keeps its length and what was collected: the theorems line_collected and line_overlong speak of all three.
 #[derive(Clone, Copy, Debug, PartialEq, Eq)]
 pub struct Line {
     pub length: usize,

@@ -7,6 +7,7 @@ use std::alloc::{AllocError, Global};
 use std::fmt;
 
 // A place in which nothing was written.
+// Kept: what stands in a place, and the number of no kind.
 const UNWRITTEN: u8 = 255;
 
 // The profile, and the places of the room.
@@ -21,6 +22,7 @@ pub struct Played {
 struct Places<'a>(&'a [u8]);
 
 impl fmt::Display for Places<'_> {
+    // Kept: this is the Display of a place.
     fn fmt<W: fmt::Write>(&self, f: &mut fmt::Formatter<W>) -> fmt::Result {
         if self.0.is_empty() {
             return f.write_str("-");

@@ -7,6 +7,7 @@ use std::io;
 use std::io::{BufRead, BufReader, Read};
 
 // Why a line has no answer. That memory ran out ends the program.
+// Kept: it is the error of a Result itself.
 #[derive(Debug, Drop)]
 pub enum LineError {
     NotUnderstood,

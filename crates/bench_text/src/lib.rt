@@ -42,6 +42,7 @@ impl fmt::Display for Row<'_> {
 }
 
 // The given text.
+// Kept: the lent bytes and the place in them: the clause Wrote speaks of both, and docs/RULES.md names the calls.
 pub fn put(out: &mut [u8], at: usize, text: &[u8]) -> usize
     ensures { Wrote out.old at text.now result out.new }
 {

@@ -141,6 +141,7 @@ impl Played {
     }
 
     // `reqb N [AFI]`, `wupb N [AFI]`
+    // Kept: it is a bit of the frame that is sent or heard, or a field of the reader, as the definitions have it, and picks no step.
     fn request(
         &mut self,
         alloc: Global,
@@ -205,6 +206,7 @@ impl Played {
     }
 
     // `field reqb N [AFI]`, `field wupb N [AFI]`: why it was refused, or a line for each slot as the list has it, and the cards.
+    // Kept: it is a bit of the frame that is sent or heard, or a field of the reader, as the definitions have it, and picks no step.
     fn inquire(
         &mut self,
         alloc: Global,

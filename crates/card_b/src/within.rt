@@ -43,6 +43,7 @@ pub fn is_undrawn(number: u8, row: &[u8]) -> bool
 }
 
 // Does a state take a request?
+// Kept: it is a bit of the frame that is sent or heard, or a field of the reader, as the definitions have it, and picks no step.
 fn heeds(s: StateB, wake: bool) -> bool
     ensures { result ≡ heeds s wake }
 {

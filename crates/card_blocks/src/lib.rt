@@ -136,6 +136,7 @@ fn joins(c: CardLink, n: bool, chained: bool, end: usize) -> CardStep
     }
 }
 
+// Kept: two numbers of two lent buffers, as the definitions of what an end hears take them.
 fn takes_i(c: CardLink, chained: bool, bytes: usize, room: usize) -> CardStep
     ensures { result ≡ card_takes_i c chained bytes room }
 {
@@ -146,6 +147,7 @@ fn takes_i(c: CardLink, chained: bool, bytes: usize, room: usize) -> CardStep
 }
 
 // The next I of its answer. An answer that ends before the last I ends before the next one too: 1, ahead of a sum that might not fit.
+// Kept: a tag and its memory and locks are lent by firmware apart (docs/PROMISES.md, tag), so no type holds both.
 fn next_i(c: CardLink, len: usize) -> CardStep
     requires { len < 2 ^ 63 }
     ensures { lent_for c len result ≡ lent_for c len (card_next c CardPhase.Answering len) }
@@ -281,6 +283,8 @@ pub fn asks(c: CardLink, v: u8) -> CardStep
 }
 
 // What a card does with a frame's bytes, none where it is silence or damaged. An accepted payload goes straight behind those joined.
+// Kept: its twin in reader_blocks differs in the link and in the rules that it calls: a trait over both would have to carry two contracts of other
+// definitions.
 pub fn hears(c: CardLink, bytes: &[u8], answer: &[u8], buffer: &mut [u8]) -> CardStep
     ensures value { result ≡ card_hears c bytes.now (length buffer.old) (length answer.now) }
     ensures buffer_after { buffer.new ≡ cond result.joins (overlay buffer.old c.joined (behind bytes.now)) buffer.old }

@@ -86,6 +86,7 @@ fn is_quiet(t: Told) -> bool
 }
 
 // The card takes the reader's frame, with the answer lent that its host gave last.
+// Kept: lent by the caller for one exchange each; the definitions of the exchange take them one by one.
 fn card_turn(
     y: LinkCard,
     answered: bool,
@@ -107,6 +108,7 @@ fn card_turn(
 fn heard_as<'a>(fate: u8, frame: &'a [u8], noise: &'a [u8]) -> &'a [u8]
     ensures { result.now ≡ heard_as (passage_of noise.now fate) frame.now }
 {
+    // Kept: a fate is a byte that the caller hands in, any of them: definition passage_of, and the calls of exchange and lossy, have it so.
     match fate {
         0 => frame,
         1 => &[],
@@ -214,6 +216,7 @@ fn advance(p: Progress, told: Told, h: Hosted, turn: LinkTurn) -> Progress
 
 // A round: the card takes what it hears of the reader's frame, which is at the front of row, its host acts if it owes an answer, and the reader
 // hears what comes of the card's frame. Its next frame is at the front of row then.
+// Kept: lent by the caller for one exchange each; the definitions of the exchange take them one by one.
 fn round(
     p: Progress,
     x: Fates,

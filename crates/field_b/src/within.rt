@@ -18,6 +18,7 @@ pub struct OneB {
 }
 
 // The cards after a frame, and the number of bits heard.
+// Kept: the number counts no elements of this array.
 #[derive(Clone, Copy)]
 pub struct TogetherB {
     pub cards: [Drawn; MOST_CARDS],
@@ -41,6 +42,8 @@ pub fn take_one(d: Drawn, frame: &[u8], heard: &mut [u8], bits: usize) -> OneB
 }
 
 // Each of the first n cards takes the frame, and the row in which all answers are heard grows from card to card.
+// Kept: no heap: a field is an array of 32 and a count in firmware's calls (docs/PROMISES.md: sweep, wake, inquire), and the definitions say `take
+// n cards`.
 pub fn take_all(start: [Drawn; MOST_CARDS], n: usize, frame: &[u8], heard: &mut [u8]) -> TogetherB
     requires { (n ≤ most_cards) × (answer_room_b ≤ length heard.old) }
     ensures value { result ≡ together start n frame.now }

@@ -50,6 +50,7 @@ pub fn level_tag(l: Level) -> u8
     }
 }
 
+// Kept: the numbers in the lent bytes are the C interface, and any byte is read: the definitions of the state name them.
 pub fn level_of(b: u8) -> Level
     ensures { result ≡ level_of b }
 {
@@ -60,6 +61,7 @@ pub fn level_of(b: u8) -> Level
     }
 }
 
+// Kept: the numbers in the lent bytes are the C interface, and any byte is read: the definitions of the state name them.
 pub fn size_tag(z: UidSize) -> u8
     ensures { result ≡ size_tag z }
 {
@@ -70,6 +72,7 @@ pub fn size_tag(z: UidSize) -> u8
     }
 }
 
+// Kept: the numbers in the lent bytes are the C interface, and any byte is read: the definitions of the state name them.
 pub fn size_of(b: u8) -> UidSize
     ensures { result ≡ size_of b }
 {
@@ -146,6 +149,7 @@ pub fn told_refuses(t: Told) -> bool
 }
 
 // What else a host is told: the event's number ..
+// Kept: the numbers in the lent bytes are the C interface, and any byte is read: the definitions of the state name them.
 pub fn told_event(t: Told) -> u8
     ensures { result ≡ told_event t }
 {

@@ -6,6 +6,7 @@ use card_b::{CardB, StateB};
 use refusal::Refusal;
 
 // Which state a card is in, as a byte.
+// Kept: the numbers in the lent bytes are the C interface, and any byte is read: the definitions of the state name them.
 pub fn state_tag(s: StateB) -> u8
     ensures { result ≡ state_tag s }
 {
@@ -28,6 +29,7 @@ fn state_slot(s: StateB) -> u8
     }
 }
 
+// Kept: the numbers in the lent bytes are the C interface, and any byte is read: the definitions of the state name them.
 fn state_in(t: u8, n: u8) -> StateB
     ensures { result ≡ state_in t n }
 {

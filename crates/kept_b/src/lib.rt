@@ -14,6 +14,7 @@ use selection_b::Held;
 // The room for an ATQB without CRC_B.
 pub const ATQB_ROOM: usize = 12;
 
+// Kept: the numbers in the lent bytes are the C interface, and any byte is read: the definitions of the state name them.
 fn phase_tag(p: PhaseB) -> u8
     ensures { result ≡ phase_tag p }
 {
@@ -26,6 +27,7 @@ fn phase_tag(p: PhaseB) -> u8
     }
 }
 
+// Kept: the numbers in the lent bytes are the C interface, and any byte is read: the definitions of the state name them.
 fn phase_of(t: u8) -> PhaseB
     ensures { result ≡ phase_of t }
 {
@@ -55,6 +57,7 @@ pub fn reader_of(b: &[u8]) -> ReaderB
     }
 }
 
+// Kept: the numbers in the lent bytes are the C interface, and any byte is read: the definitions of the state name them.
 fn held_number(k: Held) -> u8
     ensures { result ≡ held_number k }
 {
@@ -92,6 +95,7 @@ pub fn answer_refuses(a: AnswerB) -> bool
     matches!(a, AnswerB::Declines(_))
 }
 
+// Kept: the numbers in the lent bytes are the C interface, and any byte is read: the definitions of the state name them.
 fn answer_event(a: AnswerB) -> u8
     ensures { result ≡ answer_event a }
 {

@@ -11,6 +11,7 @@ ghost use Rattle.kept_card.specs.KeptCard.{state_tag, state_level, state_index, 
 use card::{Card, CardState};
 
 // Which state a card is in, as a byte.
+// Kept: the numbers in the lent bytes are the C interface, and any byte is read: the definitions of the state name them.
 pub fn state_tag(s: CardState) -> u8
     ensures { result ≡ state_tag s }
 {
@@ -44,10 +45,12 @@ fn state_index(s: CardState) -> u8
     }
 }
 
+// Kept: the numbers in the lent bytes are the C interface, and any byte is read: the definitions of the state name them.
 fn state_in(t: u8, l: u8, i: u8) -> CardState
     ensures { result ≡ state_in t l i }
 {
     let level = kept::level_of(l);
+    // Kept: the numbers in the lent bytes are the C interface, and any byte is read: the definitions of the state name them.
     match t {
         0 => CardState::Off,
         1 => CardState::Idle,

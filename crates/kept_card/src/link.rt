@@ -17,6 +17,7 @@ fn number_in(b: u8) -> bool
     b != 1
 }
 
+// Kept: the numbers in the lent bytes are the C interface, and any byte is read: the definitions of the state name them.
 fn phase_tag(p: CardPhase) -> u8
     ensures { result ≡ phase_tag p }
 {
@@ -37,6 +38,7 @@ fn phase_wtx(p: CardPhase) -> u8
     }
 }
 
+// Kept: the numbers in the lent bytes are the C interface, and any byte is read: the definitions of the state name them.
 fn phase_in(t: u8, w: u8) -> CardPhase
     ensures { result ≡ phase_in t w }
 {
@@ -48,6 +50,7 @@ fn phase_in(t: u8, w: u8) -> CardPhase
     }
 }
 
+// Kept: the numbers in the lent bytes are the C interface, and any byte is read: the definitions of the state name them.
 fn block_tag(b: Block) -> u8
     ensures { result ≡ block_tag b }
 {
@@ -81,6 +84,7 @@ fn block_second(b: Block) -> u8
     }
 }
 
+// Kept: the numbers in the lent bytes are the C interface, and any byte is read: the definitions of the state name them.
 fn block_in(t: u8, x: u8, y: u8) -> Block
     ensures { result ≡ block_in t x y }
 {

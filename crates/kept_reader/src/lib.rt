@@ -61,6 +61,7 @@ fn answer_refuses(a: LinkAnswer) -> bool
 }
 
 // The number of the event that a selection's answer tells of, 0 for none.
+// Kept: the numbers in the lent bytes are the C interface, and any byte is read: the definitions of the state name them.
 pub fn selection_event(a: Answer) -> u8
     ensures { result ≡ selection_event a }
 {

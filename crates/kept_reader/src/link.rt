@@ -6,6 +6,7 @@ ghost use Rattle.kept_reader.specs.KeptReader.{Sized, turn_tag, turn_of, link_ph
 use reader_blocks::{ReaderLink, ReaderPhase, Turn};
 use reader_link::Link;
 
+// Kept: the numbers in the lent bytes are the C interface, and any byte is read: the definitions of the state name them.
 fn turn_tag(t: Turn) -> u8
     ensures { result ≡ turn_tag t }
 {
@@ -16,6 +17,7 @@ fn turn_tag(t: Turn) -> u8
     }
 }
 
+// Kept: the numbers in the lent bytes are the C interface, and any byte is read: the definitions of the state name them.
 fn turn_of(b: u8) -> Turn
     ensures { result ≡ turn_of b }
 {
@@ -26,6 +28,7 @@ fn turn_of(b: u8) -> Turn
     }
 }
 
+// Kept: the numbers in the lent bytes are the C interface, and any byte is read: the definitions of the state name them.
 fn link_phase_tag(p: ReaderPhase) -> u8
     ensures { result ≡ link_phase_tag p }
 {
@@ -47,6 +50,7 @@ fn link_phase_turn(p: ReaderPhase) -> u8
     }
 }
 
+// Kept: the numbers in the lent bytes are the C interface, and any byte is read: the definitions of the state name them.
 fn link_phase_of(t: u8, u: u8) -> ReaderPhase
     ensures { result ≡ link_phase_of t u }
 {
@@ -106,6 +110,7 @@ fn linked_of(b: &[u8]) -> ReaderLink
 fn link_in(t: u8, own: u8, l: ReaderLink) -> Link
     ensures { result ≡ link_in t own l }
 {
+    // Kept: the numbers in the lent bytes are the C interface, and any byte is read: the definitions of the state name them.
     match t {
         0 => Link::NoLink,
         1 => Link::RatsSent(own),

@@ -4,6 +4,7 @@ ghost use Rattle.kept_reader.specs.KeptReader.{phase_tag, phase_level, phase_of,
 
 use reader::{Phase, Reader};
 
+// Kept: the numbers in the lent bytes are the C interface, and any byte is read: the definitions of the state name them.
 fn phase_tag(p: Phase) -> u8
     ensures { result ≡ phase_tag p }
 {
@@ -31,6 +32,7 @@ fn phase_level(p: Phase) -> u8
     }
 }
 
+// Kept: the numbers in the lent bytes are the C interface, and any byte is read: the definitions of the state name them.
 fn phase_of(t: u8, l: u8) -> Phase
     ensures { result ≡ phase_of t l }
 {

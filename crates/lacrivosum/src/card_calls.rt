@@ -58,6 +58,7 @@ pub extern "C" fn lac_card_new(state: &mut [u8], uid: &[u8], blocks: u8, index: 
 }
 
 // Power comes: a card that was Off is Idle. 1.
+// Kept: C calls it by this name.
 #[unsafe(no_mangle)]
 pub extern "C" fn lac_card_power_on(state: &mut [u8]) -> usize
     ensures state_value { card_done state.old [] (quiet (powered_on (link_card_of state.old))) ≡ done result state.new [] }
@@ -72,6 +73,7 @@ pub extern "C" fn lac_card_power_on(state: &mut [u8]) -> usize
 }
 
 // Power is lost: Off from anywhere. 1.
+// Kept: C calls it by this name.
 #[unsafe(no_mangle)]
 pub extern "C" fn lac_card_power_off(state: &mut [u8]) -> usize
     ensures state_value { card_done state.old [] (quiet (powered_off (link_card_of state.old))) ≡ done result state.new [] }
@@ -107,6 +109,7 @@ pub extern "C" fn lac_card_take(
 }
 
 // The host's answer to the message that was delivered: its first block. 11: none is owed; 1; 10: over 4,096 bytes.
+// Kept: C calls it by this name.
 #[unsafe(no_mangle)]
 pub extern "C" fn lac_card_reply(state: &mut [u8], answer: &[u8], out: &mut [u8]) -> usize
     ensures out_value { card_done state.old out.old (reply_call (link_card_of state.old) answer.now (length out.old)) ≡ done result state.new out.new }
@@ -121,6 +124,7 @@ pub extern "C" fn lac_card_reply(state: &mut [u8], answer: &[u8], out: &mut [u8]
 }
 
 // The host asks for more time before its answer. 11: none is owed; 1; 6: WTXM is not 1 to 59.
+// Kept: C calls it by this name.
 #[unsafe(no_mangle)]
 pub extern "C" fn lac_card_ask(state: &mut [u8], wtxm: u8, out: &mut [u8]) -> usize
     ensures out_value { card_done state.old out.old (ask_call (link_card_of state.old) wtxm (length out.old)) ≡ done result state.new out.new }

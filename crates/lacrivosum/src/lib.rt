@@ -45,6 +45,7 @@ pub extern "C" fn lac_reader_hear(
 }
 
 // Begins the selection of one card. 11: the reader is not new; 1.
+// Kept: C calls it by this name.
 #[unsafe(no_mangle)]
 pub extern "C" fn lac_reader_select(state: &mut [u8], out: &mut [u8]) -> usize
     ensures out_value { reader_done state.old out.old (start_call false (reader_of state.old) (length out.old)) ≡ done result state.new out.new }
@@ -59,6 +60,7 @@ pub extern "C" fn lac_reader_select(state: &mut [u8], out: &mut [u8]) -> usize
 }
 
 // T-03: begins the selection of the one card with this UID. 11: the reader is not new; 1; 6: the bytes are no valid UID.
+// Kept: C calls it by this name.
 #[unsafe(no_mangle)]
 pub extern "C" fn lac_reader_wake(state: &mut [u8], uid: &[u8], out: &mut [u8]) -> usize
     ensures out_value { reader_done state.old out.old (wake_call (reader_of state.old) uid.now (length out.old)) ≡ done result state.new out.new }
@@ -73,6 +75,7 @@ pub extern "C" fn lac_reader_wake(state: &mut [u8], uid: &[u8], out: &mut [u8]) 
 }
 
 // Begins the reader's part of a sweep. 11: the reader is not new; 1.
+// Kept: C calls it by this name.
 #[unsafe(no_mangle)]
 pub extern "C" fn lac_reader_sweep(state: &mut [u8], out: &mut [u8]) -> usize
     ensures out_value { reader_done state.old out.old (start_call true (reader_of state.old) (length out.old)) ≡ done result state.new out.new }
@@ -87,6 +90,7 @@ pub extern "C" fn lac_reader_sweep(state: &mut [u8], out: &mut [u8]) -> usize
 }
 
 // Sends RATS with the reader's own size index. 11: no card is selected, or it has no blocks; 1; 6: the index is over 8.
+// Kept: C calls it by this name.
 #[unsafe(no_mangle)]
 pub extern "C" fn lac_reader_rats(state: &mut [u8], index: u8, out: &mut [u8]) -> usize
     ensures out_value { reader_done state.old out.old (rats_call (reader_of state.old) index (length out.old)) ≡ done result state.new out.new }
@@ -101,6 +105,7 @@ pub extern "C" fn lac_reader_rats(state: &mut [u8], index: u8, out: &mut [u8]) -
 }
 
 // Sends a message's first block. 11: the reader is not between messages; 1; 10: over 4,096 bytes.
+// Kept: C calls it by this name.
 #[unsafe(no_mangle)]
 pub extern "C" fn lac_reader_send(state: &mut [u8], message: &[u8], out: &mut [u8]) -> usize
     ensures out_value { reader_done state.old out.old (send_call (reader_of state.old) message.now (length out.old)) ≡ done result state.new out.new }
@@ -115,6 +120,7 @@ pub extern "C" fn lac_reader_send(state: &mut [u8], message: &[u8], out: &mut [u
 }
 
 // Sends DESELECT. 11: the reader is not between messages; 1.
+// Kept: C calls it by this name.
 #[unsafe(no_mangle)]
 pub extern "C" fn lac_reader_deselect(state: &mut [u8], out: &mut [u8]) -> usize
     ensures out_value { reader_done state.old out.old (deselect_call (reader_of state.old) (length out.old)) ≡ done result state.new out.new }

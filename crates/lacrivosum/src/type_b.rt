@@ -213,6 +213,7 @@ pub extern "C" fn lac_b_card_new(
 }
 
 // Power comes: a card that was Off is Idle. 1.
+// Kept: C calls it by this name.
 #[unsafe(no_mangle)]
 pub extern "C" fn lac_b_card_power_on(state: &mut [u8]) -> usize
     ensures state_value { card_bdone state.old [] (silent (power_on (card_in state.old))) [] ≡ done result state.new [] }
@@ -227,6 +228,7 @@ pub extern "C" fn lac_b_card_power_on(state: &mut [u8]) -> usize
 }
 
 // Power is lost: Off from anywhere. 1.
+// Kept: C calls it by this name.
 #[unsafe(no_mangle)]
 pub extern "C" fn lac_b_card_power_off(state: &mut [u8]) -> usize
     ensures state_value { card_bdone state.old [] (silent (power_off (card_in state.old))) [] ≡ done result state.new [] }

@@ -65,6 +65,7 @@ pub fn is_awaiting(p: PhaseB) -> bool
 }
 
 // REQB, or WUPB where wake, with N slots.
+// Kept: it is a bit of the frame that is sent or heard, or a field of the reader, as the definitions have it, and picks no step.
 #[tactic(auto, using(std::proofs::lemmas::Bool::Decides::nat_tests), unfolding(crate::specs::ReaderB::requests, crate::specs::ReaderB::call_with))]
 pub fn request(r: ReaderB, wake: bool, n: u8, afi: u8, out: &mut [u8]) -> TurnB
     ensures value { result ≡ call_with (is_ready r.phase) r (length out.old) (requests r wake n afi) }

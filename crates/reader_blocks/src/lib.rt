@@ -144,6 +144,7 @@ fn sends_again(l: ReaderLink, t: Turn, chained: bool) -> ReaderStep
 }
 
 // The next I of its message. A message that ends before the last I ends before the next one too: 1, ahead of a sum that might not fit.
+// Kept: a tag and its memory and locks are lent by firmware apart (docs/PROMISES.md, tag), so no type holds both.
 fn next_i(l: ReaderLink, len: usize) -> ReaderStep
     requires { len < 2 ^ 63 }
     ensures { lent_for l len result ≡ lent_for l len (ack_own l Turn.Sending len) }
@@ -221,6 +222,7 @@ fn awaits_i(l: ReaderLink, t: Turn, n: bool) -> bool
     n == l.number && last_is_out(t)
 }
 
+// Kept: two numbers of two lent buffers, as the definitions of what an end hears take them.
 fn takes_i(l: ReaderLink, t: Turn, n: bool, chained: bool, bytes: usize, room: usize) -> ReaderStep
     ensures { result ≡ reader_takes_i l t n chained bytes room }
 {
@@ -361,6 +363,8 @@ pub fn parts(l: ReaderLink) -> ReaderStep
 }
 
 // What a reader does with a frame's bytes, none where it is silence or damaged. An accepted payload goes straight behind those joined.
+// Kept: its twin in card_blocks differs in the link and in the rules that it calls: a trait over both would have to carry two contracts of other
+// definitions.
 pub fn hears(l: ReaderLink, bytes: &[u8], message: &[u8], buffer: &mut [u8]) -> ReaderStep
     ensures value { result ≡ reader_hears l bytes.now (length buffer.old) (length message.now) }
     ensures buffer_after { buffer.new ≡ cond result.joins (overlay buffer.old l.joined (behind bytes.now)) buffer.old }

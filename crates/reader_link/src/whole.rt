@@ -240,6 +240,7 @@ fn is_new(x: LinkReader) -> bool
     matches!(x.link, Link::NoLink) && reader::within::is_new(x.reader.phase)
 }
 
+// Kept: it is a bit of the frame that is sent or heard, or a field of the reader, as the definitions have it, and picks no step.
 fn start(sweeps: bool, x: LinkReader, out: &mut [u8]) -> LinkTurn
     ensures value { result ≡ (start_call sweeps x (length out.old)).turn }
     ensures out_after { out.new ≡ overlay out.old 0 (start_call sweeps x (length out.old)).sent }

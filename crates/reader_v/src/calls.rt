@@ -6,6 +6,7 @@ use crate::{PhaseV, ReaderV, TurnV, within};
 use sent_v::Mode;
 
 // One round of an inventory. 6: not 1 or 16 slots, or a mask of over 64 or 60 bits. asks: with an AFI.
+// Kept: the public calls take them one by one (docs/PROMISES.md), by value, and the definitions as well.
 pub fn inventory(
     r: ReaderV,
     slots: u8,
@@ -24,6 +25,7 @@ pub fn inventory(
 }
 
 // A sweep: rounds of 16 slots, from an empty mask on.
+// Kept: it is a bit of the frame that is sent or heard, or a field of the reader, as the definitions have it, and picks no step.
 pub fn sweep(r: ReaderV, asks: bool, afi: u8, out: &mut [u8]) -> TurnV
     ensures { Called r (sweep_call asks afi) out.old result out.new }
 {

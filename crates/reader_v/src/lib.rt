@@ -53,6 +53,7 @@ pub enum AnswerR {
 }
 
 // bits: of the frame that goes out, at the front of the lent row. dsfid, uid: of the one tag that a slot held, else zeros.
+// Kept: the number counts no elements of this array.
 #[derive(Clone, Copy)]
 pub struct TurnV {
     pub reader: ReaderV,

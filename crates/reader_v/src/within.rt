@@ -92,6 +92,7 @@ fn is_more(k: Held) -> bool
     matches!(k, Held::More)
 }
 
+// Kept: it is a bit of the frame that is sent or heard, or a field of the reader, as the definitions have it, and picks no step.
 #[tactic(auto, using(std::proofs::lemmas::Bool::Decides::nat_tests), unfolding(crate::specs::ReaderV::met_after))]
 fn met_after(sweeps: bool, r: ReaderV, k: Held) -> [u8; 240]
     ensures { result ≡ met_after sweeps r k }
@@ -152,6 +153,7 @@ fn at_round(p: PhaseV, k: Round, m: [u8; 240]) -> ReaderV
 }
 
 // A round is finished.
+// Kept: it is a bit of the frame that is sent or heard, or a field of the reader, as the definitions have it, and picks no step.
 #[tactic(auto, using(std::proofs::lemmas::Bool::Decides::nat_tests), unfolding(crate::specs::ReaderV::finished))]
 fn finished(sweeps: bool, r: ReaderV, k: Held, s: SlotV, m: [u8; 240]) -> TurnV
     ensures { result ≡ finished sweeps r k s m }
@@ -166,6 +168,7 @@ fn finished(sweeps: bool, r: ReaderV, k: Held, s: SlotV, m: [u8; 240]) -> TurnV
 }
 
 // What a slot held is told.
+// Kept: it is a bit of the frame that is sent or heard, or a field of the reader, as the definitions have it, and picks no step.
 #[tactic(auto, using(std::proofs::lemmas::Bool::Decides::nat_tests), unfolding(crate::specs::ReaderV::told))]
 fn told(sweeps: bool, r: ReaderV, k: Held, s: SlotV) -> TurnV
     ensures { result ≡ told sweeps r k s }
@@ -178,6 +181,7 @@ fn told(sweeps: bool, r: ReaderV, k: Held, s: SlotV) -> TurnV
     }
 }
 
+// Kept: it is a bit of the frame that is sent or heard, or a field of the reader, as the definitions have it, and picks no step.
 fn turn_of(sweeps: bool, r: ReaderV) -> Turn
     ensures { result ≡ turn_of sweeps r }
 {
@@ -191,6 +195,7 @@ fn turn_of(sweeps: bool, r: ReaderV) -> Turn
     }
 }
 
+// Kept: it is a bit of the frame that is sent or heard, or a field of the reader, as the definitions have it, and picks no step.
 #[tactic(auto, using(std::proofs::lemmas::Bool::Decides::nat_tests))]
 fn is_deep(sweeps: bool, len: u8) -> bool
     ensures { result ≡ is_deep sweeps len }
@@ -198,6 +203,7 @@ fn is_deep(sweeps: bool, len: u8) -> bool
     sweeps && 60 <= len
 }
 
+// Kept: it is a bit of the frame that is sent or heard, or a field of the reader, as the definitions have it, and picks no step.
 #[tactic(auto, unfolding(crate::specs::ReaderV::hear_slot))]
 fn hear_slot(sweeps: bool, r: ReaderV, row: &[u8]) -> TurnV
     ensures { result ≡ hear_slot sweeps r row.now }
@@ -380,6 +386,7 @@ pub fn send_request(
 pub fn is_round(slots: u8, len: u8) -> bool
     ensures { result ≡ is_round slots len }
 {
+    // Kept: the number of slots is what firmware hands in, any byte: definition is_round.
     match slots {
         1 => len <= 64,
         16 => len <= 60,
@@ -394,6 +401,7 @@ pub fn is_count(count: u16) -> bool
     matches!(count, 1..=256)
 }
 
+// Kept: no comparison: a count as the frame has it, one less.
 #[tactic(auto, unfolding(crate::specs::CallsV::less_one))]
 pub fn less_one(count: u16) -> u8
     ensures { result ≡ less_one count }
@@ -412,6 +420,7 @@ pub fn is_filling(count: u16, n: usize) -> bool
     n % c == 0 && matches!(n / c, 1..=32)
 }
 
+// Kept: it is a bit of the frame that is sent or heard, or a field of the reader, as the definitions have it, and picks no step.
 pub fn round_for(one: bool, asks: bool, afi: u8, len: u8, mask: [u8; 8]) -> Round
     ensures { result ≡ round_for one asks afi len mask }
 {

@@ -81,6 +81,7 @@ fn is_checked(five: [u8; 5]) -> bool
 
 // The first byte of the level, from 0, that is whole in the answer and has no collided data bit but wrong parity; 5 where none is so. k of the
 // level's bits were sent.
+// Kept: how many bits of a level are known is a field of the reader, any byte; the test stands once, where the answer is read.
 fn first_wrong(k: u8, w: [u8; 45]) -> usize
     requires { k < 40 }
     ensures { result ≡ rest_place k w }

@@ -12,6 +12,7 @@ pub fn is_slots(n: u8) -> bool
 }
 
 // The code of N in PARAM.
+// Kept: N and its code are both numbers, and any N is told: definition code_of.
 #[tactic(auto, using(std::proofs::lemmas::Bool::Decides::nat_tests), unfolding(crate::specs::TypeB::code_of))]
 fn code_of(n: u8) -> u8
     ensures { result ≡ code_of n }
@@ -25,6 +26,7 @@ fn code_of(n: u8) -> u8
     }
 }
 
+// Kept: it is a bit of the frame that is sent or heard, or a field of the reader, as the definitions have it, and picks no step.
 #[tactic(auto, using(crate::specs::SlotsLaws::code_most), unfolding(crate::specs::TypeB::param))]
 fn param(wake: bool, n: u8) -> u8
     ensures { result ≡ param wake n }
@@ -51,6 +53,7 @@ pub fn three_bytes(a: u8, b: u8, d: u8) -> [u8; 40]
 }
 
 // REQB, or WUPB where wake.
+// Kept: it is a bit of the frame that is sent or heard, or a field of the reader, as the definitions have it, and picks no step.
 #[tactic(auto, unfolding(crate::specs::TypeB::request))]
 pub fn request(wake: bool, n: u8, afi: u8) -> [u8; 40]
     ensures { result ≡ request wake n afi }

@@ -7,6 +7,7 @@ ghost use Rattle.selection_b.specs.TakenB.{slots_of, request_read, admits, is_ma
 use crate::Request;
 
 // N of a code in PARAM; 0 for a code that is none.
+// Kept: N and its code are both numbers, and any code is read: definition slots_of.
 #[tactic(auto, using(std::proofs::lemmas::Bool::Decides::nat_tests), unfolding(crate::specs::TakenB::slots_of))]
 fn slots_of(code: u8) -> u8
     ensures { result ≡ slots_of code }

@@ -25,6 +25,7 @@ fn put_parts(a: &[u8], b: &[u8], d: &[u8], out: &mut [u8]) -> usize
 // ---- masks
 
 // The low len bits of a mask, and zeros above them, as bits.
+// Kept: the public calls take them one by one (docs/PROMISES.md), by value, and the definitions as well.
 fn cut_bits(mask: [u8; 8], len: usize) -> [u8; 64]
     requires { len ≤ 64 }
     ensures { result ≡ fill 64 (take len (air_bits mask)) }
@@ -61,6 +62,7 @@ pub fn grown_mask(mask: [u8; 8], len: usize, slot: u8) -> [u8; 8]
 
 // ---- requests
 
+// Kept: it is a bit of the frame that is sent or heard, or a field of the reader, as the definitions have it, and picks no step.
 fn round_flags(one: bool, asks: bool) -> u8
     ensures { result ≡ round_flags one asks }
 {
@@ -72,6 +74,7 @@ fn round_flags(one: bool, asks: bool) -> u8
     }
 }
 
+// Kept: it is a bit of the frame that is sent or heard, or a field of the reader, as the definitions have it, and picks no step.
 fn round_length(asks: bool) -> usize
     ensures value { result ≡ round_length asks }
     ensures upper_bound { result ≤ 3 }
@@ -99,6 +102,7 @@ fn head_flags(m: Mode, option: bool) -> u8
     if option { f + 0x40 } else { f }
 }
 
+// Kept: three bits of the flags byte, which definition mode_flags names; they are no conversion of a mode.
 fn mode_flags(m: Mode) -> u8
     ensures value { result ≡ mode_flags m }
     ensures upper_bound { result ≤ 0x22 }

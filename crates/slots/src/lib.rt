@@ -25,6 +25,7 @@ pub struct Inquired {
 }
 
 // Declined before a frame is sent.
+// Kept: its twin in wake makes another answer; two values put together are no plainer as one function.
 fn refused(r: ReaderB, cards: [Drawn; MOST_CARDS], e: Refusal) -> Inquired
     ensures { result ≡ refused r cards e }
 {

@@ -27,6 +27,7 @@ pub struct RowInquired {
 // REQB, or WUPB where wake, with n slots and then the marker of each other slot, over the lent row, which is the field. What it answers, what becomes of
 // the cards and what stands in the list is what `slots::inquire` says of them as values. Declined, with all unchanged: 11, the reader is not ready; 1, the
 // list has less than 208 bytes; 6, the row has more cards than the limit, or N, a slot number or the field is not one that a request takes.
+// Kept: the public calls take them one by one (docs/PROMISES.md), by value, and the definitions as well.
 pub fn inquire_row(
     r: ReaderB,
     wake: bool,

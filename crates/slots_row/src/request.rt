@@ -35,6 +35,7 @@ pub fn no_cards() -> [Drawn; MOST_CARDS]
 }
 
 // The request over the first cards of an array.
+// Kept: the public calls take them one by one (docs/PROMISES.md), by value, and the definitions as well.
 pub fn make(k: Request, cards: [Drawn; MOST_CARDS], count: usize, list: &mut [u8]) -> Inquired
     ensures promises { Promises k cards count list.old result list.new }
     ensures cards_len { length result.cards ≡ most_cards }

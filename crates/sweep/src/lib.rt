@@ -22,6 +22,7 @@ pub struct Start {
 
 // After a sweep: the reader and its last answer, Finishes or why the sweep was declined; the cards; how many frames the reader sent, how many
 // bytes of the log are written, and how many UIDs stand in the list.
+// Kept: the number counts no elements of this array.
 #[derive(Clone, Copy)]
 pub struct Swept {
     pub reader: Reader,

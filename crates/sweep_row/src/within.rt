@@ -93,6 +93,7 @@ pub fn over<H: Hears>(start: Start, cards: &mut [Card], log: &mut [u8], list: &m
     ensures { Called H.remembers start cards.old (length cards.old) log.old list.old (swept_row result cards.new) log.new list.new }
 {
     let mut p = opening::<H>(start, cards.len(), log, list);
+    // Kept: a card is taken in each turn, many times over the row: the place is the state's own.
     while p.going {
         let t = turn::<H>(p, cards[p.at], log, list);
         cards[p.at] = t.card;
@@ -126,6 +127,8 @@ impl ArraySwept {
 }
 
 // The first n cards of the array are lent as the row; the others are unchanged.
+// Kept: no heap: a field is an array of 32 and a count in firmware's calls (docs/PROMISES.md: sweep, wake, inquire), and the definitions say `take
+// n cards`.
 pub fn sweep_array(
     start: Start,
     mut cards: [Card; MOST_CARDS],
@@ -141,6 +144,8 @@ pub fn sweep_array(
 }
 
 // The plain sweep's answer, by the lent row. An array holds no row of more cards than the limit, which the plain sweep declines.
+// Kept: no heap: a field is an array of 32 and a count in firmware's calls (docs/PROMISES.md: sweep, wake, inquire), and the definitions say `take
+// n cards`.
 pub fn sweep_by_row(
     start: Start,
     cards: [Card; MOST_CARDS],

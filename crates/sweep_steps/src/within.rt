@@ -47,6 +47,7 @@ pub struct Exchanged {
 
 // How far a sweep is: the reader's turn and path (of the plain sweep it is empty), the cards, the bytes of log so far, the frames sent and the UIDs
 // found.
+// Kept: the number counts no elements of this array.
 #[derive(Clone, Copy)]
 pub struct Progress {
     pub memory: Memory,
@@ -57,6 +58,7 @@ pub struct Progress {
 }
 
 // The records of a reader frame, with a tick, and of what was heard after it, with the next. The answer is their number of bytes.
+// Kept: a tick of the log that the loop counts; the bound is the definition's, and each of the three takes it from the loop.
 pub fn put_exchange(log: &mut [u8], at: usize, tick: usize, frame: &[u8], heard: &[u8]) -> usize
     requires { (clean frame.now ≡ true) × (length frame.now ≤ most_bits) × (length heard.now ≤ most_bits) × (at + exchange_size (sent_heard frame.now heard.now) ≤ length log.old) × (tick < tick_bound) }
     ensures value { result ≡ exchange_size (sent_heard frame.now heard.now) }
@@ -68,6 +70,8 @@ pub fn put_exchange(log: &mut [u8], at: usize, tick: usize, frame: &[u8], heard:
 }
 
 // The reader's frame, taken by the first n cards, and its records and those of what was heard in the log.
+// Kept: no heap: a field is an array of 32 and a count in firmware's calls (docs/PROMISES.md: sweep, wake, inquire), and the definitions say `take
+// n cards`.
 pub fn air(
     r: Reader,
     cards: [Card; MOST_CARDS],
@@ -96,6 +100,8 @@ pub fn air(
 }
 
 // The reader's frame on the air, and what the reader does with what it heard.
+// Kept: no heap: a field is an array of 32 and a count in firmware's calls (docs/PROMISES.md: sweep, wake, inquire), and the definitions say `take
+// n cards`.
 fn exchange<H: Hears>(
     r: Reader,
     path: Path,
@@ -178,6 +184,8 @@ fn goes_on(p: Progress) -> bool
 
 // A whole sweep over the first n cards, of the reader that hears as H does, the tick of its first record start. It is called where log and list have
 // room for what it writes.
+// Kept: no heap: a field is an array of 32 and a count in firmware's calls (docs/PROMISES.md: sweep, wake, inquire), and the definitions say `take
+// n cards`.
 pub fn run<H: Hears>(
     cards: [Card; MOST_CARDS],
     n: usize,
@@ -197,6 +205,7 @@ pub fn run<H: Hears>(
         frames: 0,
         found: 0,
     };
+    // Kept: no index is counted: the loop ends with the reader, and its bound is the definition's.
     while goes_on(p) {
         p = step::<H>(p, n, start, log, list);
     }

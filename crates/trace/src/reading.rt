@@ -20,6 +20,7 @@ pub struct Heard {
 }
 
 // The bits of a row that starts at a byte of the log, at the front of out.
+// Kept: the fact is of a lent row. A struct would have to hold the row and be built at each call, where the test stands once, in the caller.
 fn put_bits(log: &[u8], start: usize, n: usize, out: &mut [u8])
     requires { (n ≤ length (bits_from log.now start)) × (n ≤ length out.old) }
     ensures { out.new ≡ overlay out.old 0 (row_at log.now start n) }

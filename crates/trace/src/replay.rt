@@ -39,6 +39,7 @@ fn heard_as(log: &[u8], stamp: usize, at: usize, heard: &[u8]) -> Result<usize, 
 }
 
 // An exchange held to the two records at a place.
+// Kept: no comparison of two values of a type: two records against a place of the log.
 fn compare(
     log: &[u8],
     stamp: usize,
@@ -55,6 +56,8 @@ fn compare(
 }
 
 // The reader's frame, taken by the first n cards, and what it does with what it heard.
+// Kept: no heap: a field is an array of 32 and a count in firmware's calls (docs/PROMISES.md: sweep, wake, inquire), and the definitions say `take
+// n cards`.
 fn play(log: &[u8], stamp: usize, at: usize, t: Turn, cards: [Card; MOST_CARDS], n: usize) -> Played
     requires { n ≤ most_cards }
     ensures { result ≡ played stamp log.now at t cards n }
@@ -106,6 +109,8 @@ fn verdict(i: usize, p: Played, size: usize) -> Verdict
 }
 
 // The first record in which the log differs from the plain sweep over the first n cards.
+// Kept: no heap: a field is an array of 32 and a count in firmware's calls (docs/PROMISES.md: sweep, wake, inquire), and the definitions say `take
+// n cards`.
 pub fn replay(log: &[u8], stamp: usize, cards: [Card; MOST_CARDS], n: usize) -> Verdict
     requires { n ≤ most_cards }
     ensures { result ≡ differs stamp log.now 0 (sweep (take n cards)).exchanges 0 }
@@ -113,6 +118,7 @@ pub fn replay(log: &[u8], stamp: usize, cards: [Card; MOST_CARDS], n: usize) -> 
     let first = reader::within::sends(reader::within::blank(Phase::ReqaSent, true));
     let mut p = play(log, stamp, 0, first, cards, n);
     let mut frames: usize = 1;
+    // Kept: no index is counted: the loop ends with the reader, and its bound is the definition's.
     while goes_on(p, frames) {
         p = play(log, stamp, next_place(p.compared), p.turn, p.cards, n);
         frames += 1;

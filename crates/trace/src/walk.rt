@@ -199,6 +199,7 @@ pub fn walk(log: &[u8], stamp: usize) -> Checked
 {
     let mut s = step(log, stamp, start());
     let mut turn: usize = 0;
+    // Kept: no index is counted: the loop ends with the reader, and its bound is the definition's.
     while goes_on(s, turn, log.len()) {
         s = step(log, stamp, s.place);
         turn += 1;

@@ -19,6 +19,8 @@ pub type Verdict = Result<(), Fault>;
 
 // A checked log: the cards that were found in it, up to the fault if there is one, as many as found says, in the order found, each idle, and
 // speaking blocks where its last SAK was 20.
+// Kept: no heap: a field is an array of 32 and a count in firmware's calls (docs/PROMISES.md: sweep, wake, inquire), and the definitions say `take
+// n cards`.
 #[derive(Clone, Copy)]
 pub struct Checked {
     pub verdict: Verdict,
@@ -27,6 +29,8 @@ pub struct Checked {
 }
 
 // Where a check is: a reader's record is due at a place of the log, the reader has sent its frame, and so many cards were found.
+// Kept: no heap: a field is an array of 32 and a count in firmware's calls (docs/PROMISES.md: sweep, wake, inquire), and the definitions say `take
+// n cards`.
 #[derive(Clone, Copy)]
 pub struct Place {
     pub at: usize,

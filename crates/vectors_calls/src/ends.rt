@@ -71,6 +71,7 @@ impl Ends {
     }
 
     // A call of the whole card, with so much room for its row.
+    // Kept: what Rattle asks of a function that takes a closure.
     pub fn card_turn<C: FnOnce(LinkCard, &mut [u8]) -> CardTurn>(
         &self,
         alloc: Global,

@@ -23,6 +23,7 @@ pub struct Woken {
 }
 
 // Declined before a frame is sent.
+// Kept: its twin in slots makes another answer; two values put together are no plainer as one function.
 fn refused(r: Reader, cards: [Card; MOST_CARDS], e: Refusal) -> Woken
     ensures { result ≡ refused r cards e }
 {

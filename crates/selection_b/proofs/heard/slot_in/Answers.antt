@@ -29,4 +29,4 @@ returns c =
     let held = c.bytes_of.new.out in
     let twelve : length {A = ℕ} (replicate 12 0) ≡ length (take 12 held) = rw length-take (omega (arith, ap length e ∙ length_bytes 14 _)) in
     slot_one _ _ e (ap length e ∙ length_bytes 14 _) (sym c.is_good_b.ensures ∙ c.if-not-is_good_b.false) c.if-held-ne80.false _
-      (c.put.ensures ∙ overlay_all (replicate 12 0) (take 12 held) twelve)
+    (c.put.ensures ∙ overlay_all (replicate 12 0) (take 12 held) twelve)
