@@ -58,7 +58,6 @@ pub fn is_apart(log: &[u8], start: usize, marks: usize, n: usize) -> bool
 }
 
 // Has a row bits, with zeros that fill its last byte?
-// Kept: the fact is of a lent row. A struct would have to hold the row and be built at each call, where the test stands once, in the caller.
 pub fn is_good_row(log: &[u8], start: usize, n: usize) -> bool
     requires { (n ≤ most_bits) × (start + row_size n ≤ length log.now) }
     ensures { result ≡ good_row log.now start n }

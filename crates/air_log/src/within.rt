@@ -54,7 +54,6 @@ pub fn put_packed(out: &mut [u8], at: usize, row: &[u8], part: Part)
     ensures { out.new ≡ overlay out.old at (pack (shown (is_marks part) row.now)) }
 {
     let n = (row.len() + 7) / 8;
-    // Kept: lent memory is filled by its index. Once the borrow of `iter_mut` is over, a proof has its length alone.
     for k in 0..n {
         out[at + k] = packed_byte(row, 8 * k, part);
     }

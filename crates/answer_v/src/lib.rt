@@ -30,7 +30,6 @@ pub struct Turn {
 }
 
 // What a tag's answer to another request says: done, with so many bytes behind the flags; an error of the tag.
-// Kept: three outcomes: an error code that the tag itself answers is neither a value nor a refusal.
 #[derive(Clone, Copy)]
 pub enum AnswerSays {
     Good(usize),

@@ -29,7 +29,6 @@ pub fn collided(deep: bool) -> SlotV
 }
 
 // Does the slot's number stand above the mask of a UID?
-// Kept: the fact is of a lent row. A struct would have to hold the row and be built at each call, where the test stands once, in the caller.
 #[tactic(auto, using(std::proofs::lemmas::Bool::Decides::nat_tests))]
 fn is_in_slot(k: Turn, row: &[u8]) -> bool
     requires { (length row.now ≡ 96) × (clean row.now ≡ true) }

@@ -10,12 +10,10 @@ pub fn first(text: &[u8]) -> u8
 }
 
 // The index of the first byte that is no space, at from or behind it, or the end.
-// Kept: the fact is of a lent row. A struct would have to hold the row and be built at each call, where the test stands once, in the caller.
 pub fn skip(text: &[u8], from: usize) -> usize
     requires { from ≤ length text.now }
     ensures { Skipped text.now from result }
 {
-    // Kept: the edits word_skip and word_tab name `text[i]`, and the clause speaks of the index in the whole text.
     for i in from..text.len() {
         if text[i] != 32 {
             return i;
@@ -29,7 +27,6 @@ pub fn stop(text: &[u8], from: usize) -> usize
     requires { from ≤ length text.now }
     ensures { Stopped text.now from result }
 {
-    // Kept: the edits word_skip and word_tab name `text[i]`, and the clause speaks of the index in the whole text.
     for i in from..text.len() {
         if text[i] == 32 {
             return i;

@@ -6,7 +6,6 @@ use refusal::Refusal;
 use std::fmt;
 
 // Declined before a frame was sent, or what was done.
-// Kept: three outcomes of a field that is played, each printed in its own way.
 #[derive(Drop)]
 pub enum Outcome {
     Refused(Refusal),

@@ -87,7 +87,6 @@ impl fmt::Display for Cascade {
 }
 
 // A frame of the selection, by its SEL and NVB.
-// Kept: SEL is read in this one place, where any other is no frame of the selection.
 fn selecting(sel: u8, nvb: u8) -> Frame {
     let level = match sel {
         0x93 => Level::One,

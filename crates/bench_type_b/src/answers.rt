@@ -100,7 +100,6 @@ impl fmt::Display for Slots<'_> {
 
 // What a slot held, by its number in the list.
 fn held_of(number: u8) -> Held {
-    // Kept: a byte of the list, which a program reads in this one place.
     match number {
         0 => Held::None,
         1 => Held::One,

@@ -98,9 +98,8 @@ pub fn write_hex(word: &[u8], out: &mut [u8])
     ensures { out.new ≡ overlay out.old 0 (hex_bytes word.now) }
 {
     let n = word.len() / 2;
-    // Kept: lent memory is filled by its index. Once the borrow of `iter_mut` is over, a proof has its length alone.
-    for i in 0..n {
-        out[i] = hex_pair(word[2 * i], word[2 * i + 1]);
+    for (i, byte) in out[..n].iter_mut().enumerate() {
+        *byte = hex_pair(word[2 * i], word[2 * i + 1]);
     }
 }
 

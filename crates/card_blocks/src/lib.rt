@@ -147,7 +147,7 @@ fn takes_i(c: CardLink, chained: bool, bytes: usize, room: usize) -> CardStep
 }
 
 // The next I of its answer. An answer that ends before the last I ends before the next one too: 1, ahead of a sum that might not fit.
-// Kept: a tag and its memory and locks are lent by firmware apart (docs/PROMISES.md, tag), so no type holds both.
+// Kept: `len` is a lent slice's length, and this the bound that the machine gives each; a type for it would be built at each call.
 fn next_i(c: CardLink, len: usize) -> CardStep
     requires { len < 2 ^ 63 }
     ensures { lent_for c len result ≡ lent_for c len (card_next c CardPhase.Answering len) }

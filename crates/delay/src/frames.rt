@@ -25,7 +25,6 @@ pub fn after_one(row: &[u8]) -> bool
 }
 
 // The byte whose bits begin at index at. Bits that are not there are 0.
-// Kept: the fact is of a lent row. A struct would have to hold the row and be built at each call, where the test stands once, in the caller.
 fn byte_from(row: &[u8], at: usize) -> u8
     requires { clean row.now ≡ true }
     ensures { result ≡ unbits (take 8 (drop at row.now)) }

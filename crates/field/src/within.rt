@@ -60,8 +60,6 @@ pub fn take_one(c: Card, frame: &[u8], heard: &mut [u8], bits: usize) -> One
 }
 
 // Each of the first n cards takes the frame. The row in which all answers are heard grows from the last card to the first.
-// Kept: no heap: a field is an array of 32 and a count in firmware's calls (docs/PROMISES.md: sweep, wake, inquire), and the definitions say `take
-// n cards`.
 pub fn take_all(start: [Card; MOST_CARDS], n: usize, frame: &[u8], heard: &mut [u8]) -> Together
     requires { (n ≤ most_cards) × (45 ≤ length heard.old) }
     ensures value { result ≡ together start n frame.now }
@@ -69,7 +67,6 @@ pub fn take_all(start: [Card; MOST_CARDS], n: usize, frame: &[u8], heard: &mut [
 {
     let mut cards = start;
     let mut bits = 0;
-    // Kept: each card is stored where it was read. Once the borrow of `iter_mut` is over, a proof has the array's length alone.
     for i in (0..n).rev() {
         let one = take_one(cards[i], frame, heard, bits);
         cards[i] = one.card;

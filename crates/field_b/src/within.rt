@@ -42,8 +42,6 @@ pub fn take_one(d: Drawn, frame: &[u8], heard: &mut [u8], bits: usize) -> OneB
 }
 
 // Each of the first n cards takes the frame, and the row in which all answers are heard grows from card to card.
-// Kept: no heap: a field is an array of 32 and a count in firmware's calls (docs/PROMISES.md: sweep, wake, inquire), and the definitions say `take
-// n cards`.
 pub fn take_all(start: [Drawn; MOST_CARDS], n: usize, frame: &[u8], heard: &mut [u8]) -> TogetherB
     requires { (n ≤ most_cards) × (answer_room_b ≤ length heard.old) }
     ensures value { result ≡ together start n frame.now }

@@ -45,9 +45,8 @@ pub fn bytes_of(row: &[u8], n: usize, out: &mut [u8])
     requires { (9 * n ≤ length row.now) × (n ≤ length out.old) × (clean row.now ≡ true) }
     ensures { out.new ≡ overlay out.old 0 (bytes_of n (data_of n row.now)) }
 {
-    // Kept: lent memory is filled by its index. Once the borrow of `iter_mut` is over, a proof has its length alone.
-    for i in 0..n {
-        out[i] = parity::within::byte_at(row, 9 * i);
+    for (i, b) in out[..n].iter_mut().enumerate() {
+        *b = parity::within::byte_at(row, 9 * i);
     }
 }
 
@@ -58,13 +57,12 @@ pub fn sound_bytes(row: &[u8], n: usize, out: &mut [u8]) -> usize
     ensures value { result ≡ first_wrong n row.now }
     ensures out_after { out.new ≡ overlay out.old 0 (bytes_of result (data_of result row.now)) }
 {
-    // Kept: lent memory is filled by its index. Once the borrow of `iter_mut` is over, a proof has its length alone.
-    for k in 0..n {
+    for (k, byte) in out[..n].iter_mut().enumerate() {
         let b = parity::within::byte_at(row, 9 * k);
         if row[9 * k + 8] != parity::odd_parity(b) {
             return k;
         }
-        out[k] = b;
+        *byte = b;
     }
     n
 }

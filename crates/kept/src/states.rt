@@ -19,7 +19,6 @@ pub fn read<T: Copy, F: Fn(usize, &[u8]) -> T>(
     ensures { (f : ℕ → List ℕ → T) → ((i : ℕ) (s : _) (x : T) → F.post value i s x → x ≡ f i s.now) → result ≡ array_of f none most_cards n b.now }
 {
     let mut values = [none; MOST_CARDS];
-    // Kept: lent memory is filled by its index. Once the borrow of `iter_mut` is over, a proof has its length alone.
     for i in 0..crate::few(n) {
         values[i] = value(i, &b[crate::STATE_SIZE * i..]);
     }

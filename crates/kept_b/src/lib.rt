@@ -57,7 +57,6 @@ pub fn reader_of(b: &[u8]) -> ReaderB
     }
 }
 
-// Kept: the numbers in the lent bytes are the C interface, and any byte is read: the definitions of the state name them.
 fn held_number(k: Held) -> u8
     ensures { result ≡ held_number k }
 {

@@ -25,8 +25,6 @@ pub fn cards_of(b: &[u8], n: usize) -> [Card; MOST_CARDS]
 }
 
 // Writes the first n cards of an array, as many as it has, back into a row of states: of each state its first 20 bytes.
-// Kept: no heap: a field is an array of 32 and a count in firmware's calls (docs/PROMISES.md: sweep, wake, inquire), and the definitions say `take
-// n cards`.
 pub fn put_cards(cards: [Card; MOST_CARDS], n: usize, b: &mut [u8])
     requires { state_size * n ≤ length b.old }
     ensures b_after { b.new ≡ cards_left b.old (take n cards) }

@@ -21,8 +21,6 @@ pub fn cards_of(numbers: &[u8], b: &[u8]) -> [Drawn; MOST_CARDS]
 }
 
 // Writes the first n cards of an array, as many as it has, back into a row of states: of each state its first 15 bytes.
-// Kept: no heap: a field is an array of 32 and a count in firmware's calls (docs/PROMISES.md: sweep, wake, inquire), and the definitions say `take
-// n cards`.
 pub fn put_cards(cards: [Drawn; MOST_CARDS], n: usize, b: &mut [u8])
     requires { state_size * n ≤ length b.old }
     ensures b_after { b.new ≡ cards_left b.old (take n cards) }

@@ -18,7 +18,6 @@ pub mod within;
 // The reader finds every idle card of the lent row, which is the field, and halts it. What it answers, what becomes of the cards and what stands in log
 // and list is what `memory_sweep::sweep` says of them as values: the plain sweep's list and cards, in fewer frames. Declined, with all unchanged: 11, the
 // reader is not new; 1, log or list is too short; 6, the row has more cards than the limit or is not a field that a sweep takes.
-// Kept: firmware's call, which README and docs name; what is lent stands in no struct by value.
 pub fn sweep_row(start: Start, cards: &mut [Card], log: &mut [u8], list: &mut [u8]) -> RowSwept
     ensures { (call (swept_row result cards.new) log.new list.new ≡ recall_of start cards.old (length cards.old) log.old list.old) × Recalls start cards.old (length cards.old) log.old list.old (swept_row result cards.new) log.new list.new }
 {

@@ -144,7 +144,7 @@ fn sends_again(l: ReaderLink, t: Turn, chained: bool) -> ReaderStep
 }
 
 // The next I of its message. A message that ends before the last I ends before the next one too: 1, ahead of a sum that might not fit.
-// Kept: a tag and its memory and locks are lent by firmware apart (docs/PROMISES.md, tag), so no type holds both.
+// Kept: `len` is a lent slice's length, and this the bound that the machine gives each; a type for it would be built at each call.
 fn next_i(l: ReaderLink, len: usize) -> ReaderStep
     requires { len < 2 ^ 63 }
     ensures { lent_for l len result ≡ lent_for l len (ack_own l Turn.Sending len) }

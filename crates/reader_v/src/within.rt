@@ -92,7 +92,6 @@ fn is_more(k: Held) -> bool
     matches!(k, Held::More)
 }
 
-// Kept: it is a bit of the frame that is sent or heard, or a field of the reader, as the definitions have it, and picks no step.
 #[tactic(auto, using(std::proofs::lemmas::Bool::Decides::nat_tests), unfolding(crate::specs::ReaderV::met_after))]
 fn met_after(sweeps: bool, r: ReaderV, k: Held) -> [u8; 240]
     ensures { result ≡ met_after sweeps r k }
@@ -153,7 +152,6 @@ fn at_round(p: PhaseV, k: Round, m: [u8; 240]) -> ReaderV
 }
 
 // A round is finished.
-// Kept: it is a bit of the frame that is sent or heard, or a field of the reader, as the definitions have it, and picks no step.
 #[tactic(auto, using(std::proofs::lemmas::Bool::Decides::nat_tests), unfolding(crate::specs::ReaderV::finished))]
 fn finished(sweeps: bool, r: ReaderV, k: Held, s: SlotV, m: [u8; 240]) -> TurnV
     ensures { result ≡ finished sweeps r k s m }
@@ -168,7 +166,6 @@ fn finished(sweeps: bool, r: ReaderV, k: Held, s: SlotV, m: [u8; 240]) -> TurnV
 }
 
 // What a slot held is told.
-// Kept: it is a bit of the frame that is sent or heard, or a field of the reader, as the definitions have it, and picks no step.
 #[tactic(auto, using(std::proofs::lemmas::Bool::Decides::nat_tests), unfolding(crate::specs::ReaderV::told))]
 fn told(sweeps: bool, r: ReaderV, k: Held, s: SlotV) -> TurnV
     ensures { result ≡ told sweeps r k s }
@@ -181,7 +178,6 @@ fn told(sweeps: bool, r: ReaderV, k: Held, s: SlotV) -> TurnV
     }
 }
 
-// Kept: it is a bit of the frame that is sent or heard, or a field of the reader, as the definitions have it, and picks no step.
 fn turn_of(sweeps: bool, r: ReaderV) -> Turn
     ensures { result ≡ turn_of sweeps r }
 {
@@ -195,7 +191,6 @@ fn turn_of(sweeps: bool, r: ReaderV) -> Turn
     }
 }
 
-// Kept: it is a bit of the frame that is sent or heard, or a field of the reader, as the definitions have it, and picks no step.
 #[tactic(auto, using(std::proofs::lemmas::Bool::Decides::nat_tests))]
 fn is_deep(sweeps: bool, len: u8) -> bool
     ensures { result ≡ is_deep sweeps len }
@@ -203,7 +198,6 @@ fn is_deep(sweeps: bool, len: u8) -> bool
     sweeps && 60 <= len
 }
 
-// Kept: it is a bit of the frame that is sent or heard, or a field of the reader, as the definitions have it, and picks no step.
 #[tactic(auto, unfolding(crate::specs::ReaderV::hear_slot))]
 fn hear_slot(sweeps: bool, r: ReaderV, row: &[u8]) -> TurnV
     ensures { result ≡ hear_slot sweeps r row.now }

@@ -136,7 +136,6 @@ fn turn_in(uid: [u8; 8], one: bool, len: u8) -> Deed
     }
 }
 
-// Kept: the fact is of a lent row. A struct would have to hold the row and be built at each call, where the test stands once, in the caller.
 #[tactic(auto, using(std::proofs::lemmas::Bool::Decides::nat_tests, frame_v::specs::FrameVLaws::sound_long, frame_v::specs::FrameVLaws::sound_clear), unfolding(crate::specs::Inventory::inventory_deed))]
 fn inventory_deed(t: Tag, q: Flags, row: &[u8]) -> Deed
     requires { sound row.now ≡ true }
@@ -256,7 +255,6 @@ fn option_error(q: Flags, code: u8) -> Result<(), u8>
 }
 
 // A command's tests, in their order; the error codes are those of the document's table 7.
-// Kept: a tag and its memory and locks are lent by firmware apart (docs/PROMISES.md, tag), so no type holds both.
 #[tactic(auto, using(std::proofs::lemmas::Bool::Decides::nat_tests), unfolding(crate::specs::Request::error_of))]
 fn tested(t: Tag, q: Flags, locks: &[u8], k: Command) -> Result<(), u8>
     requires { t.blocks ≤ length locks.now }
@@ -288,7 +286,6 @@ fn fails_with(q: Flags, e: u8) -> Deed
     }
 }
 
-// Kept: the request's code is a byte from the air, any of them: definition done_of.
 #[tactic(auto, using(std::proofs::lemmas::Bool::Decides::nat_tests), unfolding(crate::specs::Request::done_of))]
 fn done_of(q: Flags, k: Command) -> Deed
     requires { k.at ≤ 10 }

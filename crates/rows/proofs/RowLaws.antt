@@ -1,7 +1,7 @@
 -- Laws of rows written into rows. Assumes nothing.
 use Rattle.std.specs.Prelude.{◌≡◌, List, [], ◌∷◌, ◌++◌, ℕ, ◌+◌, ◌-◌, ◌≤◌, ◌<◌, length, take, drop, get_or, set}
-use Rattle.std.proofs.Common.{◌∙◌, append_assoc, append-nil, add-one, add-zero, zero-add, add_assoc, arith, length-append, length-take, length-drop, take-append-drop, drop_of_length-le, take_at, take-suc, drop-drop, length-take-le, take_all}
-use Rattle.std.proofs.lemmas.List.{set_split}
+use Rattle.std.proofs.Common.{sym, ap, ◌∙◌, append_assoc, append-nil, add-one, add-zero, zero-add, add_assoc, arith, length-append, length-take, length-drop, take-append-drop, drop_of_length-le, take_at, take-suc, drop-drop, length-take-le, take_all}
+use Rattle.std.proofs.lemmas.List.{set_split, drop-append-le}
 use Rattle.std.proofs.Math.Seq.{drop-append-add, take-append_seam}
 use Rattle.rows.specs.Rows.{overlay}
 
@@ -77,3 +77,11 @@ overlay_fits d s = simp length-append (omega arith)
 pub overlay_all : (d s : List ℕ) → length d ≡ length s → overlay d 0 s ≡ s
 unfolding overlay
 overlay_all d s e = rw (zero-add, ← e, drop_of_length-le d {i = length d} (omega arith), append-nil)
+
+-- the front of a row that was filled apart, wholly or in part, with what stands behind it
+pub front_filled : (d s xs : List ℕ) (n : ℕ) → n ≤ length d → length s ≤ n → xs ≡ overlay (take n d) 0 s → xs ++ drop n d ≡ overlay d 0 s
+unfolding overlay
+front_filled d s xs n h l e =
+    let k : drop (length s) (take n d) ++ drop n d ≡ drop (length s) d =
+    sym (drop-append-le (length s) (take n d) (drop n d) (omega (arith, length-take-le n d h))) ∙ ap (drop (length s)) (take-append-drop n d) in
+    rw (e, zero-add, append_assoc, k)

@@ -9,10 +9,8 @@ pub fn data_bits(w: [u8; 45]) -> [u8; 40]
     ensures { result ≡ data_of 5 w }
 {
     let mut d = [0u8; 40];
-    // Kept: an array is filled by its index. Of `std::array::from_fn` a proof has the result of each call, and not that the closure still held the same row;
-    // of `iter_mut` it has the length alone.
-    for i in 0..40usize {
-        d[i] = w[i + i / 8];
+    for (i, bit) in d.iter_mut().enumerate() {
+        *bit = w[i + i / 8];
     }
     d
 }
@@ -48,9 +46,8 @@ pub fn five_bytes(e: [u8; 40]) -> [u8; 5]
     ensures { result ≡ bytes_of 5 e }
 {
     let mut five = [0u8; 5];
-    // Kept: as in `data_bits`.
-    for i in 0..5usize {
-        five[i] = parity::within::byte_at(&e, 8 * i);
+    for (i, byte) in five.iter_mut().enumerate() {
+        *byte = parity::within::byte_at(&e, 8 * i);
     }
     five
 }

@@ -11,7 +11,6 @@ pub mod within;
 
 use refusal::Refusal;
 
-// Kept: what is known of a level is told of every case, a refusal too (`(read_rest ..).known` in CollisionLaws and LevelReadLaws), so it stands beside.
 // What the answer to ANTICOLLISION says: the level's bits are all known, or the first of them collided at a position below 32.
 #[derive(Clone, Copy)]
 pub enum RestSays {

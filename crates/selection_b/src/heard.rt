@@ -20,7 +20,6 @@ fn nobody(says: Result<Held, Refusal>) -> SlotRead
 }
 
 // A row of 112 bits, none of them collided.
-// Kept: the fact is of a lent row. A struct would have to hold the row and be built at each call, where the test stands once, in the caller.
 fn slot_in(row: &[u8]) -> SlotRead
     requires { (length row.now ≡ 112) × (clean row.now ≡ true) }
     ensures { result ≡ slot_of (without_crc_b (bytes_of 14 row.now)) }

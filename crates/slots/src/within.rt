@@ -29,8 +29,6 @@ pub struct ProgressB {
 }
 
 // A frame, taken by the first cards, and the reader's turn on what it heard.
-// Kept: no heap: a field is an array of 32 and a count in firmware's calls (docs/PROMISES.md: sweep, wake, inquire), and the definitions say `take
-// n cards`.
 fn exchange(r: ReaderB, cards: [Drawn; MOST_CARDS], count: usize, frame: &[u8]) -> ExchangedB
     requires { count ≤ most_cards }
     ensures { result ≡ exchanged r cards count frame.now }
@@ -43,8 +41,6 @@ fn exchange(r: ReaderB, cards: [Drawn; MOST_CARDS], count: usize, frame: &[u8]) 
 }
 
 // The frame of a slot: in slot 1 the request, in each other its marker.
-// Kept: no heap: a field is an array of 32 and a count in firmware's calls (docs/PROMISES.md: sweep, wake, inquire), and the definitions say `take
-// n cards`.
 fn send(r: ReaderB, q: Request, cards: [Drawn; MOST_CARDS], count: usize) -> ExchangedB
     requires { count ≤ most_cards }
     ensures { result ≡ exchanged r cards count (out_frame q.wake q.afi r) }
@@ -59,7 +55,6 @@ fn send(r: ReaderB, q: Request, cards: [Drawn; MOST_CARDS], count: usize) -> Exc
 }
 
 // "0, 1 or 2 for none, one, more".
-// Kept: the list's byte, which definition held_number names: selection_b's enum has no number of its own.
 fn held_number(k: Held) -> u8
     ensures { result ≡ held_number k }
 {
@@ -123,8 +118,6 @@ fn goes_on(p: ProgressB, n: u8) -> bool
 }
 
 // A whole request over the first cards.
-// Kept: no heap: a field is an array of 32 and a count in firmware's calls (docs/PROMISES.md: sweep, wake, inquire), and the definitions say `take
-// n cards`.
 pub fn run(q: Request, cards: [Drawn; MOST_CARDS], count: usize, list: &mut [u8]) -> ProgressB
     requires { (count ≤ most_cards) × (q.slots ≤ most_slots) × (list_room_b ≤ length list.old) }
     ensures turn_value { result.turn ≡ (inquiry q.wake q.slots q.afi (take count cards)).last }

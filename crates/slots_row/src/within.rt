@@ -19,8 +19,6 @@ pub struct ArrayInquired {
 }
 
 // The first cards of the array are lent as the row; the others are unchanged.
-// Kept: no heap: a field is an array of 32 and a count in firmware's calls (docs/PROMISES.md: sweep, wake, inquire), and the definitions say `take
-// n cards`.
 pub fn inquire_array(
     r: ReaderB,
     wake: bool,
@@ -38,8 +36,6 @@ pub fn inquire_array(
 }
 
 // The plain request's answer, by the lent row. An array holds no row of more cards than the limit, which the plain request declines.
-// Kept: no heap: a field is an array of 32 and a count in firmware's calls (docs/PROMISES.md: sweep, wake, inquire), and the definitions say `take
-// n cards`.
 pub fn inquire_by_row(
     r: ReaderB,
     wake: bool,

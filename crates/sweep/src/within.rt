@@ -29,8 +29,6 @@ fn refused(r: Reader, cards: [Card; MOST_CARDS], e: Refusal) -> Swept
 }
 
 // The tests 11, 1 and 6 in their order, all unchanged where one declines; else the sweep of the reader that hears as H does.
-// Kept: no heap: a field is an array of 32 and a count in firmware's calls (docs/PROMISES.md: sweep, wake, inquire), and the definitions say `take
-// n cards`.
 pub fn call<H: Hears>(
     start: Start,
     cards: [Card; MOST_CARDS],

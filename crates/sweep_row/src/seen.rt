@@ -12,7 +12,6 @@ use limits::MOST_CARDS;
 use uid::{Uid, UidSize};
 
 // fits: the cards seen so far are such a field; uids: their UIDs, each at its card's place.
-// Kept: a card that does not fit leaves the UIDs as they are: `Seen` of the definitions holds both, and its laws speak of both.
 #[derive(Clone, Copy)]
 pub struct Seen {
     pub fits: bool,
@@ -43,8 +42,6 @@ fn is_alone(u: Uid, uids: &[Uid]) -> bool
     !uids.iter().any(|v| uid::same_uid(u, *v))
 }
 
-// Kept: no heap: a field is an array of 32 and a count in firmware's calls (docs/PROMISES.md: sweep, wake, inquire), and the definitions say `take
-// n cards`.
 fn fits_too(s: Seen, at: usize, n: usize, c: Card) -> bool
     requires { (at < n) × (n ≤ most_cards) }
     ensures value { result ≡ (seen_with s at n c).fits }

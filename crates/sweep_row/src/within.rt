@@ -127,8 +127,6 @@ impl ArraySwept {
 }
 
 // The first n cards of the array are lent as the row; the others are unchanged.
-// Kept: no heap: a field is an array of 32 and a count in firmware's calls (docs/PROMISES.md: sweep, wake, inquire), and the definitions say `take
-// n cards`.
 pub fn sweep_array(
     start: Start,
     mut cards: [Card; MOST_CARDS],
@@ -144,8 +142,6 @@ pub fn sweep_array(
 }
 
 // The plain sweep's answer, by the lent row. An array holds no row of more cards than the limit, which the plain sweep declines.
-// Kept: no heap: a field is an array of 32 and a count in firmware's calls (docs/PROMISES.md: sweep, wake, inquire), and the definitions say `take
-// n cards`.
 pub fn sweep_by_row(
     start: Start,
     cards: [Card; MOST_CARDS],

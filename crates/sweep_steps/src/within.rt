@@ -70,8 +70,6 @@ pub fn put_exchange(log: &mut [u8], at: usize, tick: usize, frame: &[u8], heard:
 }
 
 // The reader's frame, taken by the first n cards, and its records and those of what was heard in the log.
-// Kept: no heap: a field is an array of 32 and a count in firmware's calls (docs/PROMISES.md: sweep, wake, inquire), and the definitions say `take
-// n cards`.
 pub fn air(
     r: Reader,
     cards: [Card; MOST_CARDS],
@@ -100,8 +98,6 @@ pub fn air(
 }
 
 // The reader's frame on the air, and what the reader does with what it heard.
-// Kept: no heap: a field is an array of 32 and a count in firmware's calls (docs/PROMISES.md: sweep, wake, inquire), and the definitions say `take
-// n cards`.
 fn exchange<H: Hears>(
     r: Reader,
     path: Path,
@@ -184,8 +180,6 @@ fn goes_on(p: Progress) -> bool
 
 // A whole sweep over the first n cards, of the reader that hears as H does, the tick of its first record start. It is called where log and list have
 // room for what it writes.
-// Kept: no heap: a field is an array of 32 and a count in firmware's calls (docs/PROMISES.md: sweep, wake, inquire), and the definitions say `take
-// n cards`.
 pub fn run<H: Hears>(
     cards: [Card; MOST_CARDS],
     n: usize,

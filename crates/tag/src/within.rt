@@ -159,7 +159,6 @@ pub fn put_told(t: Tag, out: &mut [u8]) -> usize
 }
 
 // What a deed makes the tag send, at the front of the lent row. The answer is how many bits that are.
-// Kept: a tag and its memory and locks are lent by firmware apart (docs/PROMISES.md, tag), so no type holds both.
 #[tactic(auto, using(rows::proofs::RowLaws::overlay_nil), unfolding(crate::specs::Tag::row_of))]
 pub fn put_answer(t: Tag, d: Deed, row: &[u8], memory: &[u8], locks: &[u8], out: &mut [u8]) -> usize
     requires { Safe t row.now d × (t.blocks * t.size ≤ length memory.now) × (t.blocks ≤ length locks.now) × (room_for t ≤ length out.old) }

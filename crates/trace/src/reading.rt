@@ -20,14 +20,12 @@ pub struct Heard {
 }
 
 // The bits of a row that starts at a byte of the log, at the front of out.
-// Kept: the fact is of a lent row. A struct would have to hold the row and be built at each call, where the test stands once, in the caller.
 fn put_bits(log: &[u8], start: usize, n: usize, out: &mut [u8])
     requires { (n ≤ length (bits_from log.now start)) × (n ≤ length out.old) }
     ensures { out.new ≡ overlay out.old 0 (row_at log.now start n) }
 {
-    // Kept: tried `iter_mut`, of which a proof knows no element afterwards.
-    for i in 0..n {
-        out[i] = air_log::bit_at(log, start, i);
+    for (i, bit) in out[..n].iter_mut().enumerate() {
+        *bit = air_log::bit_at(log, start, i);
     }
 }
 
@@ -43,9 +41,8 @@ fn put_marked(log: &[u8], start: usize, marks: usize, n: usize, out: &mut [u8])
     requires { (n ≤ length (bits_from log.now start)) × (n ≤ length (bits_from log.now marks)) × (n ≤ length out.old) }
     ensures { out.new ≡ overlay out.old 0 (marked (row_at log.now start n) (row_at log.now marks n)) }
 {
-    // Kept: as in `put_bits`.
-    for i in 0..n {
-        out[i] = heard_bit(
+    for (i, bit) in out[..n].iter_mut().enumerate() {
+        *bit = heard_bit(
             air_log::bit_at(log, start, i),
             air_log::bit_at(log, marks, i),
         );

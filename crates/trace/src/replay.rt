@@ -56,8 +56,6 @@ fn compare(
 }
 
 // The reader's frame, taken by the first n cards, and what it does with what it heard.
-// Kept: no heap: a field is an array of 32 and a count in firmware's calls (docs/PROMISES.md: sweep, wake, inquire), and the definitions say `take
-// n cards`.
 fn play(log: &[u8], stamp: usize, at: usize, t: Turn, cards: [Card; MOST_CARDS], n: usize) -> Played
     requires { n ≤ most_cards }
     ensures { result ≡ played stamp log.now at t cards n }
@@ -109,8 +107,6 @@ fn verdict(i: usize, p: Played, size: usize) -> Verdict
 }
 
 // The first record in which the log differs from the plain sweep over the first n cards.
-// Kept: no heap: a field is an array of 32 and a count in firmware's calls (docs/PROMISES.md: sweep, wake, inquire), and the definitions say `take
-// n cards`.
 pub fn replay(log: &[u8], stamp: usize, cards: [Card; MOST_CARDS], n: usize) -> Verdict
     requires { n ≤ most_cards }
     ensures { result ≡ differs stamp log.now 0 (sweep (take n cards)).exchanges 0 }

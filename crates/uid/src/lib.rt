@@ -103,7 +103,6 @@ pub fn is_valid(u: Uid) -> bool
     }
 }
 
-// Kept: a length is read as a size in this one place.
 // A UID from bytes, or 6: "one of these lengths", and the rest of what valid means.
 pub fn new_uid(bytes: &[u8]) -> Result<Uid, Refusal>
     ensures value { result ≡ new_uid bytes.now }

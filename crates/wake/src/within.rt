@@ -53,8 +53,6 @@ fn goes_on(w: Woken, most: usize) -> bool
 }
 
 // The whole run over the first n cards: a frame more than the UID has levels.
-// Kept: no heap: a field is an array of 32 and a count in firmware's calls (docs/PROMISES.md: sweep, wake, inquire), and the definitions say `take
-// n cards`.
 pub fn run(u: Uid, cards: [Card; MOST_CARDS], n: usize) -> Woken
     requires { n ≤ most_cards }
     ensures value { result ≡ done cards n (wake u (take n cards)) }

@@ -34,8 +34,6 @@ impl From<Woken> for RowWoken {
 }
 
 // The call over the first n cards of an array, as values.
-// Kept: no heap: a field is an array of 32 and a count in firmware's calls (docs/PROMISES.md: sweep, wake, inquire), and the definitions say `take
-// n cards`.
 fn woken(r: Reader, u: Uid, cards: [Card; MOST_CARDS], n: usize) -> Woken
     ensures value { result ≡ wake_of r (uid_bytes u) cards n }
     ensures wakens { Wakens r (uid_bytes u) cards n result }

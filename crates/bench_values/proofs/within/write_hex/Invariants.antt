@@ -7,7 +7,4 @@ use Rattle.bench_values.specs.Values.{hex_bytes}
 use Rattle.bench_values.proofs.within.write_hex.Given as goal
 
 abbrev pub invariant-loop-i : goal.invariant-loop-i
-invariant-loop-i l = (l.i ≤ l.n) × (l.n ≡ length l.word / 2) × (length l.out ≡ length l.initial.out) × (l.out ≡ overlay l.initial.out 0 (take l.i (hex_bytes l.word)))
-
-abbrev pub decreases-loop-i : goal.decreases-loop-i
-decreases-loop-i l = l.n - l.i
+invariant-loop-i l = (l.i ≤ length l.byte-items) × (length l.byte-items ≡ length l.word / 2) × (l.byte-items ≡ overlay l.initial.byte-items 0 (take l.i (hex_bytes l.word)))

@@ -9,7 +9,4 @@ use Rattle.frame.proofs.within.sound_bytes.Given as goal
 
 abbrev pub invariant-loop-k : goal.invariant-loop-k
 invariant-loop-k l =
-    (l.k ≤ l.n) × (length l.out ≡ length l.initial.out) × (l.k + first_wrong (l.n - l.k) (drop (0 + 9 * l.k) l.row) ≡ first_wrong l.n l.row) × (l.out ≡ overlay l.initial.out 0 (bytes_of l.k (data_of l.k l.row)))
-
-abbrev pub decreases-loop-k : goal.decreases-loop-k
-decreases-loop-k l = l.n - l.k
+    (l.k ≤ length l.byte-items) × (length l.byte-items ≡ length l.initial.byte-items) × (l.k + first_wrong (l.n - l.k) (drop (0 + 9 * l.k) l.row) ≡ first_wrong l.n l.row) × (l.byte-items ≡ overlay l.initial.byte-items 0 (bytes_of l.k (data_of l.k l.row)))

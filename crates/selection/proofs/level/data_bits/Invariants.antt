@@ -6,7 +6,7 @@ use Rattle.frame.specs.Frame.{data_of}
 use Rattle.selection.proofs.level.data_bits.Given as goal
 
 abbrev pub invariant-loop-i : goal.invariant-loop-i
-invariant-loop-i l = (l.i ≤ 40) × (length l.d ≡ 40) × (length l.w ≡ 45) × (l.d ≡ overlay l.initial.d 0 (take l.i (data_of 5 l.w))) × (length l.initial.d ≡ 40)
+invariant-loop-i l = (l.i ≤ 40) × (length l.bit-items ≡ 40) × (length l.w ≡ 45) × (l.bit-items ≡ overlay l.initial.bit-items 0 (take l.i (data_of 5 l.w))) × (length l.initial.bit-items ≡ 40)
 
 abbrev pub decreases-loop-i : goal.decreases-loop-i
 decreases-loop-i l = 40 - l.i

@@ -7,7 +7,4 @@ use Rattle.air_log.specs.Reading.{bits_from}
 use Rattle.trace.proofs.reading.put_bits.Given as goal
 
 abbrev pub invariant-loop-i : goal.invariant-loop-i
-invariant-loop-i l = (l.i ≤ l.n) × (length l.out ≡ length l.initial.out) × (l.out ≡ overlay l.initial.out 0 (take l.i (bits_from l.log l.start)))
-
-abbrev pub decreases-loop-i : goal.decreases-loop-i
-decreases-loop-i l = l.n - l.i
+invariant-loop-i l = (l.i ≤ length l.bit-items) × (length l.bit-items ≡ length l.initial.bit-items) × (l.bit-items ≡ overlay l.initial.bit-items 0 (take l.i (bits_from l.log l.start)))

@@ -8,7 +8,4 @@ use Rattle.trace_rules.specs.Trace.{marked}
 use Rattle.trace.proofs.reading.put_marked.Given as goal
 
 abbrev pub invariant-loop-i : goal.invariant-loop-i
-invariant-loop-i l = (l.i ≤ l.n) × (length l.out ≡ length l.initial.out) × (l.out ≡ overlay l.initial.out 0 (take l.i (marked (row_at l.log l.start l.n) (row_at l.log l.marks l.n))))
-
-abbrev pub decreases-loop-i : goal.decreases-loop-i
-decreases-loop-i l = l.n - l.i
+invariant-loop-i l = (l.i ≤ length l.bit-items) × (length l.bit-items ≡ length l.initial.bit-items) × (l.bit-items ≡ overlay l.initial.bit-items 0 (take l.i (marked (row_at l.log l.start l.n) (row_at l.log l.marks l.n))))
