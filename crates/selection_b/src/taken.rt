@@ -30,8 +30,7 @@ fn request_in(row: &[u8]) -> Option<Request>
 {
     let afi = parity::within::byte_at(row, 8);
     let m = parity::within::byte_at(row, 16);
-    let due = crate::sent::three_bytes(0x05, afi, m);
-    if m < 16 && m % 8 <= 4 && rows::is_same(row, &due) {
+    if m < 16 && m % 8 <= 4 && rows::is_same(row, &crate::sent::three_bytes(0x05, afi, m)) {
         Some(Request {
             wake: m >= 8,
             slots: slots_of(m % 8),
