@@ -156,12 +156,13 @@ fn at_round(p: PhaseV, k: Round, m: [u8; 240]) -> ReaderV
 fn finished(sweeps: bool, r: ReaderV, k: Held, s: SlotV, m: [u8; 240]) -> TurnV
     ensures { result ≡ finished sweeps r k s m }
 {
-    match first_met(m) {
-        Some(i) if sweeps => {
+    let met = if sweeps { first_met(m) } else { None };
+    match met {
+        Some(i) => {
             let next = at_round(PhaseV::InSweep, round_of(r.round, i), with_flag(m, i, 0));
             telling(next, AnswerR::NextRound(k), s)
         }
-        _ => telling(blank(PhaseV::Ready), AnswerR::Ends(k), s),
+        None => telling(blank(PhaseV::Ready), AnswerR::Ends(k), s),
     }
 }
 
