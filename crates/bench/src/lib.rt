@@ -1,7 +1,7 @@
 // The script language's lines and words.
 #![tactic(auto)]
 
-ghost use Rattle.std.specs.Prelude.{◌≡◌, ℕ, IfOk, length, map, take};
+ghost use Rattle.std.specs.Prelude.{◌≡◌, ℕ, IfOk, [], length, map, get_or, take};
 ghost use Rattle.bench.specs.Lines.{no_line, fed, fed_bytes};
 ghost use Rattle.bench.specs.Words.{words_of, word_at, without_return, kind_of};
 
@@ -94,7 +94,8 @@ pub fn kind(overlong: bool, text: &[u8]) -> LineKind
 
 // The words, in order.
 pub fn words(alloc: Global, text: &[u8]) -> Result<Vec<&[u8]>, AllocError>
-    ensures { IfOk result (λ v. map (λ w. w.now) v.items ≡ words_of text.now) }
+    ensures value { IfOk result (λ v. map (λ w. w.now) v.items ≡ words_of text.now) }
+    ensures each { IfOk result (λ v. (k : ℕ) → get_or (map (λ w. w.now) v.items) k [] ≡ word_at k text.now) }
 {
     text.split(|&b| b == b' ')
         .filter(|word| !word.is_empty())
