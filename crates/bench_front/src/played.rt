@@ -1,4 +1,6 @@
 // The front end that is played, and its lines.
+ghost use Rattle.std.specs.Prelude.{◌≤◌, ◌<◌, length};
+
 use bench_lines::{number_to, tick_word};
 use bench_talk::{LineError, Program};
 use bench_text::Row;
@@ -22,21 +24,39 @@ pub struct Played {
 struct Places<'a>(&'a [u8]);
 
 impl fmt::Display for Places<'_> {
-    // Kept: this is the Display of a place.
     fn fmt<W: fmt::Write>(&self, f: &mut fmt::Formatter<W>) -> fmt::Result {
         if self.0.is_empty() {
             return f.write_str("-");
         }
-        for place in self.0 {
-            f.write_char(match *place {
-                0 => '0',
-                1 => '1',
-                2 => 'x',
-                _ => '.',
-            })?;
+        for piece in self.0.chunks(64) {
+            write_signs(f, piece)?;
         }
         Ok(())
     }
+}
+
+// The sign of a place.
+// Kept: this is the Display of a place.
+fn sign(place: u8) -> u8
+    ensures { result < 128 }
+{
+    match place {
+        0 => b'0',
+        1 => b'1',
+        2 => b'x',
+        _ => b'.',
+    }
+}
+
+// The signs of a piece of the room in one write: a write for each costs several times as much.
+fn write_signs<W: fmt::Write>(f: &mut fmt::Formatter<W>, places: &[u8]) -> fmt::Result
+    requires { length places.now ≤ 64 }
+{
+    let mut signs = [0; 64];
+    for (i, place) in places.iter().enumerate() {
+        signs[i] = sign(*place);
+    }
+    f.write_str(bench_text::within::ascii(&signs[..places.len()]))
 }
 
 impl Played {

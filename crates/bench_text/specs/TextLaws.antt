@@ -1,11 +1,13 @@
 -- Laws of text. Assumes nothing.
-use Rattle.std.specs.Prelude.{◌≡◌, refl, Bool, true, false, cond, List, [], ◌∷◌, ◌++◌, ℕ, zero, suc, ◌+◌, ◌-◌, ◌/◌, ◌≤◌, ◌<◌, min, length, take, get_or, ltb, leb}
-use Rattle.std.proofs.Common.{sym, ap, ◌∙◌, append_assoc, append-nil, add-one, add_assoc, arith, length-append, length-take, take_all, take-suc, length-take-le, lt-ltb, le-ltb, ltb-false, leb-true, leb-false}
+use Rattle.std.specs.Prelude.{◌≡◌, refl, Bool, true, false, cond, List, [], ◌∷◌, ◌++◌, ℕ, zero, suc, ◌+◌, ◌-◌, ◌*◌, ◌/◌, ◌%◌, ◌^◌, ◌≤◌, ◌<◌, min, length, take, set, get_or, ltb, leb, eqb, IsAscii}
+use Rattle.std.proofs.Common.{sym, ap, ◌∙◌, append_assoc, append-nil, add-one, add_assoc, arith, length-append, length-set, length-take, take_all, take-suc, length-take-le, lt-ltb, le-ltb, ltb-false, leb-true, leb-false}
 use Rattle.std.proofs.Math.Seq.{take-nil, take-append-add}
-use Rattle.std.proofs.lemmas.List.{take-append-le}
+use Rattle.std.proofs.lemmas.List.{take-append-le, take_more_set}
+use Rattle.std.proofs.lemmas.Fmt.{decimal_by_steps}
+use Rattle.std.specs.Fmt.{decimal}
 use Rattle.rows.specs.Rows.{overlay}
 use Rattle.rows.proofs.RowLaws.{length_overlay, overlay_nil, overlay_next}
-use Rattle.bench_text.specs.Text.{fit, Wrote, hex_byte, hex_digits, hex_text, bit_char, bits_text, row_text, last_digit, digits, decimal_text}
+use Rattle.bench_text.specs.Text.{fit, Wrote, hex_char, hex_byte, hex_digits, hex_text, bit_char, bits_text, row_text, last_digit, digits, decimal_text}
 
 -- ---- writing
 
@@ -162,6 +164,72 @@ unfolding row_text
 row_none [] e = refl
 row_none (x ∷ r) e = absurd (omega arith)
 
+-- ---- what is printed
+
+-- the digits of one byte more, and one bit more, set into a text that is long enough
+pub hex_set : (t l : List ℕ) (i high low : ℕ) → take (2 * i) t ≡ hex_digits (take i l)
+    → i < length l → 2 * i + 1 < length t
+    → high ≡ hex_char (get_or l i 0 / 16) → low ≡ hex_char (get_or l i 0 % 16)
+    → take (2 * (i + 1)) (set (set t (2 * i) high) (2 * i + 1) low) ≡ hex_digits (take (i + 1) l)
+hex_set t l i high low e h k p q =
+    let n : 2 * (i + 1) ≡ 2 * i + 1 + 1 = omega arith in
+    let one = take_more_set t (2 * i) high (omega arith) in
+    let two = take_more_set (set t (2 * i) high) (2 * i + 1) low (omega (arith, length-set t (2 * i) high)) in
+    rw (n, two, one, append_assoc, e, p, q) (hex_next l i h)
+
+pub bits_set : (t r : List ℕ) (i b : ℕ) → take i t ≡ bits_text (take i r) → i < length r → i < length t
+    → b ≡ bit_char (get_or r i 0) → take (i + 1) (set t i b) ≡ bits_text (take (i + 1) r)
+bits_set t r i b e h k p = rw (take_more_set t i b k, e, p) (bits_next r i h)
+
+hex_append : (k l : List ℕ) → hex_digits (k ++ l) ≡ hex_digits k ++ hex_digits l
+unfolding hex_digits
+hex_append [] l = refl
+hex_append (b ∷ k) l = rw (hex_append k l) refl
+
+bits_append : (r s : List ℕ) → bits_text (r ++ s) ≡ bits_text r ++ bits_text s
+unfolding bits_text
+bits_append [] s = refl
+bits_append (x ∷ r) s = rw (bits_append r s) refl
+
+-- a piece and what follows it
+pub hex_piece : (all piece rest : List ℕ) → all ≡ piece ++ rest
+    → hex_digits piece ++ hex_digits rest ≡ hex_digits all
+hex_piece all piece rest e = rw e (sym (hex_append piece rest))
+
+pub bits_piece : (all piece rest : List ℕ) → all ≡ piece ++ rest
+    → bits_text piece ++ bits_text rest ≡ bits_text all
+bits_piece all piece rest e = rw e (sym (bits_append piece rest))
+
+hex_char_ascii : (d : ℕ) → d < 16 → hex_char d < 128
+unfolding hex_char
+hex_char_ascii d h = go (ltb d 10)
+  where
+    go : (b : Bool) → cond b (48 + d) (55 + d) < 128
+    go true = omega arith
+    go false = omega arith
+
+bit_char_ascii : (x : ℕ) → bit_char x < 128
+unfolding bit_char
+bit_char_ascii x = go (eqb x 0) (eqb x 1)
+  where
+    go : (b c : Bool) → cond b 48 (cond c 49 120) < 128
+    go true c = omega arith
+    go false true = omega arith
+    go false false = omega arith
+
+pub hex_ascii : (l : List ℕ) → ((i : ℕ) → get_or l i 0 < 256) → IsAscii (hex_digits l)
+unfolding hex_digits
+hex_ascii [] h i = omega arith
+hex_ascii (b ∷ l) h zero = hex_char_ascii (b / 16) (omega (arith, h 0))
+hex_ascii (b ∷ l) h (suc zero) = hex_char_ascii (b % 16) (omega arith)
+hex_ascii (b ∷ l) h (suc (suc i)) = hex_ascii l (λ j. h (suc j)) i
+
+pub bits_ascii : (r : List ℕ) → IsAscii (bits_text r)
+unfolding bits_text
+bits_ascii [] i = omega arith
+bits_ascii (x ∷ r) zero = bit_char_ascii x
+bits_ascii (x ∷ r) (suc i) = bits_ascii r i
+
 -- ---- numbers
 
 -- a number's digits do not depend on how many may come
@@ -196,3 +264,13 @@ decimal_more n h = step (n - 1) (omega arith)
     step f e =
         ap (λ (k : ℕ). digits k n) e
         ∙ rw (le-ltb n 10 h) (ap (λ (l : List ℕ). l ++ last_digit n) (digits_enough f (n / 10) (n / 10) (omega arith) (omega arith)))
+
+-- `decimal n` is what `{}` prints of an unsigned number below 2 ^ 64: it is the number's text here
+pub decimal_shown : (n : ℕ) → n < 2 ^ 64 → decimal n ≡ decimal_text n
+decimal_shown = decimal_by_steps (λ n s. s ≡ decimal_text n) one more
+  where
+    one : (n : ℕ) → n < 10 → (48 + n) ∷ [] ≡ decimal_text n
+    one n h = let e : n % 10 ≡ n = omega arith in rw (decimal_small n h, e) refl
+
+    more : (n : ℕ) (s : List ℕ) → 10 ≤ n → s ≡ decimal_text (n / 10) → s ++ ((48 + n % 10) ∷ []) ≡ decimal_text n
+    more n s h e = rw (decimal_more n h, e) refl

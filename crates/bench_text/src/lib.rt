@@ -2,7 +2,9 @@
 // index behind it, so that the next text goes there. What does not fit is cut off.
 #![tactic(auto)]
 
-ghost use Rattle.bench_text.specs.Text.{Wrote, hex_text, bits_text, row_text, decimal_text};
+ghost use Rattle.std.specs.Prelude.{◌≤◌, length, Some};
+ghost use Rattle.std.specs.Fmt.{WritesOnOk};
+ghost use Rattle.bench_text.specs.Text.{Wrote, hex_digits, hex_text, bits_text, row_text, decimal_text};
 
 // Functions with conditions on what they are called with, and parts. Only the crates of this repository call them.
 pub mod within;
@@ -14,12 +16,14 @@ use std::fmt;
 pub struct Hex<'a>(pub &'a [u8]);
 
 impl fmt::Display for Hex<'_> {
+    ghost output = { λ h. Some (hex_text h.0.now) };
+
     fn fmt<W: fmt::Write>(&self, f: &mut fmt::Formatter<W>) -> fmt::Result {
         if self.0.is_empty() {
             return f.write_str("-");
         }
-        for byte in self.0 {
-            write!(f, "{byte:02X}")?;
+        for piece in self.0.chunks(32) {
+            write_hex(f, piece)?;
         }
         Ok(())
     }
@@ -30,19 +34,46 @@ impl fmt::Display for Hex<'_> {
 pub struct Row<'a>(pub &'a [u8]);
 
 impl fmt::Display for Row<'_> {
+    ghost output = { λ r. Some (row_text r.0.now) };
+
     fn fmt<W: fmt::Write>(&self, f: &mut fmt::Formatter<W>) -> fmt::Result {
         if self.0.is_empty() {
             return f.write_str("-");
         }
-        for bit in self.0 {
-            f.write_char(char::from(within::bit_char(*bit)))?;
+        for piece in self.0.chunks(64) {
+            write_bits(f, piece)?;
         }
         Ok(())
     }
 }
 
+// A piece of bytes in one write: a write for each digit costs several times as much.
+fn write_hex<W: fmt::Write>(f: &mut fmt::Formatter<W>, bytes: &[u8]) -> fmt::Result
+    requires { length bytes.now ≤ 32 }
+    ensures { WritesOnOk W.write_str_gives f.old result (hex_digits bytes.now) f.new }
+{
+    let mut text = [0; 64];
+    for (i, byte) in bytes.iter().enumerate() {
+        text[2 * i] = within::hex_char(*byte / 16);
+        text[2 * i + 1] = within::hex_char(*byte % 16);
+    }
+    f.write_str(within::ascii(&text[..2 * bytes.len()]))
+}
+
+// A piece of a row in one write.
+fn write_bits<W: fmt::Write>(f: &mut fmt::Formatter<W>, row: &[u8]) -> fmt::Result
+    requires { length row.now ≤ 64 }
+    ensures { WritesOnOk W.write_str_gives f.old result (bits_text row.now) f.new }
+{
+    let mut text = [0; 64];
+    for (i, bit) in row.iter().enumerate() {
+        text[i] = within::bit_char(*bit);
+    }
+    f.write_str(within::ascii(&text[..row.len()]))
+}
+
 // The given text.
-// Kept: the lent bytes and the place in them: the clause Wrote speaks of both, and docs/RULES.md names the calls.
+// Kept: the lent bytes and the place in them: the clause Wrote speaks of both, and docs/PROMISES.md names the calls.
 pub fn put(out: &mut [u8], at: usize, text: &[u8]) -> usize
     ensures { Wrote out.old at text.now result out.new }
 {

@@ -1,8 +1,9 @@
 // The parts that the public functions are made of.
-ghost use Rattle.std.specs.Prelude.{◌≡◌, min, ◌<◌};
+ghost use Rattle.std.specs.Prelude.{◌≡◌, min, ◌<◌, IsAscii};
 ghost use Rattle.bench_text.specs.Text.{Wrote, hex_char, hex_byte, bit_char, last_digit};
 
 use crate::put;
+use std::str;
 
 pub fn least(a: usize, b: usize) -> usize
     ensures { result ≡ min a b }
@@ -40,4 +41,15 @@ pub fn put_last_digit(out: &mut [u8], at: usize, n: usize) -> usize
     ensures { Wrote out.old at (last_digit n) result out.new }
 {
     put(out, at, &[48 + (n % 10) as u8])
+}
+
+// ASCII bytes as text.
+pub fn ascii(bytes: &[u8]) -> &str
+    requires { IsAscii bytes.now }
+    ensures { result.now ≡ bytes.now }
+{
+    let Ok(text) = str::from_utf8(bytes) else {
+        unreachable!();
+    };
+    text
 }
