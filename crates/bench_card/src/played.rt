@@ -68,7 +68,7 @@ impl Played {
         index: &[u8],
     ) -> Result<String, LineError> {
         let words = card_words(alloc, uid, sak, index)?;
-        match whole::new_card(words.uid.as_slice(), words.blocks, words.index) {
+        match whole::new_card(words.uid_bytes(), words.blocks, words.index) {
             Ok(card) => self.now(alloc, card),
             Err(refusal) => Ok(format!(in alloc; "{}", Refused(refusal))?),
         }

@@ -67,7 +67,7 @@ pub fn card_line(alloc: Global, words: &[&[u8]]) -> Result<Result<Card, Refusal>
         [sak, index] => bench_lines::card_words(alloc, uid, sak, index)?,
         _ => return Err(LineError::NotUnderstood),
     };
-    let card = card::new_card(words.uid.as_slice(), words.blocks, words.index);
+    let card = card::new_card(words.uid_bytes(), words.blocks, words.index);
     Ok(card.map(|card| Card { state, ..card }))
 }
 

@@ -2,7 +2,7 @@
 // refusal.
 #![tactic(auto)]
 
-ghost use Rattle.std.specs.Prelude.{◌≡◌, ◌≤◌, IfOk, Some, length};
+ghost use Rattle.std.specs.Prelude.{◌≡◌, ◌≤◌, IfOk, Some, length, take};
 ghost use Rattle.bench_values.specs.Values.{number_word};
 
 use bench_talk::LineError;
@@ -10,12 +10,22 @@ use refusal::Refusal;
 use std::alloc::Global;
 use std::fmt;
 
-// A card's words: its UID, whether it speaks blocks, and its size index.
-#[derive(Drop)]
+// A card's words: its UID, so many bytes at the front, whether it speaks blocks, and its size index.
+#[derive(Clone, Copy)]
 pub struct CardWords {
-    pub uid: Vec<u8>,
+    pub uid: [u8; 10],
+    pub length: usize,
     pub blocks: bool,
     pub index: u8,
+}
+
+impl CardWords {
+    // The bytes of the UID.
+    pub fn uid_bytes(&self) -> &[u8]
+        ensures { result.now ≡ take self.now.length self.now.uid }
+    {
+        bench::front(&self.uid, self.length)
+    }
 }
 
 // `refused N`; where the parity broke `refused 3 B`, with the byte's index.
@@ -100,8 +110,14 @@ pub fn card_words(
     sak: &[u8],
     index: &[u8],
 ) -> Result<CardWords, LineError> {
+    let word = uid_word(alloc, uid)?;
+    let mut uid = [0u8; 10];
+    for (byte, x) in uid.iter_mut().zip(word.as_slice()) {
+        *byte = *x;
+    }
     Ok(CardWords {
-        uid: uid_word(alloc, uid)?,
+        uid,
+        length: word.len(),
         blocks: match sak {
             b"00" => false,
             b"20" => true,

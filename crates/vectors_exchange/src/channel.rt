@@ -33,7 +33,7 @@ impl Channel {
     ) -> Result<String, LineError> {
         let own = bench_lines::small_number(own)?;
         let words = bench_lines::card_words(alloc, uid, b"20", index)?;
-        match card_link::whole::new_card(words.uid.as_slice(), words.blocks, words.index) {
+        match card_link::whole::new_card(words.uid_bytes(), words.blocks, words.index) {
             Ok(card) => self.open(alloc, card, own),
             Err(refusal) => Ok(format!(in alloc; "{}", Refused(refusal))?),
         }
