@@ -32,7 +32,7 @@ impl fmt::Display for Woken {
             _ => {
                 let uid = &self.reader.uid;
                 let bytes = Hex(bench::front(&uid.bytes, uid::byte_count(uid.size)));
-                write!(f, "selected {bytes} {:02X}", self.reader.sak)?;
+                write!(f, "selected {bytes} {}", Hex(&[self.reader.sak]))?;
                 write!(f, "\nframes {}", self.frames)?;
             }
         }

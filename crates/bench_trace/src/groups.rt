@@ -1,5 +1,5 @@
 // A row for people: groups, each behind a space.
-use bench_text::Row;
+use bench_text::{Hex, Row};
 use std::fmt;
 
 // A reader's frame: the byte of a short one, or whole bytes with parity and then left-over bits.
@@ -20,7 +20,7 @@ struct Groups<'a>(&'a [u8]);
 impl fmt::Display for Sent<'_> {
     fn fmt<W: fmt::Write>(&self, f: &mut fmt::Formatter<W>) -> fmt::Result {
         if self.0.len() == 7 {
-            write!(f, " {:02X}", value(self.0))
+            write!(f, " {}", Hex(&[value(self.0)]))
         } else {
             write!(f, "{}", Groups(self.0))
         }
@@ -49,7 +49,7 @@ impl fmt::Display for Groups<'_> {
         for byte in bytes {
             let bits = &byte[..8];
             if rows::is_clean(bits) {
-                write!(f, " {:02X}", value(bits))?;
+                write!(f, " {}", Hex(&[value(bits)]))?;
             } else {
                 write!(f, " {}", Row(bits))?;
             }

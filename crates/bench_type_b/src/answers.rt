@@ -50,7 +50,7 @@ impl fmt::Display for Octets<'_> {
                 .iter()
                 .rev()
                 .fold(0u8, |byte, bit| byte << 1 | bit % 2);
-            write!(f, "{byte:02X}")?;
+            write!(f, "{}", Hex(&[byte]))?;
         }
         Ok(())
     }

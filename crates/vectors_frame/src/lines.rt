@@ -53,7 +53,7 @@ fn received<R: Fn(&[u8], &mut [u8]) -> Result<usize, Refusal>>(
 fn received_short(alloc: Global, row: &[u8]) -> Result<String, LineError> {
     let row = bench_lines::bits(alloc, row, MOST_BITS)?;
     match frame::read_short(row.as_slice()) {
-        Ok(byte) => Ok(format!(in alloc; "short {byte:02X}")?),
+        Ok(byte) => Ok(format!(in alloc; "short {}", Hex(&[byte]))?),
         Err(refusal) => refused(alloc, refusal),
     }
 }
@@ -104,7 +104,7 @@ fn crc_a(alloc: Global, bytes: &[u8]) -> Result<String, LineError> {
 fn check(alloc: Global, bytes: &[u8]) -> Result<String, LineError> {
     let bytes = bench_lines::bytes(alloc, bytes, MOST_BYTES)?;
     let b = bytes.iter().fold(0, |x, byte| x ^ byte);
-    Ok(format!(in alloc; "b {b:02X}")?)
+    Ok(format!(in alloc; "b {}", Hex(&[b]))?)
 }
 
 // A UID: `levels N`, three rows of five bytes, and `row ROW`, the on-air row.

@@ -21,7 +21,7 @@ impl fmt::Display for Found {
     fn fmt<W: fmt::Write>(&self, f: &mut fmt::Formatter<W>) -> fmt::Result {
         let uid = self.0.uid;
         let bytes = bench::front(&uid.bytes, uid::byte_count(uid.size));
-        write!(f, "{} {:02X}", Hex(bytes), self.0.sak)
+        write!(f, "{} {}", Hex(bytes), Hex(&[self.0.sak]))
     }
 }
 
